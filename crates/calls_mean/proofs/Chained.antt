@@ -34,10 +34,7 @@ use Rattle.calls_mean.proofs.Ended.{Closed, closed_so, status_so, saved_so}
 -- a session that does not go on has another status
 pub not_resumed_ends : (name : List ℕ) (files : Device FileMap) (status : ℕ) → IsNotResumed name files status → has_ended status ≡ true → ⊥
 not_resumed_ends name files _ (resuming.absent lacks) ended = cc
-not_resumed_ends name files _ (resuming.unread rose kept) ended = cc
-not_resumed_ends name files _ (resuming.no_prelude bad) ended = cc
-not_resumed_ends name files _ (resuming.no_session content has bare) ended = cc
-not_resumed_ends name files _ resuming.no_memory ended = cc
+not_resumed_ends name files _ _ ended = cc
 
 record WentOn (builds : Builds Body) (prelude : Prototype) (budget : ℕ) (save : Option (List ℕ)) (files : Device FileMap) (image text printed : List ℕ) (status : ℕ) : Type 0 where
   session : World

@@ -51,10 +51,7 @@ closed_so prelude Runs save files input out last status text before printed (ses
 -- the status of such a run is that of its close
 pub status_so : (prelude : Prototype) (run : Run) (save : Option (List ℕ)) (files : Device FileMap) (status : ℕ) → IsLeft prelude run save files status → has_ended status ≡ true → status ≡ status_of_close run.close
 status_so prelude run save files _ (session.kept kept) ended = refl
-status_so prelude run save files _ (session.too_large named waits large) ended = absurd (cc)
-status_so prelude run save files _ (session.changed named waits other) ended = absurd (cc)
-status_so prelude run save files _ (session.unwritten named waits rose) ended = absurd (cc)
-status_so prelude run save files _ (session.no_memory named waits) ended = absurd (cc)
+status_so prelude run save files _ _ ended = absurd (cc)
 
 -- where it is 3 and a file is named, that file holds the bytes of the session
 

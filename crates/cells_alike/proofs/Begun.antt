@@ -69,27 +69,17 @@ thread_of (failed e pending) = has_failed e pending
 
 no_layers : (c : Coroutine State) → layers_in (thread_of c) ≡ []
 no_layers (fresh body) = refl
-no_layers (suspended frames) = refl
-no_layers running = refl
-no_layers (normal frames) = refl
-no_layers dead = refl
-no_layers (failed e pending) = refl
+no_layers _ = refl
 
 thread_one : (c : Coroutine State) → frames_in (Some c) ≡ [] → coroutine_one (thread_of c) ≡ c
-thread_one (fresh body) e = refl
 thread_one (suspended frames) e = ap suspended (sym e)
-thread_one running e = refl
 thread_one (normal frames) e = ap normal (sym e)
-thread_one dead e = refl
-thread_one (failed error pending) e = refl
+thread_one _ e = refl
 
 thread_two : (c : Coroutine State) → frames_in (Some c) ≡ [] → coroutine_two (thread_of c) ≡ c
-thread_two (fresh body) e = refl
 thread_two (suspended frames) e = ap suspended (sym e)
-thread_two running e = refl
 thread_two (normal frames) e = ap normal (sym e)
-thread_two dead e = refl
-thread_two (failed error pending) e = refl
+thread_two _ e = refl
 
 threads_one : (cs : List (Coroutine State)) → ((n : ℕ) (c : Coroutine State) → slice_get cs n ≡ Some c → frames_in (Some c) ≡ []) → map coroutine_one (map thread_of cs) ≡ cs
 threads_one [] none = refl

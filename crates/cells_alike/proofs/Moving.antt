@@ -15,7 +15,7 @@ use Rattle.lua_meaning.specs.Calls.{truth, frames_in, back_to, leaves_coroutine,
 use Rattle.lua_meaning.specs.TreeMeaning.{trees}
 use Rattle.meaning_cells.specs.Alike.{Cells, AreEven, as_stored}
 use Rattle.meaning_cells.proofs.Relation.{Rel, same, early}
-use Rattle.cells_alike.proofs.Joint.{Made, Waiting, Place, asker_one, asker_two, cells_for, WaitsAt, LayerAt, Layer, is_talking, is_waiting, is_raising, is_protected, is_handled, is_handling, is_closing, Thread, is_fresh, is_suspended, is_running, is_normal, is_dead, has_failed, Joint, function_one, function_two, frame_one, frame_two, coroutine_one, coroutine_two, one, two, Store, LayersAt, layers_in, head, Base, Stable, Quiet, quiet, stopped, Both}
+use Rattle.cells_alike.proofs.Joint.{Made, Waiting, Place, asker_one, asker_two, cells_for, WaitsAt, LayerAt, Layer, is_talking, is_waiting, is_raising, Thread, is_suspended, is_running, is_dead, has_failed, Joint, function_one, function_two, frame_one, frame_two, coroutine_one, coroutine_two, one, two, Store, LayersAt, layers_in, head, Base, Stable, Quiet, quiet, stopped, Both}
 
 -- lists
 
@@ -64,13 +64,9 @@ asker_place fs n line =
     by (Some f) = refl
 
 position_same : (J : Joint) (f : Layer) → position_of (one J) (frame_one f) ≡ position_of (two J) (frame_two f)
-position_same J (is_talking f s t) = refl
 position_same J (is_waiting w) = asker_place J.functions w.function w.line
 position_same J (is_raising w) = asker_place J.functions w.function w.line
-position_same J is_protected = refl
-position_same J (is_handled h) = refl
-position_same J is_handling = refl
-position_same J (is_closing e vs) = refl
+position_same J _ = refl
 
 positions_same : (J : Joint) (frames : List Layer) → positions_of (one J) (map frame_one frames) ≡ positions_of (two J) (map frame_two frames)
 positions_same J [] = refl
@@ -115,10 +111,7 @@ layer_pending : (J : Joint) (p : Place) (f : Layer) → AreEven (cells_for J.sto
 layer_pending J p (is_talking f s t) even l = absurd l
 layer_pending J p (is_waiting w) even l = asker_pending J p w even l
 layer_pending J p (is_raising w) even l = asker_pending J p w even l
-layer_pending J p is_protected even l = refl
-layer_pending J p (is_handled h) even l = refl
-layer_pending J p is_handling even l = refl
-layer_pending J p (is_closing e vs) even l = refl
+layer_pending J p _ even l = refl
 
 pub pending_same : (J : Joint) (co : ℕ) (frames : List Layer) → AreEven (cells_for J.store []) → LayersAt J.store co frames
     → all_pending (trees when_declared) (one J) (map frame_one frames) ≡ all_pending (trees when_captured) (two J) (map frame_two frames)
@@ -165,22 +158,12 @@ layers_of None = []
 layers_of (Some c) = layers_in c
 
 frames_one : (o : Option Thread) → frames_in (option_map coroutine_one o) ≡ map frame_one (layers_of o)
-frames_one None = refl
-frames_one (Some (is_fresh body)) = refl
-frames_one (Some (is_suspended frames)) = refl
-frames_one (Some is_running) = refl
-frames_one (Some (is_normal frames)) = refl
-frames_one (Some is_dead) = refl
 frames_one (Some (has_failed e pending)) = refl
+frames_one _ = refl
 
 frames_two : (o : Option Thread) → frames_in (option_map coroutine_two o) ≡ map frame_two (layers_of o)
-frames_two None = refl
-frames_two (Some (is_fresh body)) = refl
-frames_two (Some (is_suspended frames)) = refl
-frames_two (Some is_running) = refl
-frames_two (Some (is_normal frames)) = refl
-frames_two (Some is_dead) = refl
 frames_two (Some (has_failed e pending)) = refl
+frames_two _ = refl
 
 layers_there : (S : Store) (cs : List Thread) (co : ℕ) → ((n : ℕ) (c : Thread) → slice_get cs n ≡ Some c → LayersAt S n (layers_in c)) → LayersAt S co (layers_of (slice_get cs co))
 layers_there S cs co all = by (slice_get cs co) refl where

@@ -24,7 +24,7 @@ use Rattle.meaning_cells.specs.Alike.{Member, Pairs, Cells, AreEven, Onward, Ans
 use Rattle.meaning_cells.proofs.Relation.{Rel, same, early, steps_behind}
 use Rattle.meaning_cells.proofs.Lists.{in_size}
 use Rattle.meaning_cells.proofs.Steps.{Behind, early_like, same_like}
-use Rattle.cells_alike.proofs.Joint.{Made, Waiting, Layer, is_talking, is_waiting, is_raising, is_protected, is_handled, is_handling, is_closing, Thread, is_fresh, is_suspended, is_running, is_normal, is_dead, has_failed, Joint, function_one, function_two, frame_one, frame_two, coroutine_one, coroutine_two, one, two, cells_for, OwnedAt, LayersAt, layers_in, head, Quiet, TalksIn, talking_in, Stands, quiet, stopped, busy, Both}
+use Rattle.cells_alike.proofs.Joint.{Made, Waiting, Layer, is_talking, is_waiting, is_raising, is_protected, is_handled, is_handling, is_closing, Thread, is_fresh, Joint, function_one, function_two, frame_one, frame_two, coroutine_one, coroutine_two, one, two, cells_for, OwnedAt, LayersAt, layers_in, head, Quiet, TalksIn, talking_in, Stands, quiet, stopped, busy, Both}
 use Rattle.cells_alike.proofs.Moving.{more_map, get_more, where_same, either_by, stay_both, now_both, breaks_both, raises_both, yields_both}
 use Rattle.cells_alike.proofs.Answering.{first_form, second_form, calls_over_both, handed_both, raised_both, unwound_both, resumes_both, closes_both}
 use Rattle.cells_alike.proofs.Storing.{IsOther, cells_with, layers_pass, place_below, base_pass, flushed, flush_pass, rel_cells, opened_early, opened_late, opened_both, owned_more, early_pass, late_pass, both_pass}
@@ -90,11 +90,7 @@ with_both J f (object a_function m) F G q more = raises_both J (wrong_type 1 f (
 
 status_same : (c : Thread) → status_of (coroutine_one c) ≡ status_of (coroutine_two c)
 status_same (is_fresh body) = refl
-status_same (is_suspended frames) = refl
-status_same is_running = refl
-status_same (is_normal frames) = refl
-status_same is_dead = refl
-status_same (has_failed e pending) = refl
+status_same _ = refl
 
 runs_one_both : (J : Joint) (chain : List ℕ) → Quiet J → Both (runs_one (one J) chain) (runs_one (two J) chain)
 runs_one_both J [] q = breaks_both J

@@ -15,7 +15,7 @@ use Rattle.machine_sound.proofs.Lists.{get_within}
 use Rattle.image_core.proofs.Lists.{chosen_get}
 use Rattle.machine_core.specs.World.{Function, Coroutine, World}
 use Rattle.machine_sound.specs.Sound.{Each, Sizes, sizes, Valid, Solid}
-use Rattle.image_core.specs.Image.{PermKey, Perm, Item, plain, numbered, permanent, environment, Image, Record, table_record, function_record, closed_record, open_record, fresh_record, suspended_record, dead_record, failed_record, no_record}
+use Rattle.image_core.specs.Image.{PermKey, Perm, Item, plain, numbered, permanent, environment, Image, Record, table_record, function_record, fresh_record, suspended_record, dead_record, failed_record}
 use Rattle.image_core.specs.Loading.{Target, kind_in, is_of, rank, new_number, numbered_value, value_made, table_made, function_made, coroutine_made, chosen, loaded}
 use Rattle.image_bytes.specs.Bytes.{Reader, is_sort, sort_at, sort_byte, with_sorts, read_image}
 use Rattle.image_bytes.specs.Format.{read}
@@ -94,14 +94,9 @@ valid_named z (p ∷ ps) key h = by (same_key p.key key) (h 0 p refl) (valid_nam
     by false v w = w
 
 function_sort : (v : Value) → is_sort a_function (sort_of_object v) ≡ true → IsTrue (is_function v)
-function_sort (known nil) h = absurd (cc)
-function_sort (known (boolean b)) h = absurd (cc)
-function_sort (known (integer n)) h = absurd (cc)
-function_sort (known (string s)) h = absurd (cc)
 function_sort (known (primitive n)) h = refl
-function_sort (object a_table n) h = absurd (cc)
 function_sort (object a_function n) h = refl
-function_sort (object a_coroutine n) h = absurd (cc)
+function_sort _ h = absurd (cc)
 
 map_some : {A B : Type 0} (f : A → B) (o : Option A) (y : B) → option_map f o ≡ Some y → (x : A) × (o ≡ Some x) × (f x ≡ y)
 map_some f None y h = absurd (cc)
@@ -131,102 +126,48 @@ sound_image primitives V perms I roots met bytes there e =
 module _ (T : Target) (rs : List Record) where
   yes_table : (r : Record) (t : Table) → table_made T rs r ≡ Some t → is_of a_table r ≡ true
   yes_table (table_record rows m) t e = refl
-  yes_table (function_record code cells) t e = absurd (cc)
-  yes_table (closed_record i) t e = absurd (cc)
-  yes_table (open_record co frame register) t e = absurd (cc)
-  yes_table (fresh_record i) t e = absurd (cc)
-  yes_table (suspended_record frames) t e = absurd (cc)
-  yes_table dead_record t e = absurd (cc)
-  yes_table (failed_record i is) t e = absurd (cc)
-  yes_table no_record t e = absurd (cc)
+  yes_table _ t e = absurd (cc)
 
   no_table : (r : Record) → table_made T rs r ≡ None → is_of a_table r ≡ false
   no_table (table_record rows m) e = absurd (cc)
-  no_table (function_record code cells) e = refl
-  no_table (closed_record i) e = refl
-  no_table (open_record co frame register) e = refl
-  no_table (fresh_record i) e = refl
-  no_table (suspended_record frames) e = refl
-  no_table dead_record e = refl
-  no_table (failed_record i is) e = refl
-  no_table no_record e = refl
+  no_table _ e = refl
 
   yes_function : (r : Record) (t : Function) → function_made T rs r ≡ Some t → is_of a_function r ≡ true
-  yes_function (table_record rows m) t e = absurd (cc)
   yes_function (function_record code cells) t e = refl
-  yes_function (closed_record i) t e = absurd (cc)
-  yes_function (open_record co frame register) t e = absurd (cc)
-  yes_function (fresh_record i) t e = absurd (cc)
-  yes_function (suspended_record frames) t e = absurd (cc)
-  yes_function dead_record t e = absurd (cc)
-  yes_function (failed_record i is) t e = absurd (cc)
-  yes_function no_record t e = absurd (cc)
+  yes_function _ t e = absurd (cc)
 
   no_function : (r : Record) → function_made T rs r ≡ None → is_of a_function r ≡ false
-  no_function (table_record rows m) e = refl
   no_function (function_record code cells) e = absurd (cc)
-  no_function (closed_record i) e = refl
-  no_function (open_record co frame register) e = refl
-  no_function (fresh_record i) e = refl
-  no_function (suspended_record frames) e = refl
-  no_function dead_record e = refl
-  no_function (failed_record i is) e = refl
-  no_function no_record e = refl
+  no_function _ e = refl
 
   yes_coroutine : (r : Record) (t : Coroutine) → coroutine_made T rs r ≡ Some t → is_of a_coroutine r ≡ true
-  yes_coroutine (table_record rows m) t e = absurd (cc)
-  yes_coroutine (function_record code cells) t e = absurd (cc)
-  yes_coroutine (closed_record i) t e = absurd (cc)
-  yes_coroutine (open_record co frame register) t e = absurd (cc)
   yes_coroutine (fresh_record i) t e = refl
   yes_coroutine (suspended_record frames) t e = refl
   yes_coroutine dead_record t e = refl
   yes_coroutine (failed_record i is) t e = refl
-  yes_coroutine no_record t e = absurd (cc)
+  yes_coroutine _ t e = absurd (cc)
 
   no_coroutine : (r : Record) → coroutine_made T rs r ≡ None → is_of a_coroutine r ≡ false
-  no_coroutine (table_record rows m) e = refl
-  no_coroutine (function_record code cells) e = refl
-  no_coroutine (closed_record i) e = refl
-  no_coroutine (open_record co frame register) e = refl
   no_coroutine (fresh_record i) e = absurd (cc)
   no_coroutine (suspended_record frames) e = absurd (cc)
   no_coroutine dead_record e = absurd (cc)
   no_coroutine (failed_record i is) e = absurd (cc)
-  no_coroutine no_record e = refl
+  no_coroutine _ e = refl
 
   some_table : (r : Record) → kind_in r ≡ Some a_table → (t : Table) × (table_made T rs r ≡ Some t)
   some_table (table_record rows m) e = (_, refl)
-  some_table (function_record code cells) e = absurd (cc)
-  some_table (closed_record i) e = absurd (cc)
-  some_table (open_record co frame register) e = absurd (cc)
-  some_table (fresh_record i) e = absurd (cc)
-  some_table (suspended_record frames) e = absurd (cc)
-  some_table dead_record e = absurd (cc)
-  some_table (failed_record i is) e = absurd (cc)
-  some_table no_record e = absurd (cc)
+  some_table _ e = absurd (cc)
 
   some_function : (r : Record) → kind_in r ≡ Some a_function → (t : Function) × (function_made T rs r ≡ Some t)
-  some_function (table_record rows m) e = absurd (cc)
   some_function (function_record code cells) e = (_, refl)
-  some_function (closed_record i) e = absurd (cc)
-  some_function (open_record co frame register) e = absurd (cc)
-  some_function (fresh_record i) e = absurd (cc)
-  some_function (suspended_record frames) e = absurd (cc)
-  some_function dead_record e = absurd (cc)
-  some_function (failed_record i is) e = absurd (cc)
-  some_function no_record e = absurd (cc)
+  some_function _ e = absurd (cc)
 
   some_coroutine : (r : Record) → kind_in r ≡ Some a_coroutine → (t : Coroutine) × (coroutine_made T rs r ≡ Some t)
-  some_coroutine (table_record rows m) e = absurd (cc)
-  some_coroutine (function_record code cells) e = absurd (cc)
-  some_coroutine (closed_record i) e = absurd (cc)
-  some_coroutine (open_record co frame register) e = absurd (cc)
   some_coroutine (fresh_record i) e = (_, refl)
   some_coroutine (suspended_record frames) e = (_, refl)
   some_coroutine dead_record e = (_, refl)
   some_coroutine (failed_record i is) e = (_, refl)
-  some_coroutine no_record e = absurd (cc)
+  some_coroutine _ e = absurd (cc)
 
 module _ (primitives : ℕ) (V : World) (T : Target) (rs : List Record) (is : IsTarget T V) (solid : Solid primitives V) where
   new_there : (n : ℕ) (r : Record) (kind : Kind) → slice_get rs n ≡ Some r → kind_in r ≡ Some kind → Valid (sizes primitives (loaded T rs V)) (object kind (new_number T rs kind n))

@@ -2,7 +2,7 @@
 use Rattle.std.proofs.Common.{◌≡◌, ℕ, suc, List, [], ◌∷◌, Option, Some, None, map, refl, sym, ap, ◌∙◌}
 use Rattle.std.specs.Prelude.{flat_map, slice_get}
 use Rattle.int_core.specs.Value.{a_table, a_function, a_coroutine, Value, known, object}
-use Rattle.machine_core.specs.World.{Coroutine, fresh, suspended, in_progress, normal, dead, failed, World}
+use Rattle.machine_core.specs.World.{Coroutine, in_progress, normal, World}
 use Rattle.machine_sound.specs.Sound.{Each, sizes, Valid, Solid, apart, standing}
 use Rattle.image_core.specs.Visit.{IsMet, greatest_count}
 use Rattle.image_core.specs.Image.{Item}
@@ -30,12 +30,9 @@ module _ (W : World) (name : Value → Option Item) where
   Idle _ = Unit {0}
 
   idle_coroutine : (c : Coroutine) → active c ≡ None → standing c ≡ apart
-  idle_coroutine (fresh b) h = refl
-  idle_coroutine (suspended fs) h = refl
   idle_coroutine (in_progress fs) h = absurd (cc)
   idle_coroutine (normal fs) h = absurd (cc)
-  idle_coroutine dead h = refl
-  idle_coroutine (failed e vs) h = refl
+  idle_coroutine _ h = refl
 
   idle_at : (n : ℕ) → coroutine_refusal W n ≡ None → Idle (an_object a_coroutine n)
   idle_at n h c g = idle_coroutine c (sym (ap (if_found active) g) ∙ h)

@@ -4,8 +4,8 @@ use Rattle.std.specs.Prelude.{slice_get}
 use Rattle.std.specs.declared.vec.Vec.{Vec}
 use Rattle.std.specs.declared.alloc.Global.{Global}
 use Rattle.code_core.specs.Writable.{signed_fits}
-use Rattle.int_core.specs.Value.{nil, boolean, integer, string, primitive, a_table, a_function, a_coroutine, Value, known, object}
-use Rattle.machine_core.specs.World.{Coroutine, fresh, suspended, in_progress, normal, dead, failed, World}
+use Rattle.int_core.specs.Value.{integer, a_function, a_coroutine, Value, known, object}
+use Rattle.machine_core.specs.World.{Coroutine, fresh, World}
 use Rattle.machine_sound.specs.Sound.{Solid}
 use Rattle.machine_sound.proofs.Budgets.{solid_budget}
 use Rattle.table_core.specs.declared.value.Value.{Value as Kept}
@@ -41,11 +41,7 @@ use Rattle.eris_write.proofs.Imaged.{all_kept, first_by_fuel, fields_are, image_
 
 active_is : (c : Coroutine) → active c ≡ Some (refused EqualKeys) → ⊥
 active_is (fresh b) h = absurd (cc)
-active_is (suspended fs) h = absurd (cc)
-active_is (in_progress fs) h = absurd (cc)
-active_is (normal fs) h = absurd (cc)
-active_is dead h = absurd (cc)
-active_is (failed e vs) h = absurd (cc)
+active_is _ h = absurd (cc)
 
 coroutine_is : (W : World) (n : ℕ) → coroutine_refusal W n ≡ Some (refused EqualKeys) → ⊥
 coroutine_is W n h = go (slice_get W.coroutines n) h
@@ -63,14 +59,10 @@ beyond_or_not true h = absurd (cc)
 beyond_or_not false h = absurd (cc)
 
 unnamed_is : (W : World) (v : Value) → unnamed_refusal W v ≡ Some (refused EqualKeys) → ⊥
-unnamed_is W (known nil) h = absurd (cc)
-unnamed_is W (known (boolean b)) h = absurd (cc)
 unnamed_is W (known (integer n)) h = beyond_or_not (signed_fits 63 n) h
-unnamed_is W (known (string s)) h = absurd (cc)
-unnamed_is W (known (primitive n)) h = absurd (cc)
-unnamed_is W (object a_table n) h = absurd (cc)
 unnamed_is W (object a_function n) h = one_of_two _ h
 unnamed_is W (object a_coroutine n) h = coroutine_is W n h
+unnamed_is W _ h = absurd (cc)
 
 field_is : (W : World) (name : Value → Option Item) (f : Field) → field_refusal W name f ≡ Some (refused EqualKeys) → ⊥
 field_is W name (of_value v) h = go (name v) h

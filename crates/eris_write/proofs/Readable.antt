@@ -19,7 +19,7 @@ use Rattle.machine_sound.proofs.Lists.{get_map, get_there, some_is}
 use Rattle.machine_sound.proofs.Values.{le_of}
 use Rattle.image_sound.proofs.Savable.{open_cells_there}
 use Rattle.lua_stack.specs.declared.frame.Wait.{Wait as KeptWait}
-use Rattle.lua_stack.specs.declared.frame.Wait.TheVariants.{Running, ForCall, ForIterator, ForValue, ForTruth, Dropped, ForConcat, ForClose, Returning, Leaving}
+use Rattle.lua_stack.specs.declared.frame.Wait.TheVariants.{ForConcat, Leaving}
 use Rattle.lua_stack.specs.Frames.{KeptFrame, kept_lua, kept_pcall, kept_xpcall, kept_handler, kept_closing, wait_of, error_of, frame_of}
 use Rattle.lua_heap.specs.declared.world.Cell.{Cell as KeptCell}
 use Rattle.lua_heap.specs.declared.world.Cell.TheVariants.{Closed, Open}
@@ -38,14 +38,8 @@ use Rattle.eris_write.specs.Writing.{HasText, HaveTexts, IsReadable, IsWhole, Ro
 
 module _ (strings : StringsAreThere) (z : Sizes) (texts : List (List ℕ)) where
   has_text : (v : Kept) → Valid z (value texts v) → HasText texts v
-  has_text kept.Nil h = tt
-  has_text (kept.Bool b) h = tt
-  has_text (kept.Int n) h = tt
   has_text (kept.Str id) h = strings z texts id h
-  has_text (kept.Prim n) h = tt
-  has_text (kept.Table id) h = tt
-  has_text (kept.Func id) h = tt
-  has_text (kept.Coro id) h = tt
+  has_text _ h = tt
 
   have_texts : (vs : List Kept) → Each (Valid z) (map (value texts) vs) → HaveTexts texts vs
   have_texts vs h i v g = has_text v (h i (value texts v) (get_map (value texts) vs i v g))
@@ -58,16 +52,9 @@ module _ (strings : StringsAreThere) (z : Sizes) (texts : List (List ℕ)) where
   concat_small left op w h = absurd (cc)
 
   wait_stands : (wait : KeptWait) (op : Opcode) (w : Instruction) → WaitOk z (wait_of (value texts) wait) → IsTrue (waits_at (wait_of (value texts) wait) op w) → WaitStands texts wait
-  wait_stands Running op w h k = tt
-  wait_stands ForCall op w h k = tt
-  wait_stands ForIterator op w h k = tt
-  wait_stands ForValue op w h k = tt
-  wait_stands ForTruth op w h k = tt
-  wait_stands Dropped op w h k = tt
   wait_stands (ForConcat left) op w h k = concat_small left op w k
-  wait_stands ForClose op w h k = tt
-  wait_stands (Returning count) op w h k = tt
   wait_stands (Leaving error) op w h k = has_text error h
+  wait_stands _ op w h k = tt
 
   error_stands : (e : Option Kept) → OptionOk (Valid z) (error_of (value texts) e) → OptionOk (HasText texts) e
   error_stands None h = tt

@@ -1,7 +1,7 @@
 -- The bytes of the parts of an image, as they are written.
-use Rattle.std.proofs.Common.{◌≡◌, ℕ, List, [], ◌∷◌, ◌++◌, Option, Some, None, length, true, false, refl, sym, ap, ◌∙◌, append_assoc}
+use Rattle.std.proofs.Common.{◌≡◌, ℕ, List, [], ◌∷◌, ◌++◌, Option, Some, None, length, true, refl, sym, ap, ◌∙◌, append_assoc}
 use Rattle.byteorder.specs.Endian.{little_bytes}
-use Rattle.int_core.specs.Value.{nil, boolean, integer, string, primitive, Kind, a_table, a_function, a_coroutine, Value, known, object}
+use Rattle.int_core.specs.Value.{boolean, Kind, a_table, a_function, a_coroutine, Value, known}
 use Rattle.code_core.specs.Prototype.{Prototype}
 use Rattle.chunk_format.specs.Spelling as code
 use Rattle.machine_core.specs.World.{Wait}
@@ -10,7 +10,7 @@ use Rattle.image_core.specs.Records.{Naming, unnamed_item, wait_item}
 use Rattle.image_bytes.specs.Format.{Format, byte, word, integer_of, raw, nothing, wrong, followed, tested, case, tagged, when, times, list_by, list, spell_all}
 use Rattle.image_bytes.specs.Bytes.{Reader, text, key, reference, named_key, item_body, item_format, only, row_after, spell_rows, rows_format, table_format, blob, code_format, function_format, cell_format, plain_wait, wait_number, wait_rest, lua_format, error_format, frame_format, coroutine_format, record_format}
 use Rattle.lua_stack.specs.declared.frame.Wait.{Wait as KeptWait}
-use Rattle.lua_stack.specs.declared.frame.Wait.TheVariants.{Running, ForCall, ForIterator, ForValue, ForTruth, Dropped, ForConcat, ForClose, Returning, Leaving}
+use Rattle.lua_stack.specs.declared.frame.Wait.TheVariants.{Running}
 use Rattle.lua_stack.specs.Frames.{wait_of}
 use Rattle.graph_core.specs.declared.permanents.PermanentKey.{PermanentKey}
 use Rattle.graph_core.specs.declared.permanents.PermanentKey.TheVariants.{Number, Text}
@@ -37,13 +37,8 @@ key_spelled (Text t) = refl
 
 pub unnamed_spelled : (R : Reader) (N : Naming) (v : Value) → (item_format R).spell (unnamed_item N v) ≡ unnamed_bytes N v
 unfolding item_format item_body tagged byte when case nothing integer_of text followed tested word raw reference wrong
-unnamed_spelled R N (known nil) = refl
-unnamed_spelled R N (known (boolean false)) = refl
 unnamed_spelled R N (known (boolean true)) = refl
-unnamed_spelled R N (known (integer n)) = refl
-unnamed_spelled R N (known (string s)) = refl
-unnamed_spelled R N (known (primitive n)) = refl
-unnamed_spelled R N (object kind n) = refl
+unnamed_spelled R N _ = refl
 
 pub list_spelled : {A : Type 0} (F : Format A) (xs : List A) → (list F).spell xs ≡ little_bytes 4 (length xs) ++ spell_all F xs
 unfolding list list_by case followed word times
@@ -130,28 +125,12 @@ lua_spelled R function pc wait varargs registers pending = refl
 
 pub wait_number_is : (R : Reader) (w : Writer) (wait : KeptWait) → wait_number R (wait_item (naming_in w) (wait_of (read_in w) wait)) ≡ wait_byte wait
 wait_number_is R w Running = refl
-wait_number_is R w ForCall = refl
-wait_number_is R w ForIterator = refl
-wait_number_is R w ForValue = refl
-wait_number_is R w ForTruth = refl
-wait_number_is R w Dropped = refl
-wait_number_is R w (ForConcat left) = refl
-wait_number_is R w ForClose = refl
-wait_number_is R w (Returning count) = refl
-wait_number_is R w (Leaving error) = refl
+wait_number_is R w _ = refl
 
 pub wait_spelled : (R : Reader) (w : Writer) (wait : KeptWait) → (wait_rest R (wait_number R (wait_item (naming_in w) (wait_of (read_in w) wait)))).spell (wait_item (naming_in w) (wait_of (read_in w) wait)) ≡ wait_bytes w wait R
 unfolding wait_rest plain_wait when case nothing byte word wrong
 wait_spelled R w Running = refl
-wait_spelled R w ForCall = refl
-wait_spelled R w ForIterator = refl
-wait_spelled R w ForValue = refl
-wait_spelled R w ForTruth = refl
-wait_spelled R w Dropped = refl
-wait_spelled R w (ForConcat left) = refl
-wait_spelled R w ForClose = refl
-wait_spelled R w (Returning count) = refl
-wait_spelled R w (Leaving error) = refl
+wait_spelled R w _ = refl
 
 -- coroutines
 

@@ -1,7 +1,7 @@
 -- Each move leaves all functions as they are.
 use Rattle.std.proofs.Common.{ℕ, zero, suc, ◌≡◌, Bool, true, false, cond, List, [], ◌∷◌, ◌++◌, Option, Some, None, refl, subst, sym, ◌∙◌, ap, length, append_assoc, append-nil}
 use Rattle.std.specs.Prelude.{ℤ, slice_get, slice_set, drop, reverse, flat_map, ◌&&◌, nat_lt, codes}
-use Rattle.int_core.specs.Value.{nil, boolean, integer, string, primitive, a_table, a_function, a_coroutine, Kind, Plain, Value, known, object, Shape, bind, last, without_last, error_or_nil}
+use Rattle.int_core.specs.Value.{primitive, a_function, Kind, Plain, Value, known, object, Shape, bind, last, without_last, error_or_nil}
 use Rattle.int_core.specs.Heap.{add_table, filled_table}
 use Rattle.int_core.specs.Limits.{greatest_depth, greatest_resumes}
 use Rattle.int_core.specs.Operations.{Operation, Settled, found, ask, fault, cannot_arise, does, Callee, callee, not_callable, callee_of, greatest_chain, is_function}
@@ -10,7 +10,7 @@ use Rattle.code_core.specs.Prototype.{Prototype, list_of}
 use Rattle.code_core.specs.Check.{at}
 use Rattle.machine_core.specs.World.{Function, Cell, closed, open_at, Wait, leaving, Frame, lua, pcall, xpcall, handler, closing, Coroutine, fresh, suspended, in_progress, normal, dead, failed, World, Stack, stack_of, Place, place_of, put_frames, put_top, push, pop, read_cell, write_cell, find_open, with_frames, write_in_coroutine}
 use Rattle.machine_core.specs.Text.{Arg, arg, args_of, Own, close_cells, keep_pending, Quick, read_upvalue, write_upvalue, make_table, make_function, fill_table, pay, Given, given_values, fits, reads, tells}
-use Rattle.machine_core.specs.Moves.{Over, frame_over, Move, on_own, move_pc, open_register, outside, settle, enter, enter_tail, await, find_close, is_closable, begin_leaving, leave_frame, take_moving, look, give, give_with, blame, place_text, push_frame, call_value, see_top, see_catcher, pop_frame, take_closing, set_error, end_coroutine, fail_coroutine, suspend, resume, begin_closing, consult, create, see_status, see_running, print, make_loaded, Made, made, CallShape, not_paid, one_left, resumed, refused, runs_main, bytes_in, named, blamed, with_own, do_own, place_from, moved_pc, opened_cells, captured, made_function, own_cell, do_outside, new_frame, push_all, has_room, enters, enters_paid, called, popped, called_tail, top_now, catcher, next_closing, with_error, pending_values, put_coroutine, awake, back_to_resumer, bury, ends_as, suspend_running, wait_for_another, go_into, starts_in, can_start, resumes, closes_in, closes_coroutine, coroutine_number, add_coroutine, add_printed, add_loaded, environment_in, consulted, settled, move}
+use Rattle.machine_core.specs.Moves.{Over, frame_over, Move, on_own, move_pc, open_register, outside, settle, enter, enter_tail, await, begin_leaving, leave_frame, take_moving, give, give_with, blame, push_frame, call_value, see_top, see_catcher, pop_frame, take_closing, set_error, end_coroutine, fail_coroutine, suspend, resume, begin_closing, consult, create, see_status, see_running, print, make_loaded, Made, made, CallShape, not_paid, one_left, resumed, refused, runs_main, bytes_in, named, blamed, with_own, do_own, place_from, moved_pc, opened_cells, captured, made_function, own_cell, do_outside, new_frame, push_all, has_room, enters, enters_paid, called, popped, called_tail, top_now, catcher, next_closing, with_error, pending_values, put_coroutine, awake, back_to_resumer, bury, ends_as, suspend_running, wait_for_another, go_into, starts_in, can_start, resumes, closes_in, closes_coroutine, coroutine_number, add_coroutine, add_printed, add_loaded, environment_in, consulted, settled, move}
 use Rattle.functions_stay.specs.Laws.{Keeps, KeepsIfMade, MovesKeep}
 
 -- worlds that have the same functions
@@ -83,12 +83,7 @@ all_kept (f ∷ fs) W = by (stack_of W) (λ s. keeps_then W (push W s f) (push_a
 enters_kept : (W : World) (v : Value) (vs : List Value) → KeepsIfMade W (enters W v vs)
 enters_kept W (known (primitive n)) vs = same W (record W { moving = vs }) refl refl refl
 enters_kept W (object a_function n) vs = kept_bind W (slice_get W.functions n) _ (λ f. kept_cond W (has_room W 1) _ _ (all_kept (new_frame n f.code vs ∷ []) W) (still W))
-enters_kept W (known nil) vs = tt
-enters_kept W (known (boolean b)) vs = tt
-enters_kept W (known (integer n)) vs = tt
-enters_kept W (known (string s)) vs = tt
-enters_kept W (object a_table n) vs = tt
-enters_kept W (object a_coroutine n) vs = tt
+enters_kept W _ vs = tt
 
 paid_kept : (W P : World) (c : Callee) → Keeps W P → KeepsIfMade W (enters_paid W P c)
 paid_kept W P (not_callable text) k = k
@@ -156,10 +151,7 @@ next_kept W s handler = tt
 
 error_kept : (W : World) (s : Stack) (f : Frame) (v : Value) → KeepsIfMade W (with_error W s f v)
 error_kept W s (closing e left) v = top_kept W s (closing (Some v) left)
-error_kept W s (lua f) v = tt
-error_kept W s pcall v = tt
-error_kept W s (xpcall h) v = tt
-error_kept W s handler v = tt
+error_kept W s _ v = tt
 
 -- coroutines
 
@@ -203,10 +195,7 @@ starts_kept W co (fresh v) vs =
     by None h = tt
     by (Some d) h = h
 starts_kept W co (suspended fs) vs = keeps_then W (go_into W co fs) (record (go_into W co fs) { moving = vs }) (into_kept W co fs) (same (go_into W co fs) (record (go_into W co fs) { moving = vs }) refl refl refl)
-starts_kept W co (in_progress fs) vs = still W
-starts_kept W co (normal fs) vs = still W
-starts_kept W co dead vs = still W
-starts_kept W co (failed e xs) vs = still W
+starts_kept W co _ vs = still W
 
 resumes_kept : (W : World) (s : Stack) (co : ℕ) (c : Coroutine) (vs : List Value) → KeepsIfMade W (resumes W s co c vs)
 resumes_kept W s co c vs =
@@ -279,18 +268,14 @@ moves_keep (enter f slot wait prepared) env W = kept_bind W (place_of W) _ (λ p
 moves_keep (enter_tail f slot) env W = kept_bind W (place_of W) _ (λ p. tail_kept W p (callee_of greatest_chain W.heap (arg env f) (drop slot env)))
 moves_keep (await f slot wait prepared) env W =
     kept_bind W (place_of W) _ (λ p. moving_kept W (with_own W p (named env wait) prepared env) (arg env f ∷ drop slot env) (own_kept W p (named env wait) prepared env))
-moves_keep (find_close v e) env W = still W
-moves_keep (is_closable v) env W = still W
 moves_keep (begin_leaving text) env W =
     kept_bind W (place_of W) _ (λ p. moving_kept W (with_own W p (leaving (blamed W text)) (close_cells 0 ∷ keep_pending ∷ []) []) (blamed W text ∷ []) (own_kept W p (leaving (blamed W text)) (close_cells 0 ∷ keep_pending ∷ []) []))
 moves_keep (leave_frame given) env W =
     kept_bind W (place_of W) _ (λ p. kept_bind W (top_now (record (popped W p) { moving = given_values env given })) _ (λ top. moving_kept W (popped W p) (given_values env given) (popped_kept W p)))
 moves_keep take_moving env W = same W (record W { moving = [] }) refl refl refl
-moves_keep (look x) env W = still W
 moves_keep (give xs) env W = moving_kept W W (args_of env xs) (still W)
 moves_keep (give_with xs slot) env W = moving_kept W W (args_of env xs ++ drop slot env) (still W)
 moves_keep (blame text) env W = moving_kept W W (blamed W text ∷ []) (still W)
-moves_keep (place_text x level) env W = still W
 moves_keep (push_frame over) env W = kept_cond W (has_room W 1) _ _ (all_kept (frame_over over env ∷ []) W) (still W)
 moves_keep (call_value f slot) env W = called_kept W W (arg env f) (drop slot env) (still W)
 moves_keep see_top env W = kept_bind W (top_now W) _ (λ top. still W)
@@ -309,3 +294,4 @@ moves_keep (see_status x) env W = kept_bind W (coroutine_number (arg env x)) _ (
 moves_keep see_running env W = kept_bind W (last W.chain) _ (λ co. still W)
 moves_keep (print x) env W = print_kept W (bytes_in (arg env x))
 moves_keep (make_loaded p x) env W = loaded_kept W p (environment_in W env x)
+moves_keep _ env W = still W

@@ -5,7 +5,7 @@ use Rattle.int_core.specs.Value.{Value, bind, last}
 use Rattle.int_core.specs.Ask.{values}
 use Rattle.code_core.specs.Prototype.{Prototype}
 use Rattle.list_laws.proofs.Items.{some_same}
-use Rattle.machine_core.specs.World.{Wait, running, for_call, for_iterator, for_value, for_truth, dropped, for_concat, for_close, returning, leaving, Frame, lua, pcall, xpcall, handler, closing, Coroutine, LuaFrame, World, Stack, stack_of, put_top, put_frames}
+use Rattle.machine_core.specs.World.{Wait, running, for_call, for_iterator, for_value, for_truth, dropped, for_concat, for_close, returning, leaving, Frame, lua, Coroutine, LuaFrame, World, Stack, stack_of, put_top, put_frames}
 use Rattle.machine_core.specs.InstructionRows.{text_at, after, told_values}
 use Rattle.machine_core.specs.Moves.{see_top, Made, ResumeShape, Ending, go, returned, asks, calls_primitive, raised, unwinding, spent, main_yielded, main_returned, main_failed, Row, traps, stop, only, act, Outcome, trapped, ends, starts_in, move, run}
 use Rattle.machine_core.specs.FrameRows.{expand, goes_on_by, handed_to, asked_row, raised_row, unwound}
@@ -66,23 +66,13 @@ there_bind W (Some a) f h = h a
 
 frame_kept : (W : World) (s : Stack) (f : Frame) → KeptIfThere W (frame_step W s f)
 frame_kept W s (lua f) = there_bind W (slice_get W.functions f.function) _ (λ g. lua_kept W s f g.code f.wait)
-frame_kept W s pcall = tt
-frame_kept W s (xpcall h) = tt
-frame_kept W s handler = tt
-frame_kept W s (closing e left) = tt
+frame_kept W s _ = tt
 
 from_kept : (W : World) (o : Outcome) → KeepsAtEnd W o → KeepsAtEnd W (from_world W o)
 from_kept W trapped h = tt
 from_kept W (ends spent V) h = still W
-from_kept W (ends main_yielded V) h = h
-from_kept W (ends main_returned V) h = h
-from_kept W (ends main_failed V) h = h
-from_kept W (ends go V) h = h
-from_kept W (ends returned V) h = h
-from_kept W (ends asks V) h = h
 from_kept W (ends (calls_primitive n) V) h = h
-from_kept W (ends raised V) h = h
-from_kept W (ends unwinding V) h = h
+from_kept W _ h = h
 
 module _ (primitives : ℕ → Row) where
   by_kept : (e : Ending) (W : World) → KeepsAtEnd W (step_by primitives e W)
@@ -96,10 +86,7 @@ module _ (primitives : ℕ → Row) where
   by_kept (calls_primitive n) W = rows_keep (primitives n) [] W
   by_kept raised W = rows_keep raised_row [] W
   by_kept unwinding W = rows_keep (act see_top (λ _ top. unwound top)) [] W
-  by_kept spent W = still W
-  by_kept main_yielded W = still W
-  by_kept main_returned W = still W
-  by_kept main_failed W = still W
+  by_kept _ W = still W
 
   step_kept : (e : Ending) (W : World) → KeepsAtEnd W (step primitives e W)
   step_kept e W = from_kept W (step_by primitives e W) (by_kept e W)
@@ -150,19 +137,14 @@ module _ (primitives : ℕ → Row) where
   closed_kept W x r k e = subst (λ (r : Run). Keeps W r.last) (some_same x r e) k
 
   end_kept : (W : World) (o : Outcome) (goes : World → Option Run) (r : Run) → KeepsAtEnd W o → at_end o goes ≡ Some r → ((V : World) (y : Run) → goes V ≡ Some y → Keeps V y.last) → Keeps W r.last
-  end_kept W trapped goes r h e f = absurd (none_some r e)
   end_kept W (ends main_yielded V) goes r h e f =
       let m = map_some (behind (turn_text main_yielded V)) (goes V) r e in
       subst (λ (r : Run). Keeps W r.last) m.2 (keeps_then W V m.0.last h (f V m.0 m.1))
   end_kept W (ends main_returned V) goes r h e f = closed_kept W (closes main_returned has_returned V) r h e
   end_kept W (ends main_failed V) goes r h e f = closed_kept W (closes main_failed has_failed V) r h e
   end_kept W (ends spent V) goes r h e f = closed_kept W (closes spent has_spent V) r h e
-  end_kept W (ends go V) goes r h e f = absurd (none_some r e)
-  end_kept W (ends returned V) goes r h e f = absurd (none_some r e)
-  end_kept W (ends asks V) goes r h e f = absurd (none_some r e)
   end_kept W (ends (calls_primitive n) V) goes r h e f = absurd (none_some r e)
-  end_kept W (ends raised V) goes r h e f = absurd (none_some r e)
-  end_kept W (ends unwinding V) goes r h e f = absurd (none_some r e)
+  end_kept W _ goes r h e f = absurd (none_some r e)
 
   suspended_kept : (V : World) (y : Run) → suspends V ≡ Some y → Keeps V y.last
   suspended_kept V y e = closed_kept V (record { printed = []; close = is_suspended; last = V }) y (still V) e

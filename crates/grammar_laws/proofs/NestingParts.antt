@@ -90,22 +90,14 @@ looser (some_names xs) m n le h = tt
 looser (some_params xs vararg) m n le h = tt
 looser (a_declared d) m n le h = tt
 looser (some_declared ds) m n le h = tt
-looser (an_exp e) m n le h = omega (arith, le, h)
 looser (maybe_exp None) m n le h = tt
 looser (maybe_exp (Some e)) m n le h = omega (arith, le, h)
-looser (some_exps es) m n le h = omega (arith, le, h)
-looser (a_field f) m n le h = omega (arith, le, h)
-looser (some_fields fs) m n le h = omega (arith, le, h)
-looser (a_target e own) m n le h = omega (arith, le, h)
 looser (an_arm e b) m n le h = (omega (arith, le, h.0), omega (arith, le, h.1))
-looser (some_arms as') m n le h = omega (arith, le, h)
 looser (some_items ss None line) m n le h = (omega (arith, le, h.0), tt)
 looser (some_items ss (Some es) line) m n le h = (omega (arith, le, h.0), omega (arith, le, h.1))
-looser (a_stat s) m n le h = omega (arith, le, h)
-looser (a_block b) m n le h = omega (arith, le, h)
 looser (maybe_block None) m n le h = tt
 looser (maybe_block (Some b)) m n le h = omega (arith, le, h)
-looser (a_body b) m n le h = omega (arith, le, h)
+looser _ m n le h = omega (arith, le, h)
 
 -- lists that grew by one item
 

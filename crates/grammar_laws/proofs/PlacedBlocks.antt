@@ -1,7 +1,7 @@
 -- Setting places keeps that each block weighs at most its tokens.
 use Rattle.std.proofs.Common.{List, [], ◌∷◌, arith}
 use Rattle.std.specs.Prelude.{map}
-use Rattle.tree_core.specs.Tree.{Block, Falls, Returns, Body, BodyOf, Stats, EndStats, MoreStats, Stat, Empty, Local, LocalFunction, Assign, CallStat, Do, While, Repeat, If, IfElse, NumFor, NumForStep, GenFor, Label, Goto, Break, Arms, EndArms, MoreArms, Exp, Nil, True, False, Int, Str, Vararg, Var, Function, Index, Call, Method, Unary, Binary, And, Or, Paren, Table, Exps, EndExps, MoreExps, Fields, EndFields, MoreFields, Field, Item, Keyed}
+use Rattle.tree_core.specs.Tree.{Block, Falls, Returns, Body, BodyOf, Stats, EndStats, MoreStats, Stat, Local, LocalFunction, Assign, CallStat, Do, While, Repeat, If, IfElse, NumFor, NumForStep, GenFor, Arms, EndArms, MoreArms, Exp, Function, Index, Call, Method, Unary, Binary, And, Or, Paren, Table, Exps, EndExps, MoreExps, Fields, EndFields, MoreFields, Field, Item, Keyed}
 use Rattle.scope_core.specs.Scopes.{Frame, declare, declare_all, declared_by, plain_variable, behind, behind_stats, numeric_hidden, generic_hidden}
 use Rattle.scope_core.specs.Places.{upvalues_of, placed_exp, placed_exps, placed_fields, placed_field, placed_body, placed_block, placed_stats, placed_stat, placed_arms, placed}
 use Rattle.grammar_laws.specs.Counted.{ExpIsCounted, ExpsAreCounted, FieldsAreCounted, FieldIsCounted, StatIsCounted, ArmsAreCounted, StatsAreCounted, BlockIsCounted, BodyIsCounted}
@@ -9,14 +9,7 @@ use Rattle.grammar_laws.proofs.PlacedWeight.{exps_weighs, stats_weighs}
 
 mutual
   pub exp_counted : (fs : List Frame) (e : Exp) → ExpIsCounted e → ExpIsCounted (placed_exp fs e)
-  exp_counted fs (Nil line) h = tt
-  exp_counted fs (True line) h = tt
-  exp_counted fs (False line) h = tt
-  exp_counted fs (Int line n) h = tt
-  exp_counted fs (Str line bytes) h = tt
-  exp_counted fs (Vararg line) h = tt
   exp_counted fs (Function line body) h = body_counted fs body h
-  exp_counted fs (Var line name) h = tt
   exp_counted fs (Index line object key) h = (exp_counted fs object h.0, exp_counted fs key h.1)
   exp_counted fs (Call line f es) h = (exp_counted fs f h.0, exps_counted fs es h.1)
   exp_counted fs (Method line object name es) h = (exp_counted fs object h.0, exps_counted fs es h.1)
@@ -26,6 +19,7 @@ mutual
   exp_counted fs (Or line e d) h = (exp_counted fs e h.0, exp_counted fs d h.1)
   exp_counted fs (Paren line e) h = exp_counted fs e h
   exp_counted fs (Table line inner) h = fields_counted fs inner h
+  exp_counted fs _ h = tt
 
   exps_counted : (fs : List Frame) (es : Exps) → ExpsAreCounted es → ExpsAreCounted (placed_exps fs es)
   exps_counted fs EndExps h = tt
@@ -40,7 +34,6 @@ mutual
   field_counted fs (Keyed line e d) h = (exp_counted fs e h.0, exp_counted fs d h.1)
 
   stat_counted : (fs : List Frame) (s : Stat) → StatIsCounted s → StatIsCounted (placed_stat fs s)
-  stat_counted fs (Empty line) h = tt
   stat_counted fs (Local line names es) h = exps_counted fs es h
   stat_counted fs (LocalFunction line name body) h = body_counted (declare fs (plain_variable name)) body h
   stat_counted fs (Assign line targets es) h = (exps_counted fs targets h.0, exps_counted fs es h.1)
@@ -53,9 +46,7 @@ mutual
   stat_counted fs (NumFor line name from limit block) h = (exp_counted fs from h.0, exp_counted fs limit h.1, block_counted (declare (declare_all fs numeric_hidden) (plain_variable name)) block h.2)
   stat_counted fs (NumForStep line name from limit step block) h = (exp_counted fs from h.0, exp_counted fs limit h.1, exp_counted fs step h.2, block_counted (declare (declare_all fs numeric_hidden) (plain_variable name)) block h.3)
   stat_counted fs (GenFor line names es block) h = (exps_counted fs es h.0, block_counted (declare_all (declare_all fs generic_hidden) (map plain_variable names)) block h.1)
-  stat_counted fs (Label line name) h = tt
-  stat_counted fs (Goto line name) h = tt
-  stat_counted fs (Break line) h = tt
+  stat_counted fs _ h = tt
 
   arms_counted : (fs : List Frame) (arms : Arms) → ArmsAreCounted arms → ArmsAreCounted (placed_arms fs arms)
   arms_counted fs EndArms h = tt

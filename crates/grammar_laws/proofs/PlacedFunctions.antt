@@ -1,21 +1,14 @@
 -- Setting places keeps the number of functions.
 use Rattle.std.proofs.Common.{◌≡◌, List, [], ◌∷◌, refl, arith}
 use Rattle.std.specs.Prelude.{map}
-use Rattle.tree_core.specs.Tree.{Block, Falls, Returns, Body, BodyOf, Stats, EndStats, MoreStats, Stat, Empty, Local, LocalFunction, Assign, CallStat, Do, While, Repeat, If, IfElse, NumFor, NumForStep, GenFor, Label, Goto, Break, Arms, EndArms, MoreArms, Exp, Nil, True, False, Int, Str, Vararg, Var, Function, Index, Call, Method, Unary, Binary, And, Or, Paren, Table, Exps, EndExps, MoreExps, Fields, EndFields, MoreFields, Field, Item, Keyed}
+use Rattle.tree_core.specs.Tree.{Block, Falls, Returns, Body, BodyOf, Stats, EndStats, MoreStats, Stat, Local, LocalFunction, Assign, CallStat, Do, While, Repeat, If, IfElse, NumFor, NumForStep, GenFor, Arms, EndArms, MoreArms, Exp, Function, Index, Call, Method, Unary, Binary, And, Or, Paren, Table, Exps, EndExps, MoreExps, Fields, EndFields, MoreFields, Field, Item, Keyed}
 use Rattle.scope_core.specs.Scopes.{Frame, declare, declare_all, declared_by, plain_variable, behind, behind_stats, numeric_hidden, generic_hidden}
 use Rattle.scope_core.specs.Places.{upvalues_of, placed_exp, placed_exps, placed_fields, placed_field, placed_body, placed_block, placed_stats, placed_stat, placed_arms, placed}
 use Rattle.tree_terms.specs.FunctionCount.{functions, functions_in_exps, functions_in_fields, functions_in_field, functions_in_stat, functions_in_arms, functions_in_stats, functions_in_block, functions_in_body}
 
 mutual
   pub exp_has : (fs : List Frame) (e : Exp) → functions (placed_exp fs e) ≡ functions e
-  exp_has fs (Nil line) = refl
-  exp_has fs (True line) = refl
-  exp_has fs (False line) = refl
-  exp_has fs (Int line n) = refl
-  exp_has fs (Str line bytes) = refl
-  exp_has fs (Vararg line) = refl
   exp_has fs (Function line body) = omega (arith, body_has fs body)
-  exp_has fs (Var line name) = refl
   exp_has fs (Index line object key) = omega (arith, exp_has fs object, exp_has fs key)
   exp_has fs (Call line f es) = omega (arith, exp_has fs f, exps_has fs es)
   exp_has fs (Method line object name es) = omega (arith, exp_has fs object, exps_has fs es)
@@ -25,6 +18,7 @@ mutual
   exp_has fs (Or line e d) = omega (arith, exp_has fs e, exp_has fs d)
   exp_has fs (Paren line e) = omega (arith, exp_has fs e)
   exp_has fs (Table line inner) = omega (arith, fields_has fs inner)
+  exp_has fs _ = refl
 
   pub exps_has : (fs : List Frame) (es : Exps) → functions_in_exps (placed_exps fs es) ≡ functions_in_exps es
   exps_has fs EndExps = refl
@@ -39,7 +33,6 @@ mutual
   field_has fs (Keyed line e d) = omega (arith, exp_has fs e, exp_has fs d)
 
   stat_has : (fs : List Frame) (s : Stat) → functions_in_stat (placed_stat fs s) ≡ functions_in_stat s
-  stat_has fs (Empty line) = refl
   stat_has fs (Local line names es) = omega (arith, exps_has fs es)
   stat_has fs (LocalFunction line name body) = omega (arith, body_has (declare fs (plain_variable name)) body)
   stat_has fs (Assign line targets es) = omega (arith, exps_has fs targets, exps_has fs es)
@@ -52,9 +45,7 @@ mutual
   stat_has fs (NumFor line name from limit block) = omega (arith, exp_has fs from, exp_has fs limit, block_has (declare (declare_all fs numeric_hidden) (plain_variable name)) block)
   stat_has fs (NumForStep line name from limit step block) = omega (arith, exp_has fs from, exp_has fs limit, exp_has fs step, block_has (declare (declare_all fs numeric_hidden) (plain_variable name)) block)
   stat_has fs (GenFor line names es block) = omega (arith, exps_has fs es, block_has (declare_all (declare_all fs generic_hidden) (map plain_variable names)) block)
-  stat_has fs (Label line name) = refl
-  stat_has fs (Goto line name) = refl
-  stat_has fs (Break line) = refl
+  stat_has fs _ = refl
 
   arms_has : (fs : List Frame) (arms : Arms) → functions_in_arms (placed_arms fs arms) ≡ functions_in_arms arms
   arms_has fs EndArms = refl

@@ -3,7 +3,7 @@ use Rattle.std.proofs.Common.{ℕ, List, [], ◌∷◌, arith}
 use Rattle.std.specs.Prelude.{map}
 use Rattle.tree_core.specs.declared.name.Name.{Name}
 use Rattle.tree_core.specs.declared.name.Declared.{Declared}
-use Rattle.tree_core.specs.Tree.{Block, Falls, Returns, Body, BodyOf, Stats, EndStats, MoreStats, Stat, Empty, Local, LocalFunction, Assign, CallStat, Do, While, Repeat, If, IfElse, NumFor, NumForStep, GenFor, Label, Goto, Break, Arms, EndArms, MoreArms, Exp, Nil, True, False, Int, Str, Vararg, Var, Function, Index, Call, Method, Unary, Binary, And, Or, Paren, Table, Exps, EndExps, MoreExps, Fields, EndFields, MoreFields, Field, Item, Keyed}
+use Rattle.tree_core.specs.Tree.{Block, Falls, Returns, Body, BodyOf, Stats, EndStats, MoreStats, Stat, Local, LocalFunction, Assign, CallStat, Do, While, Repeat, If, IfElse, NumFor, NumForStep, GenFor, Arms, EndArms, MoreArms, Exp, Function, Index, Call, Method, Unary, Binary, And, Or, Paren, Table, Exps, EndExps, MoreExps, Fields, EndFields, MoreFields, Field, Item, Keyed}
 use Rattle.scope_core.specs.Scopes.{Frame, declare, declare_all, declared_by, declared_variable, plain_variable, behind, behind_stats, numeric_hidden, generic_hidden}
 use Rattle.scope_core.specs.Places.{upvalues_of, placed_names, placed_declared, placed_exp, placed_exps, placed_fields, placed_field, placed_body, placed_block, placed_stats, placed_stat, placed_arms, placed}
 use Rattle.grammar_laws.specs.Lines.{NamesAreWithin, DeclaredAreWithin, ExpIsWithin, ExpsAreWithin, FieldsAreWithin, FieldIsWithin, StatIsWithin, ArmsAreWithin, StatsAreWithin, BlockIsWithin, BodyIsWithin}
@@ -19,14 +19,7 @@ module _ (most : ℕ) where
 
   mutual
     pub exp_within : (fs : List Frame) (e : Exp) → ExpIsWithin most e → ExpIsWithin most (placed_exp fs e)
-    exp_within fs (Nil line) h = h
-    exp_within fs (True line) h = h
-    exp_within fs (False line) h = h
-    exp_within fs (Int line n) h = h
-    exp_within fs (Str line bytes) h = h
-    exp_within fs (Vararg line) h = h
     exp_within fs (Function line body) h = (h.0, body_within fs body h.1)
-    exp_within fs (Var line name) h = h
     exp_within fs (Index line object key) h = (h.0, exp_within fs object h.1, exp_within fs key h.2)
     exp_within fs (Call line f es) h = (h.0, exp_within fs f h.1, exps_within fs es h.2)
     exp_within fs (Method line object name es) h = (h.0, exp_within fs object h.1, h.2, exps_within fs es h.3)
@@ -36,6 +29,7 @@ module _ (most : ℕ) where
     exp_within fs (Or line e d) h = (h.0, exp_within fs e h.1, exp_within fs d h.2)
     exp_within fs (Paren line e) h = (h.0, exp_within fs e h.1)
     exp_within fs (Table line inner) h = (h.0, fields_within fs inner h.1)
+    exp_within fs _ h = h
 
     exps_within : (fs : List Frame) (es : Exps) → ExpsAreWithin most es → ExpsAreWithin most (placed_exps fs es)
     exps_within fs EndExps h = tt
@@ -50,7 +44,6 @@ module _ (most : ℕ) where
     field_within fs (Keyed line e d) h = (h.0, exp_within fs e h.1, exp_within fs d h.2)
 
     stat_within : (fs : List Frame) (s : Stat) → StatIsWithin most s → StatIsWithin most (placed_stat fs s)
-    stat_within fs (Empty line) h = h
     stat_within fs (Local line names es) h = (h.0, declared_within fs names h.1, exps_within fs es h.2)
     stat_within fs (LocalFunction line name body) h = (h.0, h.1, body_within (declare fs (plain_variable name)) body h.2)
     stat_within fs (Assign line targets es) h = (h.0, exps_within fs targets h.1, exps_within fs es h.2)
@@ -66,9 +59,7 @@ module _ (most : ℕ) where
         (h.0, h.1, exp_within fs from h.2, exp_within fs limit h.3, exp_within fs step h.4, block_within (declare (declare_all fs numeric_hidden) (plain_variable name)) block h.5)
     stat_within fs (GenFor line names es block) h =
         (h.0, names_within (declare_all fs generic_hidden) names h.1, exps_within fs es h.2, block_within (declare_all (declare_all fs generic_hidden) (map plain_variable names)) block h.3)
-    stat_within fs (Label line name) h = h
-    stat_within fs (Goto line name) h = h
-    stat_within fs (Break line) h = h
+    stat_within fs _ h = h
 
     arms_within : (fs : List Frame) (arms : Arms) → ArmsAreWithin most arms → ArmsAreWithin most (placed_arms fs arms)
     arms_within fs EndArms h = tt

@@ -1,21 +1,14 @@
 -- Setting places keeps how deep functions are nested.
 use Rattle.std.proofs.Common.{◌≡◌, List, [], ◌∷◌, refl, arith}
 use Rattle.std.specs.Prelude.{map}
-use Rattle.tree_core.specs.Tree.{Block, Falls, Returns, Body, BodyOf, Stats, EndStats, MoreStats, Stat, Empty, Local, LocalFunction, Assign, CallStat, Do, While, Repeat, If, IfElse, NumFor, NumForStep, GenFor, Label, Goto, Break, Arms, EndArms, MoreArms, Exp, Nil, True, False, Int, Str, Vararg, Var, Function, Index, Call, Method, Unary, Binary, And, Or, Paren, Table, Exps, EndExps, MoreExps, Fields, EndFields, MoreFields, Field, Item, Keyed}
+use Rattle.tree_core.specs.Tree.{Block, Falls, Returns, Body, BodyOf, Stats, EndStats, MoreStats, Stat, Local, LocalFunction, Assign, CallStat, Do, While, Repeat, If, IfElse, NumFor, NumForStep, GenFor, Arms, EndArms, MoreArms, Exp, Function, Index, Call, Method, Unary, Binary, And, Or, Paren, Table, Exps, EndExps, MoreExps, Fields, EndFields, MoreFields, Field, Item, Keyed}
 use Rattle.scope_core.specs.Scopes.{Frame, declare, declare_all, declared_by, plain_variable, behind, behind_stats, numeric_hidden, generic_hidden}
 use Rattle.scope_core.specs.Places.{upvalues_of, placed_exp, placed_exps, placed_fields, placed_field, placed_body, placed_block, placed_stats, placed_stat, placed_arms, placed}
 use Rattle.grammar_laws.proofs.Nesting.{nesting, nesting_in_exps, nesting_in_fields, nesting_in_field, nesting_in_stat, nesting_in_arms, nesting_in_stats, nesting_in_block, nesting_in_body}
 
 mutual
   exp_nests : (fs : List Frame) (e : Exp) → nesting (placed_exp fs e) ≡ nesting e
-  exp_nests fs (Nil line) = refl
-  exp_nests fs (True line) = refl
-  exp_nests fs (False line) = refl
-  exp_nests fs (Int line n) = refl
-  exp_nests fs (Str line bytes) = refl
-  exp_nests fs (Vararg line) = refl
   exp_nests fs (Function line body) = omega (arith, body_nests fs body)
-  exp_nests fs (Var line name) = refl
   exp_nests fs (Index line object key) = omega (arith, exp_nests fs object, exp_nests fs key)
   exp_nests fs (Call line f es) = omega (arith, exp_nests fs f, exps_nests fs es)
   exp_nests fs (Method line object name es) = omega (arith, exp_nests fs object, exps_nests fs es)
@@ -25,6 +18,7 @@ mutual
   exp_nests fs (Or line e d) = omega (arith, exp_nests fs e, exp_nests fs d)
   exp_nests fs (Paren line e) = omega (arith, exp_nests fs e)
   exp_nests fs (Table line inner) = omega (arith, fields_nests fs inner)
+  exp_nests fs _ = refl
 
   exps_nests : (fs : List Frame) (es : Exps) → nesting_in_exps (placed_exps fs es) ≡ nesting_in_exps es
   exps_nests fs EndExps = refl
@@ -39,7 +33,6 @@ mutual
   field_nests fs (Keyed line e d) = omega (arith, exp_nests fs e, exp_nests fs d)
 
   stat_nests : (fs : List Frame) (s : Stat) → nesting_in_stat (placed_stat fs s) ≡ nesting_in_stat s
-  stat_nests fs (Empty line) = refl
   stat_nests fs (Local line names es) = omega (arith, exps_nests fs es)
   stat_nests fs (LocalFunction line name body) = omega (arith, body_nests (declare fs (plain_variable name)) body)
   stat_nests fs (Assign line targets es) = omega (arith, exps_nests fs targets, exps_nests fs es)
@@ -52,9 +45,7 @@ mutual
   stat_nests fs (NumFor line name from limit block) = omega (arith, exp_nests fs from, exp_nests fs limit, block_nests (declare (declare_all fs numeric_hidden) (plain_variable name)) block)
   stat_nests fs (NumForStep line name from limit step block) = omega (arith, exp_nests fs from, exp_nests fs limit, exp_nests fs step, block_nests (declare (declare_all fs numeric_hidden) (plain_variable name)) block)
   stat_nests fs (GenFor line names es block) = omega (arith, exps_nests fs es, block_nests (declare_all (declare_all fs generic_hidden) (map plain_variable names)) block)
-  stat_nests fs (Label line name) = refl
-  stat_nests fs (Goto line name) = refl
-  stat_nests fs (Break line) = refl
+  stat_nests fs _ = refl
 
   arms_nests : (fs : List Frame) (arms : Arms) → nesting_in_arms (placed_arms fs arms) ≡ nesting_in_arms arms
   arms_nests fs EndArms = refl

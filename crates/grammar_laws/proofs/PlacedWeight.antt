@@ -1,7 +1,7 @@
 -- Setting places keeps the weight.
 use Rattle.std.proofs.Common.{◌≡◌, ◌+◌, List, [], ◌∷◌, refl, arith}
 use Rattle.std.specs.Prelude.{map}
-use Rattle.tree_core.specs.Tree.{Block, Falls, Returns, Body, BodyOf, Stats, EndStats, MoreStats, Stat, Empty, Local, LocalFunction, Assign, CallStat, Do, While, Repeat, If, IfElse, NumFor, NumForStep, GenFor, Label, Goto, Break, Arms, EndArms, MoreArms, Exp, Nil, True, False, Int, Str, Vararg, Var, Function, Index, Call, Method, Unary, Binary, And, Or, Paren, Table, Exps, EndExps, MoreExps, Fields, EndFields, MoreFields, Field, Item, Keyed}
+use Rattle.tree_core.specs.Tree.{Block, Falls, Returns, Body, BodyOf, Stats, EndStats, MoreStats, Stat, Local, LocalFunction, Assign, CallStat, Do, While, Repeat, If, IfElse, NumFor, NumForStep, GenFor, Arms, EndArms, MoreArms, Exp, Function, Index, Call, Method, Unary, Binary, And, Or, Paren, Table, Exps, EndExps, MoreExps, Fields, EndFields, MoreFields, Field, Item, Keyed}
 use Rattle.scope_core.specs.Scopes.{Frame, declare, declare_all, declared_by, plain_variable, behind, behind_stats, numeric_hidden, generic_hidden}
 use Rattle.scope_core.specs.Places.{main_upvalues, upvalues_of, placed_exp, placed_exps, placed_fields, placed_field, placed_body, placed_block, placed_stats, placed_stat, placed_arms, placed}
 use Rattle.tree_terms.specs.Weight.{weight, weight_of_arguments, weight_of_exps, weight_of_fields, weight_of_field, weight_of_stat, weight_of_arms, weight_of_stats, weight_of_block, weight_of_body}
@@ -9,14 +9,7 @@ use Rattle.scope_laws.proofs.Views.{names_length, declared_length}
 
 mutual
   pub exp_weighs : (fs : List Frame) (e : Exp) → weight (placed_exp fs e) ≡ weight e
-  exp_weighs fs (Nil line) = refl
-  exp_weighs fs (True line) = refl
-  exp_weighs fs (False line) = refl
-  exp_weighs fs (Int line n) = refl
-  exp_weighs fs (Str line bytes) = refl
-  exp_weighs fs (Vararg line) = refl
   exp_weighs fs (Function line body) = omega (arith, body_weighs fs body)
-  exp_weighs fs (Var line name) = refl
   exp_weighs fs (Index line object key) = omega (arith, exp_weighs fs object, exp_weighs fs key)
   exp_weighs fs (Call line f es) = omega (arith, exp_weighs fs f, arguments_weighs fs es)
   exp_weighs fs (Method line object name es) = omega (arith, exp_weighs fs object, arguments_weighs fs es)
@@ -26,6 +19,7 @@ mutual
   exp_weighs fs (Or line e d) = omega (arith, exp_weighs fs e, exp_weighs fs d)
   exp_weighs fs (Paren line e) = omega (arith, exp_weighs fs e)
   exp_weighs fs (Table line inner) = omega (arith, fields_weighs fs inner)
+  exp_weighs fs _ = refl
 
   arguments_weighs : (fs : List Frame) (es : Exps) → weight_of_arguments (placed_exps fs es) ≡ weight_of_arguments es
   arguments_weighs fs EndExps = refl
@@ -44,7 +38,6 @@ mutual
   field_weighs fs (Keyed line e d) = omega (arith, exp_weighs fs e, exp_weighs fs d)
 
   stat_weighs : (fs : List Frame) (s : Stat) → weight_of_stat (placed_stat fs s) ≡ weight_of_stat s
-  stat_weighs fs (Empty line) = refl
   stat_weighs fs (Local line names es) = omega (arith, exps_weighs fs es, declared_length fs names)
   stat_weighs fs (LocalFunction line name body) = omega (arith, body_weighs (declare fs (plain_variable name)) body)
   stat_weighs fs (Assign line targets es) = omega (arith, exps_weighs fs targets, exps_weighs fs es)
@@ -57,9 +50,7 @@ mutual
   stat_weighs fs (NumFor line name from limit block) = omega (arith, exp_weighs fs from, exp_weighs fs limit, block_weighs (declare (declare_all fs numeric_hidden) (plain_variable name)) block)
   stat_weighs fs (NumForStep line name from limit step block) = omega (arith, exp_weighs fs from, exp_weighs fs limit, exp_weighs fs step, block_weighs (declare (declare_all fs numeric_hidden) (plain_variable name)) block)
   stat_weighs fs (GenFor line names es block) = omega (arith, exps_weighs fs es, block_weighs (declare_all (declare_all fs generic_hidden) (map plain_variable names)) block, names_length (declare_all fs generic_hidden) names)
-  stat_weighs fs (Label line name) = refl
-  stat_weighs fs (Goto line name) = refl
-  stat_weighs fs (Break line) = refl
+  stat_weighs fs _ = refl
 
   arms_weighs : (fs : List Frame) (arms : Arms) → weight_of_arms (placed_arms fs arms) ≡ weight_of_arms arms
   arms_weighs fs EndArms = refl

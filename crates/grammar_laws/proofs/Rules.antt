@@ -4,7 +4,7 @@ use Rattle.std.specs.Prelude.{map, nat_lt, flat_map}
 use Rattle.std.proofs.lemmas.Bool.Decides.{nat_tests}
 use Rattle.std.proofs.lemmas.Grind.{flat_map-append}
 use Rattle.std.proofs.lemmas.List.Concat.{flat_map-cons}
-use Rattle.tree_core.specs.Tree.{Block, Falls, Returns, Body, BodyOf, Stats, EndStats, MoreStats, Stat, Empty, Local, LocalFunction, Assign, CallStat, Do, While, Repeat, If, IfElse, NumFor, NumForStep, GenFor, Label, Goto, Break, Arms, EndArms, MoreArms, Exp, Nil, True, False, Int, Str, Vararg, Var, Function, Index, Call, Method, Unary, Binary, And, Or, Paren, Table, Exps, EndExps, MoreExps, Fields, EndFields, MoreFields, Field, Item, Keyed}
+use Rattle.tree_core.specs.Tree.{Block, Falls, Returns, Body, BodyOf, Stats, EndStats, MoreStats, Stat, Local, LocalFunction, Assign, CallStat, Do, While, Repeat, If, IfElse, NumFor, NumForStep, GenFor, Arms, EndArms, MoreArms, Exp, Function, Index, Call, Method, Unary, Binary, And, Or, Paren, Table, Exps, EndExps, MoreExps, Fields, EndFields, MoreFields, Field, Item, Keyed}
 use Rattle.scope_core.specs.declared.violation.Violation.{Violation}
 use Rattle.scope_core.specs.Scopes.{Scope, declared_by, plain_variable, numeric_hidden, generic_hidden}
 use Rattle.scope_core.specs.Parts.{Inner, Statement, Until, Result, Located, at, with_variables, with_block, in_loop_of, inside, scope_behind, declarations, name_declarations, loop_scope, for_declarations, exp_parts, exps_parts, fields_parts, field_parts, body_parts, stats_parts, block_parts, stat_parts, arms_parts}
@@ -60,14 +60,7 @@ own scope s e = nothing_left (stat_violations scope s) (held_violations scope (s
 
 mutual
   exp_rules : (scope : Scope) (e : Exp) → IsQuiet (exp_parts scope e) → InExp Nothing IsShort e
-  exp_rules scope (Nil line) q = tt
-  exp_rules scope (True line) q = tt
-  exp_rules scope (False line) q = tt
-  exp_rules scope (Int line n) q = tt
-  exp_rules scope (Str line bytes) q = tt
-  exp_rules scope (Vararg line) q = tt
   exp_rules scope (Function line body) q = body_rules scope body q
-  exp_rules scope (Var line name) q = tt
   exp_rules scope (Index line object key) q =
       (exp_rules scope object (left (exp_parts scope object) (exp_parts scope key) q), exp_rules scope key (right (exp_parts scope object) (exp_parts scope key) q))
   exp_rules scope (Call line f es) q =
@@ -80,6 +73,7 @@ mutual
   exp_rules scope (Or line e d) q = (exp_rules scope e (left (exp_parts scope e) (exp_parts scope d) q), exp_rules scope d (right (exp_parts scope e) (exp_parts scope d) q))
   exp_rules scope (Paren line e) q = exp_rules scope e q
   exp_rules scope (Table line fs) q = fields_rules scope fs q
+  exp_rules scope _ q = tt
 
   exps_rules : (scope : Scope) (es : Exps) → IsQuiet (exps_parts scope es) → InExps Nothing IsShort es
   exps_rules scope EndExps q = tt
@@ -120,7 +114,6 @@ mutual
       (stats_rules scope [] false ss (left (stats_parts scope [] false ss) values q), exps_rules last es (later (at last (Result line es)) (exps_parts last es) behind))
 
   stat_rules : (scope : Scope) (s : Stat) → part_violations scope (Statement s) ≡ [] → IsQuiet (stat_parts scope s) → InStat Nothing IsShort s
-  stat_rules scope (Empty line) o q = tt
   stat_rules scope (Local line names es) o q = exps_rules scope es (left (exps_parts scope es) (declarations scope names) q)
   stat_rules scope (LocalFunction line name body) o q =
       let inner : Scope = with_variables scope (plain_variable name ∷ []) in
@@ -181,9 +174,7 @@ mutual
         no_breach (tokens_of block) line 12 (own scope (GenFor line names es block) o),
         block_rules within true block (right (a ++ b) inner q),
       )
-  stat_rules scope (Label line name) o q = tt
-  stat_rules scope (Goto line name) o q = tt
-  stat_rules scope (Break line) o q = tt
+  stat_rules scope _ o q = tt
 
   arms_rules : (scope : Scope) (arms : Arms) → IsQuiet (arms_parts scope arms) → InArms Nothing IsShort arms
   arms_rules scope EndArms q = tt

@@ -227,22 +227,12 @@ more (some_names xs) a b c = omega (arith, a, c)
 more (some_params xs vararg) a b c = tt
 more (a_declared d) a b c = omega (arith, a, c)
 more (some_declared ds) a b c = omega (arith, a, c)
-more (an_exp e) a b c = (omega (arith, a, c.0), omega (arith, b, c.1), c.2)
 more (maybe_exp None) a b c = tt
 more (maybe_exp (Some e)) a b c = (omega (arith, a, c.0), omega (arith, b, c.1), c.2)
-more (some_exps es) a b c = (omega (arith, a, c.0), omega (arith, b, c.1), c.2)
-more (a_field f) a b c = (omega (arith, a, c.0), omega (arith, b, c.1), c.2)
-more (some_fields fs) a b c = (omega (arith, a, c.0), omega (arith, b, c.1), c.2)
-more (a_target e own) a b c = (omega (arith, a, c.0), omega (arith, b, c.1), c.2)
-more (an_arm e block) a b c = (omega (arith, a, c.0), omega (arith, b, c.1), c.2)
-more (some_arms as') a b c = (omega (arith, a, c.0), omega (arith, b, c.1), c.2)
-more (some_items ss None line) a b c = (omega (arith, a, c.0), omega (arith, b, c.1), c.2)
 more (some_items ss (Some es) line) a b c = (omega (arith, a, c.0), omega (arith, b, c.1), c.2)
-more (a_stat s) a b c = (omega (arith, a, c.0), omega (arith, b, c.1), c.2)
-more (a_block block) a b c = (omega (arith, a, c.0), omega (arith, b, c.1), c.2)
 more (maybe_block None) a b c = tt
 more (maybe_block (Some block)) a b c = (omega (arith, a, c.0), omega (arith, b, c.1), c.2)
-more (a_body body) a b c = (omega (arith, a, c.0), omega (arith, b, c.1), c.2)
+more _ a b c = (omega (arith, a, c.0), omega (arith, b, c.1), c.2)
 
 pub more_arguments : (p : Piece) {n m n' m' : ℕ} → n ≤ n' → m ≤ m' → HoldsAsArguments p n m → HoldsAsArguments p n' m'
 more_arguments (some_exps es) a b c = (omega (arith, a, c.0), omega (arith, b, c.1), c.2)

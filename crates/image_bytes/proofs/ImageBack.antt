@@ -13,8 +13,8 @@ use Rattle.chunk_format.specs.Reading as chunk
 use Rattle.chunk_format.specs.Spelling as spelled
 use Rattle.chunk_format.proofs.Chunks.{exact_whole}
 use Rattle.chunk_format.proofs.SpelledFunctions.{whole_spelled}
-use Rattle.int_core.specs.Value.{nil, boolean, integer, string, primitive, Kind, a_table, a_function, a_coroutine, bind}
-use Rattle.machine_core.specs.World.{Wait, running, for_call, for_iterator, for_value, for_truth, dropped, for_concat, for_close, returning, leaving}
+use Rattle.int_core.specs.Value.{nil, boolean, integer, string, Kind, a_table, a_function, a_coroutine, bind}
+use Rattle.machine_core.specs.World.{Wait, for_call, for_iterator, for_value, for_truth, dropped, for_concat, for_close, returning, leaving}
 use Rattle.machine_alike.proofs.Pairwise.{bind_some}
 use Rattle.image_core.specs.Image.{PermKey, number_key, text_key, Item, plain, numbered, permanent, environment, LuaFrameItem, FrameItem, lua_item, pcall_item, xpcall_item, handler_item, closing_item, Record, table_record, function_record, closed_record, open_record, fresh_record, suspended_record, dead_record, failed_record, no_record}
 use Rattle.image_bytes.specs.Format.{of_kind, read, refused, and_then, IsReadBack, word, integer_of, followed, tested, second}
@@ -73,79 +73,35 @@ module _ (R : Reader) where
 
   function_law : (x : Item) (y : PermKey) → key_of_sort R a_function x ≡ Some y → permanent a_function y ≡ x
   function_law (permanent a_function k) y e = ap (permanent a_function) (sym (some_so e))
-  function_law (permanent a_table k) y e = absurd (cc)
-  function_law (permanent a_coroutine k) y e = absurd (cc)
-  function_law (plain p) y e = absurd (cc)
-  function_law (numbered n) y e = absurd (cc)
-  function_law environment y e = absurd (cc)
+  function_law _ y e = absurd (cc)
 
   table_law : (x : Item) (y : PermKey) → key_of_sort R a_table x ≡ Some y → permanent a_table y ≡ x
   table_law (permanent a_table k) y e = ap (permanent a_table) (sym (some_so e))
-  table_law (permanent a_function k) y e = absurd (cc)
-  table_law (permanent a_coroutine k) y e = absurd (cc)
-  table_law (plain p) y e = absurd (cc)
-  table_law (numbered n) y e = absurd (cc)
-  table_law environment y e = absurd (cc)
+  table_law _ y e = absurd (cc)
 
   coroutine_law : (x : Item) (y : PermKey) → key_of_sort R a_coroutine x ≡ Some y → permanent a_coroutine y ≡ x
   coroutine_law (permanent a_coroutine k) y e = ap (permanent a_coroutine) (sym (some_so e))
-  coroutine_law (permanent a_table k) y e = absurd (cc)
-  coroutine_law (permanent a_function k) y e = absurd (cc)
-  coroutine_law (plain p) y e = absurd (cc)
-  coroutine_law (numbered n) y e = absurd (cc)
-  coroutine_law environment y e = absurd (cc)
+  coroutine_law _ y e = absurd (cc)
 
   nil_law : (x : Item) (y : Unit {0}) → nil_item R x ≡ Some y → plain nil ≡ x
   nil_law (plain nil) y e = refl
-  nil_law (plain (boolean b)) y e = absurd (cc)
-  nil_law (plain (integer n)) y e = absurd (cc)
-  nil_law (plain (string s)) y e = absurd (cc)
-  nil_law (plain (primitive n)) y e = absurd (cc)
-  nil_law (numbered n) y e = absurd (cc)
-  nil_law (permanent k n) y e = absurd (cc)
-  nil_law environment y e = absurd (cc)
+  nil_law _ y e = absurd (cc)
 
   false_law : (x : Item) (y : Unit {0}) → false_item R x ≡ Some y → plain (boolean false) ≡ x
-  false_law (plain nil) y e = absurd (cc)
   false_law (plain (boolean false)) y e = refl
-  false_law (plain (boolean true)) y e = absurd (cc)
-  false_law (plain (integer n)) y e = absurd (cc)
-  false_law (plain (string s)) y e = absurd (cc)
-  false_law (plain (primitive n)) y e = absurd (cc)
-  false_law (numbered n) y e = absurd (cc)
-  false_law (permanent k n) y e = absurd (cc)
-  false_law environment y e = absurd (cc)
+  false_law _ y e = absurd (cc)
 
   true_law : (x : Item) (y : Unit {0}) → true_item R x ≡ Some y → plain (boolean true) ≡ x
-  true_law (plain nil) y e = absurd (cc)
   true_law (plain (boolean true)) y e = refl
-  true_law (plain (boolean false)) y e = absurd (cc)
-  true_law (plain (integer n)) y e = absurd (cc)
-  true_law (plain (string s)) y e = absurd (cc)
-  true_law (plain (primitive n)) y e = absurd (cc)
-  true_law (numbered n) y e = absurd (cc)
-  true_law (permanent k n) y e = absurd (cc)
-  true_law environment y e = absurd (cc)
+  true_law _ y e = absurd (cc)
 
   integer_law : (x : Item) (y : ℤ) → integer_item R x ≡ Some y → plain (integer y) ≡ x
-  integer_law (plain nil) y e = absurd (cc)
-  integer_law (plain (boolean b)) y e = absurd (cc)
   integer_law (plain (integer n)) y e = ap (λ n. plain (integer n)) (sym (some_so e))
-  integer_law (plain (string s)) y e = absurd (cc)
-  integer_law (plain (primitive n)) y e = absurd (cc)
-  integer_law (numbered n) y e = absurd (cc)
-  integer_law (permanent k n) y e = absurd (cc)
-  integer_law environment y e = absurd (cc)
+  integer_law _ y e = absurd (cc)
 
   string_law : (x : Item) (y : List ℕ) → string_item R x ≡ Some y → plain (string y) ≡ x
-  string_law (plain nil) y e = absurd (cc)
-  string_law (plain (boolean b)) y e = absurd (cc)
-  string_law (plain (integer n)) y e = absurd (cc)
   string_law (plain (string s)) y e = ap (λ n. plain (string n)) (sym (some_so e))
-  string_law (plain (primitive n)) y e = absurd (cc)
-  string_law (numbered n) y e = absurd (cc)
-  string_law (permanent k n) y e = absurd (cc)
-  string_law environment y e = absurd (cc)
+  string_law _ y e = absurd (cc)
 
   number_law : (x : Item) (y : ℕ) → number_item R x ≡ Some y → numbered y ≡ x
   number_law (plain p) y e = absurd (cc)
@@ -276,112 +232,40 @@ module _ (R : Reader) where
       open_law no_record y e = absurd (cc)
 
   call_wait_law : (x : Wait Item) (y : Unit {0}) → is_wait R for_call x ≡ Some y → for_call ≡ x
-  call_wait_law running y e = absurd (cc)
   call_wait_law for_call y e = refl
-  call_wait_law for_iterator y e = absurd (cc)
-  call_wait_law for_value y e = absurd (cc)
-  call_wait_law for_truth y e = absurd (cc)
-  call_wait_law dropped y e = absurd (cc)
-  call_wait_law for_close y e = absurd (cc)
-  call_wait_law (for_concat n) y e = absurd (cc)
-  call_wait_law (returning n) y e = absurd (cc)
-  call_wait_law (leaving v) y e = absurd (cc)
+  call_wait_law _ y e = absurd (cc)
 
   iterator_wait_law : (x : Wait Item) (y : Unit {0}) → is_wait R for_iterator x ≡ Some y → for_iterator ≡ x
-  iterator_wait_law running y e = absurd (cc)
-  iterator_wait_law for_call y e = absurd (cc)
   iterator_wait_law for_iterator y e = refl
-  iterator_wait_law for_value y e = absurd (cc)
-  iterator_wait_law for_truth y e = absurd (cc)
-  iterator_wait_law dropped y e = absurd (cc)
-  iterator_wait_law for_close y e = absurd (cc)
-  iterator_wait_law (for_concat n) y e = absurd (cc)
-  iterator_wait_law (returning n) y e = absurd (cc)
-  iterator_wait_law (leaving v) y e = absurd (cc)
+  iterator_wait_law _ y e = absurd (cc)
 
   value_wait_law : (x : Wait Item) (y : Unit {0}) → is_wait R for_value x ≡ Some y → for_value ≡ x
-  value_wait_law running y e = absurd (cc)
-  value_wait_law for_call y e = absurd (cc)
-  value_wait_law for_iterator y e = absurd (cc)
   value_wait_law for_value y e = refl
-  value_wait_law for_truth y e = absurd (cc)
-  value_wait_law dropped y e = absurd (cc)
-  value_wait_law for_close y e = absurd (cc)
-  value_wait_law (for_concat n) y e = absurd (cc)
-  value_wait_law (returning n) y e = absurd (cc)
-  value_wait_law (leaving v) y e = absurd (cc)
+  value_wait_law _ y e = absurd (cc)
 
   truth_wait_law : (x : Wait Item) (y : Unit {0}) → is_wait R for_truth x ≡ Some y → for_truth ≡ x
-  truth_wait_law running y e = absurd (cc)
-  truth_wait_law for_call y e = absurd (cc)
-  truth_wait_law for_iterator y e = absurd (cc)
-  truth_wait_law for_value y e = absurd (cc)
   truth_wait_law for_truth y e = refl
-  truth_wait_law dropped y e = absurd (cc)
-  truth_wait_law for_close y e = absurd (cc)
-  truth_wait_law (for_concat n) y e = absurd (cc)
-  truth_wait_law (returning n) y e = absurd (cc)
-  truth_wait_law (leaving v) y e = absurd (cc)
+  truth_wait_law _ y e = absurd (cc)
 
   dropped_wait_law : (x : Wait Item) (y : Unit {0}) → is_wait R dropped x ≡ Some y → dropped ≡ x
-  dropped_wait_law running y e = absurd (cc)
-  dropped_wait_law for_call y e = absurd (cc)
-  dropped_wait_law for_iterator y e = absurd (cc)
-  dropped_wait_law for_value y e = absurd (cc)
-  dropped_wait_law for_truth y e = absurd (cc)
   dropped_wait_law dropped y e = refl
-  dropped_wait_law for_close y e = absurd (cc)
-  dropped_wait_law (for_concat n) y e = absurd (cc)
-  dropped_wait_law (returning n) y e = absurd (cc)
-  dropped_wait_law (leaving v) y e = absurd (cc)
+  dropped_wait_law _ y e = absurd (cc)
 
   close_wait_law : (x : Wait Item) (y : Unit {0}) → is_wait R for_close x ≡ Some y → for_close ≡ x
-  close_wait_law running y e = absurd (cc)
-  close_wait_law for_call y e = absurd (cc)
-  close_wait_law for_iterator y e = absurd (cc)
-  close_wait_law for_value y e = absurd (cc)
-  close_wait_law for_truth y e = absurd (cc)
-  close_wait_law dropped y e = absurd (cc)
   close_wait_law for_close y e = refl
-  close_wait_law (for_concat n) y e = absurd (cc)
-  close_wait_law (returning n) y e = absurd (cc)
-  close_wait_law (leaving v) y e = absurd (cc)
+  close_wait_law _ y e = absurd (cc)
 
   concat_law : (x : Wait Item) (y : ℕ) → of_concat R x ≡ Some y → for_concat y ≡ x
-  concat_law running y e = absurd (cc)
-  concat_law for_call y e = absurd (cc)
-  concat_law for_iterator y e = absurd (cc)
-  concat_law for_value y e = absurd (cc)
-  concat_law for_truth y e = absurd (cc)
-  concat_law dropped y e = absurd (cc)
-  concat_law for_close y e = absurd (cc)
   concat_law (for_concat n) y e = ap for_concat (sym (some_so e))
-  concat_law (returning n) y e = absurd (cc)
-  concat_law (leaving n) y e = absurd (cc)
+  concat_law _ y e = absurd (cc)
 
   returning_law : (x : Wait Item) (y : ℕ) → of_returning R x ≡ Some y → returning y ≡ x
-  returning_law running y e = absurd (cc)
-  returning_law for_call y e = absurd (cc)
-  returning_law for_iterator y e = absurd (cc)
-  returning_law for_value y e = absurd (cc)
-  returning_law for_truth y e = absurd (cc)
-  returning_law dropped y e = absurd (cc)
-  returning_law for_close y e = absurd (cc)
-  returning_law (for_concat n) y e = absurd (cc)
   returning_law (returning n) y e = ap returning (sym (some_so e))
-  returning_law (leaving n) y e = absurd (cc)
+  returning_law _ y e = absurd (cc)
 
   leaving_law : (x : Wait Item) (y : Item) → of_leaving R x ≡ Some y → leaving y ≡ x
-  leaving_law running y e = absurd (cc)
-  leaving_law for_call y e = absurd (cc)
-  leaving_law for_iterator y e = absurd (cc)
-  leaving_law for_value y e = absurd (cc)
-  leaving_law for_truth y e = absurd (cc)
-  leaving_law dropped y e = absurd (cc)
-  leaving_law for_close y e = absurd (cc)
-  leaving_law (for_concat n) y e = absurd (cc)
-  leaving_law (returning n) y e = absurd (cc)
   leaving_law (leaving n) y e = ap leaving (sym (some_so e))
+  leaving_law _ y e = absurd (cc)
 
   plain_wait_back : (w : Wait Item) → ((x : Wait Item) (y : Unit {0}) → is_wait R w x ≡ Some y → w ≡ x) → IsReadBack (plain_wait R w)
   unfolding plain_wait

@@ -4,7 +4,7 @@ use Rattle.std.specs.Prelude.{slice_get}
 use Rattle.int_core.specs.Value.{a_table, a_function, a_coroutine}
 use Rattle.int_core.specs.Heap.{Table}
 use Rattle.machine_core.specs.World.{Function, Cell, open_at, Coroutine}
-use Rattle.image_core.specs.Image.{Record, table_record, function_record, closed_record, open_record, fresh_record, suspended_record, dead_record, failed_record, no_record}
+use Rattle.image_core.specs.Image.{Record, table_record, function_record, closed_record, open_record, fresh_record, suspended_record, dead_record, failed_record}
 use Rattle.image_core.specs.Loading.{is_of, is_cell, rank, Target, new_number, table_made, function_made, coroutine_made, cell_made, chosen}
 use Rattle.image_core.proofs.Lists.{get_right}
 
@@ -15,104 +15,49 @@ after_old f is records ys c n m y d e h = rw (d, e) (get_right ys (chosen f reco
 -- a record of a sort is made into an object of that sort
 pub table_yes : (T : Target) (records : List Record) (r : Record) (t : Table) → table_made T records r ≡ Some t → is_of a_table r ≡ true
 table_yes T records (table_record rows m) t h = refl
-table_yes T records (function_record c cs) t h = absurd (cc)
-table_yes T records (closed_record i) t h = absurd (cc)
-table_yes T records (open_record a b c) t h = absurd (cc)
-table_yes T records (fresh_record i) t h = absurd (cc)
-table_yes T records (suspended_record fs) t h = absurd (cc)
-table_yes T records dead_record t h = absurd (cc)
-table_yes T records (failed_record e vs) t h = absurd (cc)
-table_yes T records no_record t h = absurd (cc)
+table_yes T records _ t h = absurd (cc)
 
 pub table_no : (T : Target) (records : List Record) (r : Record) → table_made T records r ≡ None → is_of a_table r ≡ false
 table_no T records (table_record rows m) h = absurd (cc)
-table_no T records (function_record c cs) h = refl
-table_no T records (closed_record i) h = refl
-table_no T records (open_record a b c) h = refl
-table_no T records (fresh_record i) h = refl
-table_no T records (suspended_record fs) h = refl
-table_no T records dead_record h = refl
-table_no T records (failed_record e vs) h = refl
-table_no T records no_record h = refl
+table_no T records _ h = refl
 
 pub function_yes : (T : Target) (records : List Record) (r : Record) (t : Function) → function_made T records r ≡ Some t → is_of a_function r ≡ true
-function_yes T records (table_record rows m) t h = absurd (cc)
 function_yes T records (function_record c cs) t h = refl
-function_yes T records (closed_record i) t h = absurd (cc)
-function_yes T records (open_record a b c) t h = absurd (cc)
-function_yes T records (fresh_record i) t h = absurd (cc)
-function_yes T records (suspended_record fs) t h = absurd (cc)
-function_yes T records dead_record t h = absurd (cc)
-function_yes T records (failed_record e vs) t h = absurd (cc)
-function_yes T records no_record t h = absurd (cc)
+function_yes T records _ t h = absurd (cc)
 
 pub function_no : (T : Target) (records : List Record) (r : Record) → function_made T records r ≡ None → is_of a_function r ≡ false
-function_no T records (table_record rows m) h = refl
 function_no T records (function_record c cs) h = absurd (cc)
-function_no T records (closed_record i) h = refl
-function_no T records (open_record a b c) h = refl
-function_no T records (fresh_record i) h = refl
-function_no T records (suspended_record fs) h = refl
-function_no T records dead_record h = refl
-function_no T records (failed_record e vs) h = refl
-function_no T records no_record h = refl
+function_no T records _ h = refl
 
 pub coroutine_yes : (T : Target) (records : List Record) (r : Record) (t : Coroutine) → coroutine_made T records r ≡ Some t → is_of a_coroutine r ≡ true
-coroutine_yes T records (table_record rows m) t h = absurd (cc)
-coroutine_yes T records (function_record c cs) t h = absurd (cc)
-coroutine_yes T records (closed_record i) t h = absurd (cc)
-coroutine_yes T records (open_record a b c) t h = absurd (cc)
 coroutine_yes T records (fresh_record i) t h = refl
 coroutine_yes T records (suspended_record fs) t h = refl
 coroutine_yes T records dead_record t h = refl
 coroutine_yes T records (failed_record e vs) t h = refl
-coroutine_yes T records no_record t h = absurd (cc)
+coroutine_yes T records _ t h = absurd (cc)
 
 pub coroutine_no : (T : Target) (records : List Record) (r : Record) → coroutine_made T records r ≡ None → is_of a_coroutine r ≡ false
-coroutine_no T records (table_record rows m) h = refl
-coroutine_no T records (function_record c cs) h = refl
-coroutine_no T records (closed_record i) h = refl
-coroutine_no T records (open_record a b c) h = refl
 coroutine_no T records (fresh_record i) h = absurd (cc)
 coroutine_no T records (suspended_record fs) h = absurd (cc)
 coroutine_no T records dead_record h = absurd (cc)
 coroutine_no T records (failed_record e vs) h = absurd (cc)
-coroutine_no T records no_record h = refl
+coroutine_no T records _ h = refl
 
 pub cell_yes : (T : Target) (records : List Record) (r : Record) (t : Cell) → cell_made T records r ≡ Some t → is_cell r ≡ true
-cell_yes T records (table_record rows m) t h = absurd (cc)
-cell_yes T records (function_record c cs) t h = absurd (cc)
 cell_yes T records (closed_record i) t h = refl
 cell_yes T records (open_record a b c) t h = refl
-cell_yes T records (fresh_record i) t h = absurd (cc)
-cell_yes T records (suspended_record fs) t h = absurd (cc)
-cell_yes T records dead_record t h = absurd (cc)
-cell_yes T records (failed_record e vs) t h = absurd (cc)
-cell_yes T records no_record t h = absurd (cc)
+cell_yes T records _ t h = absurd (cc)
 
 pub cell_no : (T : Target) (records : List Record) (r : Record) → cell_made T records r ≡ None → is_cell r ≡ false
-cell_no T records (table_record rows m) h = refl
-cell_no T records (function_record c cs) h = refl
 cell_no T records (closed_record i) h = absurd (cc)
 cell_no T records (open_record a b c) h = absurd (cc)
-cell_no T records (fresh_record i) h = refl
-cell_no T records (suspended_record fs) h = refl
-cell_no T records dead_record h = refl
-cell_no T records (failed_record e vs) h = refl
-cell_no T records no_record h = refl
+cell_no T records _ h = refl
 
 -- what a made cell that is open was made of
 pub open_made : (T : Target) (records : List Record) (r : Record) (co f n : ℕ) → cell_made T records r ≡ Some (open_at co f n) → (c : ℕ) × (r ≡ open_record c f n) × (co ≡ new_number T records a_coroutine c)
-open_made T records (table_record rows m) co f n h = absurd (cc)
-open_made T records (function_record c cs) co f n h = absurd (cc)
-open_made T records (closed_record i) co f n h = absurd (cc)
 open_made T records (open_record a b c) co f n h =
     let u : new_number T records a_coroutine a ≡ co = cc in
     let v : b ≡ f = cc in
     let w : c ≡ n = cc in
     (a, rw (v, w) refl, sym u)
-open_made T records (fresh_record i) co f n h = absurd (cc)
-open_made T records (suspended_record fs) co f n h = absurd (cc)
-open_made T records dead_record co f n h = absurd (cc)
-open_made T records (failed_record e vs) co f n h = absurd (cc)
-open_made T records no_record co f n h = absurd (cc)
+open_made T records _ co f n h = absurd (cc)

@@ -143,13 +143,7 @@ module _ (p : Pairs) (W X : World) (T U : Target) (rs : List Record) (can : CanB
   cell_below : (n : ℕ) (r : Record) → slice_get rs n ≡ Some r → is_cell r ≡ true → rank is_cell rs n < length (chosen (cell_made T rs) rs)
   cell_below n (closed_record i) h e = slice_get_within _ _ _ (chosen_get is_cell (cell_made T rs) (cell_yes T rs) (cell_no T rs) rs n (closed_record i) _ h refl)
   cell_below n (open_record a b c) h e = slice_get_within _ _ _ (chosen_get is_cell (cell_made T rs) (cell_yes T rs) (cell_no T rs) rs n (open_record a b c) _ h refl)
-  cell_below n (table_record rows m) h e = absurd (cc)
-  cell_below n (function_record c cs) h e = absurd (cc)
-  cell_below n (fresh_record i) h e = absurd (cc)
-  cell_below n (suspended_record fs) h e = absurd (cc)
-  cell_below n dead_record h e = absurd (cc)
-  cell_below n (failed_record x vs) h e = absurd (cc)
-  cell_below n no_record h e = absurd (cc)
+  cell_below n _ h e = absurd (cc)
 
   number_both : (kind : Kind) (n : ℕ) (r : Record) → slice_get rs n ≡ Some r → kind_in r ≡ Some kind → SameNumber q kind (new_number T rs kind n) (new_number U rs kind n)
   number_both kind n r h e = shifted_new (count_in T kind) (count_in U kind) (count_made T rs kind) (p.objects kind) (rank (is_of kind) rs n) (made_below kind n r h e)
@@ -178,25 +172,11 @@ module _ (p : Pairs) (W X : World) (T U : Target) (rs : List Record) (can : CanB
 
   table_both : (n : ℕ) (r : Record) → slice_get rs n ≡ Some r → Each (SameTable q) (table_made T rs r) (table_made U rs r)
   table_both n (table_record rows m) h = record { rows = map_zip (SameRow q) (row_made T rs) (row_made U rs) rows (λ i x e. (value_both x.0, value_both x.1)); metatable = table_of _ _ (value_both m) }
-  table_both n (function_record c cs) h = tt
-  table_both n (closed_record i) h = tt
-  table_both n (open_record a b c) h = tt
-  table_both n (fresh_record i) h = tt
-  table_both n (suspended_record fs) h = tt
-  table_both n dead_record h = tt
-  table_both n (failed_record x vs) h = tt
-  table_both n no_record h = tt
+  table_both n _ h = tt
 
   function_both : (n : ℕ) (r : Record) → slice_get rs n ≡ Some r → Each (SameFunction q) (function_made T rs r) (function_made U rs r)
   function_both n (function_record code cells) h = record { code = refl; cells = map_zip (SameCellNumber q) (new_cell T rs) (new_cell U rs) cells (λ i c e. let r = can.whole.cells n code cells h i c e in cell_number_both c r.0 r.1 r.2) }
-  function_both n (table_record rows m) h = tt
-  function_both n (closed_record i) h = tt
-  function_both n (open_record a b c) h = tt
-  function_both n (fresh_record i) h = tt
-  function_both n (suspended_record fs) h = tt
-  function_both n dead_record h = tt
-  function_both n (failed_record x vs) h = tt
-  function_both n no_record h = tt
+  function_both n _ h = tt
 
   wait_both : (w : Wait Item) → SameWait q (wait_made T rs w) (wait_made U rs w)
   wait_both running = same_running
@@ -236,11 +216,7 @@ module _ (p : Pairs) (W X : World) (T U : Target) (rs : List Record) (can : CanB
   coroutine_both n (suspended_record fs) h = same_suspended _ _ (map_zip (SameFrame q) (frame_made T rs) (frame_made U rs) fs (λ i f e. frame_both n i fs h f e))
   coroutine_both n dead_record h = same_dead
   coroutine_both n (failed_record e vs) h = same_failed _ _ _ _ (value_both e) (values_both vs)
-  coroutine_both n (table_record rows m) h = tt
-  coroutine_both n (function_record c cs) h = tt
-  coroutine_both n (closed_record i) h = tt
-  coroutine_both n (open_record a b c) h = tt
-  coroutine_both n no_record h = tt
+  coroutine_both n _ h = tt
 
   abbrev Y : World
   Y = loaded T rs W
@@ -251,13 +227,7 @@ module _ (p : Pairs) (W X : World) (T U : Target) (rs : List Record) (can : CanB
   cell_both : (n : ℕ) (r : Record) → slice_get rs n ≡ Some r → Each (SameCell q Y.coroutines Z.coroutines) (cell_made T rs r) (cell_made U rs r)
   cell_both n (closed_record i) h = same_content _ _ _ _ (kept_closed _) (kept_closed _) (value_both i)
   cell_both n (open_record co f g) h = let r = can.whole.coroutines n co f g h in same_place _ _ f g (number_both a_coroutine co r.0 r.1 r.2)
-  cell_both n (table_record rows m) h = tt
-  cell_both n (function_record c cs) h = tt
-  cell_both n (fresh_record i) h = tt
-  cell_both n (suspended_record fs) h = tt
-  cell_both n dead_record h = tt
-  cell_both n (failed_record e vs) h = tt
-  cell_both n no_record h = tt
+  cell_both n _ h = tt
 
   -- a register of a coroutine that was there is still there
   register_kept : (cs ds : List Coroutine) (co f r : ℕ) (w : Value) → register_at cs co f r ≡ Some w → (co < length cs) × (register_at (cs ++ ds) co f r ≡ Some w)

@@ -7,7 +7,7 @@ use Rattle.std.proofs.lemmas.Bool.Decides.{nat_tests}
 use Rattle.std.proofs.lemmas.List.Folds.{list_any-append}
 use Rattle.std.proofs.Math.Path.{fun_ext}
 use Rattle.indexmap.specs.IndexSet.{insert_key}
-use Rattle.image_core.specs.Image.{Record, table_record, function_record, closed_record, open_record, fresh_record, suspended_record, dead_record, failed_record, no_record}
+use Rattle.image_core.specs.Image.{Record, open_record}
 use Rattle.image_sound.specs.Fitting.{is_open_record, opened_again, opened_once}
 use Rattle.image_records.specs.declared.fitting.OpenPlace.{OpenPlace}
 use Rattle.image_records.specs.contracts.fitting.OpenPlacePartialEq.TheImpl as place_impl
@@ -131,12 +131,5 @@ pub place_anew : (places new : List OpenPlace) (rs : List Record) (p : OpenPlace
 place_anew places new rs p r told holds is t e = subst (λ r. OpensAnew new r rs told) (sym is) (opens_anew places rs p holds new told t e)
 
 pub no_place : (places : List OpenPlace) (rs : List Record) (r : Record) → HoldsPlaces places rs → is_open r ≡ false → OpensAnew places r rs true
-no_place places rs (table_record rows m) holds h = record { told = refl; holds = record { same = holds.same } }
-no_place places rs (function_record code cells) holds h = record { told = refl; holds = record { same = holds.same } }
-no_place places rs (closed_record i) holds h = record { told = refl; holds = record { same = holds.same } }
 no_place places rs (open_record co frame register) holds h = absurd (cc)
-no_place places rs (fresh_record body) holds h = record { told = refl; holds = record { same = holds.same } }
-no_place places rs (suspended_record frames) holds h = record { told = refl; holds = record { same = holds.same } }
-no_place places rs dead_record holds h = record { told = refl; holds = record { same = holds.same } }
-no_place places rs (failed_record e pending) holds h = record { told = refl; holds = record { same = holds.same } }
-no_place places rs no_record holds h = record { told = refl; holds = record { same = holds.same } }
+no_place places rs _ holds h = record { told = refl; holds = record { same = holds.same } }

@@ -5,7 +5,7 @@ use Rattle.std.specs.List.{AllZip}
 use Rattle.int_core.specs.Value.{Kind, a_table, a_function, a_coroutine, same_kind, Value, known, nil}
 use Rattle.int_core.specs.Heap.{Table}
 use Rattle.machine_core.specs.World.{Function, Cell, open_at, Wait, LuaFrame, Frame, Coroutine, World}
-use Rattle.machine_alike.specs.Agree.{Pairs, SameNumber, SameCellNumber, Each, Both, SameValue, same_known, same_object, SameValues, SameRow, SameTable, SameFunction, SameWait, same_running, same_for_call, same_for_iterator, same_for_value, same_for_truth, same_dropped, same_for_concat, same_for_close, same_returning, same_leaving, SameLuaFrame, SameFrame, same_lua, same_pcall, same_xpcall, same_handler, same_closing, SameCoroutine, same_fresh, same_suspended, same_in_progress, same_normal, same_dead, same_failed, OneToOne, IsFirst, IsSecond, Loose, kept_closed, kept_apart, SameCell, same_place, same_content, objects_of, SameObjects}
+use Rattle.machine_alike.specs.Agree.{Pairs, SameNumber, SameCellNumber, Each, Both, SameValue, same_known, same_object, SameValues, SameRow, SameTable, SameFunction, SameWait, same_leaving, SameLuaFrame, SameFrame, same_lua, same_pcall, same_xpcall, same_handler, same_closing, SameCoroutine, same_fresh, same_suspended, same_in_progress, same_normal, same_dead, same_failed, OneToOne, IsFirst, IsSecond, Loose, kept_closed, kept_apart, SameCell, same_place, same_content, objects_of, SameObjects}
 use Rattle.machine_alike.proofs.Pairwise.{zip_append, zip_parts, cond_rel}
 use Rattle.machine_alike.proofs.Tables.{nat_eq_same, equal_same, kind_same}
 use Rattle.machine_alike.proofs.CellWrites.{register_same}
@@ -120,16 +120,8 @@ module _ (p : Pairs) (W X : World) (a : SameObjects p (objects_of W) (objects_of
   function_same f g h = zip_map (SameCellNumber p) (SameField p) of_cell of_cell both_of_cells f.cells g.cells h.cells
 
   wait_same : (v w : Wait Value) → SameWait p v w → Fields (wait_fields v) (wait_fields w)
-  wait_same v w same_running = tt
-  wait_same v w same_for_call = tt
-  wait_same v w same_for_iterator = tt
-  wait_same v w same_for_value = tt
-  wait_same v w same_for_truth = tt
-  wait_same v w same_dropped = tt
-  wait_same v w (same_for_concat left) = tt
-  wait_same v w same_for_close = tt
-  wait_same v w (same_returning count) = tt
   wait_same v w (same_leaving x y h) = (both_values x y h, tt)
+  wait_same v w _ = tt
 
   error_same : (e f : Option Value) → Each (SameValue p) e f → Fields (error_fields e) (error_fields f)
   error_same None None h = tt
@@ -245,16 +237,8 @@ module _ (p : Pairs) (W X : World) (a : SameObjects p (objects_of W) (objects_of
       record_of_function_same f g h = rw (h.code, zip_equal (SameCellNumber p) (λ c. N.number (a_cell c)) (λ c. M.number (a_cell c)) (λ i j k. number_same _ _ (both_cells i j k)) f.cells g.cells h.cells) refl
 
       wait_item_same : (u w : Wait Value) → SameWait p u w → wait_item N u ≡ wait_item M w
-      wait_item_same u w same_running = refl
-      wait_item_same u w same_for_call = refl
-      wait_item_same u w same_for_iterator = refl
-      wait_item_same u w same_for_value = refl
-      wait_item_same u w same_for_truth = refl
-      wait_item_same u w same_dropped = refl
-      wait_item_same u w (same_for_concat left) = refl
-      wait_item_same u w same_for_close = refl
-      wait_item_same u w (same_returning count) = refl
       wait_item_same u w (same_leaving x y h) = rw (item_same x y h) refl
+      wait_item_same u w _ = refl
 
       option_same : (e f : Option Value) → Each (SameValue p) e f → option_map (item N) e ≡ option_map (item M) f
       option_same None None h = refl

@@ -3,7 +3,7 @@ use Rattle.std.proofs.Common.{append_assoc, suc, ℕ, ◌≡◌, List, [], ◌�
 use Rattle.std.specs.Prelude.{slice_get, flat_map, option_map}
 use Rattle.int_core.specs.Value.{a_table, a_function, a_coroutine, Value, known, object}
 use Rattle.int_core.specs.Heap.{Table}
-use Rattle.machine_core.specs.World.{Cell, closed, open_at, Wait, running, for_call, for_iterator, for_value, for_truth, dropped, for_concat, for_close, returning, leaving, Frame, lua, pcall, xpcall, handler, closing, Coroutine, fresh, suspended, in_progress, normal, dead, failed, World}
+use Rattle.machine_core.specs.World.{Cell, closed, open_at, Wait, leaving, Frame, lua, pcall, xpcall, handler, closing, Coroutine, fresh, suspended, in_progress, normal, dead, failed, World}
 use Rattle.image_core.specs.Visit.{add_new, greatest_count}
 use Rattle.image_core.specs.Image.{Item, Record, open_record, closed_record}
 use Rattle.image_core.specs.Records.{Part, an_object, a_cell, same_part, Field, of_value, of_cell, of_coroutine, row_fields, metatable_value, table_fields, wait_fields, error_fields, frame_fields, coroutine_fields, present, cell_fields, if_there, value_parts, unless_named, field_parts, parts, is_reached, parts_in_order, Naming, unnamed_item, or_item, item, wait_item, frame_item, row_item, record_of_table, record_of_function, record_of_coroutine, record_of_cell, or_none, record_of, naming, image_by}
@@ -81,16 +81,8 @@ module _ (W : World) (name : Value → Option Item) (roots : List Value) (plainl
   cells_told (c ∷ cs) = ap (λ ns. N.number (a_cell c) ∷ ns) (cells_told cs)
 
   wait_told : (w : Wait Value) → wait_numbers (wait_item N w) ≡ told (wait_fields w)
-  wait_told running = refl
-  wait_told for_call = refl
-  wait_told for_iterator = refl
-  wait_told for_value = refl
-  wait_told for_truth = refl
-  wait_told dropped = refl
-  wait_told (for_concat n) = refl
-  wait_told for_close = refl
-  wait_told (returning n) = refl
   wait_told (leaving e) = one_told e
+  wait_told _ = refl
 
   error_told : (e : Option Value) → error_numbers (option_map (item N) e) ≡ told (error_fields e)
   error_told None = refl

@@ -6,9 +6,9 @@ use Rattle.std.proofs.lemmas.Bool.Decides.{eqb_tells, nat_tests}
 use Rattle.code_core.specs.Instruction.{opcode_of}
 use Rattle.code_core.specs.Prototype.{Prototype}
 use Rattle.code_core.specs.Check.{at}
-use Rattle.int_core.specs.Value.{Plain, nil, boolean, integer, string, primitive, a_table, a_function, a_coroutine, bind}
+use Rattle.int_core.specs.Value.{Plain, nil, boolean, integer, string, primitive, a_function, bind}
 use Rattle.int_core.specs.Operations.{is_function}
-use Rattle.machine_core.specs.World.{Wait, running, for_call, for_iterator, for_value, for_truth, dropped, for_concat, for_close, returning, leaving}
+use Rattle.machine_core.specs.World.{Wait, leaving}
 use Rattle.machine_sound.specs.Sound.{Each, OptionOk, waits_at, waiting_size, kept_below}
 use Rattle.image_core.specs.Image.{PermKey, Item, plain, numbered, permanent, environment, LuaFrameItem, FrameItem, lua_item, pcall_item, xpcall_item, handler_item, closing_item, Record, table_record, function_record, closed_record, open_record, fresh_record, suspended_record, dead_record, failed_record, no_record, Image}
 use Rattle.image_core.specs.Loading.{is_cell, kind_in, numbered_value, value_made}
@@ -113,15 +113,11 @@ module _ (R : Reader) (code_named : PermKey → Option Prototype) (H : Host) (of
   row_fits row h = (item_fits row.0 h.0, item_fits row.1 h.1)
 
   function_fits : (i : Item) → is_function_item S i ≡ true → ItemRead S i → IsTrue (is_function (value_made H.target H.records i))
-  function_fits (plain p) f h = absurd (cc)
   function_fits (numbered n) f h = is_true (ap (λ o. is_function (numbered_value H.target H.records n o)) (function_named H.records n f))
-  function_fits (permanent a_table key) f h = absurd (cc)
   function_fits (permanent a_function key) f h = of.functions key h
-  function_fits (permanent a_coroutine key) f h = absurd (cc)
-  function_fits environment f h = absurd (cc)
+  function_fits _ f h = absurd (cc)
 
   code_is : (i : Item) (p : Prototype) → code_of_item code_named H.records i ≡ Some p → CodeIs H i p
-  code_is (plain q) p h = absurd (cc)
   code_is (numbered n) p h = by_record (bind_some (slice_get H.records n) code_in p h)
     where
       by_record : (r : Record) × (slice_get H.records n ≡ Some r) × (code_in r ≡ Some p) → (cells : List ℕ) × (slice_get H.records n ≡ Some (function_record p cells))
@@ -134,22 +130,12 @@ module _ (R : Reader) (code_named : PermKey → Option Prototype) (H : Host) (of
       by_record (dead_record, e, k) = absurd (cc)
       by_record (failed_record x vs, e, k) = absurd (cc)
       by_record (no_record, e, k) = absurd (cc)
-  code_is (permanent a_table key) p h = absurd (cc)
   code_is (permanent a_function key) p h = of.code key p h
-  code_is (permanent a_coroutine key) p h = absurd (cc)
-  code_is environment p h = absurd (cc)
+  code_is _ p h = absurd (cc)
 
   wait_fits : (w : Wait Item) → WaitRead S w → WaitFits H w
-  wait_fits running h = tt
-  wait_fits for_call h = tt
-  wait_fits for_iterator h = tt
-  wait_fits for_value h = tt
-  wait_fits for_truth h = tt
-  wait_fits dropped h = tt
-  wait_fits (for_concat left) h = tt
-  wait_fits for_close h = tt
-  wait_fits (returning count) h = tt
   wait_fits (leaving e) h = item_fits e h
+  wait_fits _ h = tt
 
   lua_is : (f : LuaFrameItem) → LuaRead S f → lua_fits code_named H.records f ≡ true → LuaFits H f
   lua_is f h t =

@@ -6,11 +6,11 @@ use Rattle.int_core.specs.Value.{Plain, nil, boolean, integer, string, primitive
 use Rattle.int_core.specs.Heap.{Table}
 use Rattle.code_core.specs.declared.opcode.Opcode.{Opcode}
 use Rattle.code_core.specs.declared.instruction.Instruction.{Instruction}
-use Rattle.machine_core.specs.World.{Function, Cell, closed, open_at, Wait, running, for_call, for_iterator, for_value, for_truth, dropped, for_concat, for_close, returning, leaving, lua, Coroutine, World, frames_of, lua_frame, OneEach}
+use Rattle.machine_core.specs.World.{Function, Cell, closed, open_at, Wait, running, leaving, lua, Coroutine, World, frames_of, lua_frame, OneEach}
 use Rattle.machine_sound.specs.Sound.{Each, Sizes, sizes, PlainOk, Valid, OptionOk, TableOk, FunctionOk, WaitOk, LuaOk, FrameOk, LuaWaits, FrameWaits, CoroutineOk, Standing, runs, resumed_another, apart, standing, ChainOk, registers_in, registers_of, CellOk, Solid, waits_at, waiting_size, kept_below}
 use Rattle.machine_sound.proofs.Grow.{Grows, valid_on, table_on, function_on, coroutine_on, roots_on}
 use Rattle.machine_sound.proofs.Lists.{each_on, each_append, each_cons, get_push_old, map_get, some_is}
-use Rattle.image_core.specs.Image.{Item, plain, numbered, permanent, environment, LuaFrameItem, FrameItem, lua_item, pcall_item, xpcall_item, handler_item, closing_item, Record, table_record, function_record, closed_record, open_record, fresh_record, suspended_record, dead_record, failed_record, no_record}
+use Rattle.image_core.specs.Image.{Item, plain, numbered, permanent, environment, LuaFrameItem, FrameItem, lua_item, pcall_item, xpcall_item, handler_item, closing_item, Record, table_record, function_record, closed_record, open_record, fresh_record, suspended_record, dead_record, failed_record}
 use Rattle.image_core.specs.Loading.{kind_in, is_of, is_cell, rank, Target, new_number, new_cell, numbered_value, value_made, table_number, function_number, row_made, table_made, function_made, wait_made, lua_frame_made, frame_made, coroutine_made, cell_made, chosen, loaded}
 use Rattle.image_core.proofs.Lists.{get_split, chosen_get, chosen_from, rank_one}
 use Rattle.image_core.proofs.Making.{table_yes, table_no, function_yes, function_no, coroutine_yes, coroutine_no, cell_yes, cell_no, after_old, open_made}
@@ -66,47 +66,23 @@ module _ (H : Host) (target : IsTarget H.target H.world) (old : Solid H.primitiv
   -- each record of a sort makes something
   table_makes : (r : Record) → kind_in r ≡ Some a_table → (t : Table) × (table_made T rs r ≡ Some t)
   table_makes (table_record rows m) h = (_, refl)
-  table_makes (function_record c cs) h = absurd (cc)
-  table_makes (closed_record i) h = absurd (cc)
-  table_makes (open_record a b c) h = absurd (cc)
-  table_makes (fresh_record i) h = absurd (cc)
-  table_makes (suspended_record fs) h = absurd (cc)
-  table_makes dead_record h = absurd (cc)
-  table_makes (failed_record e vs) h = absurd (cc)
-  table_makes no_record h = absurd (cc)
+  table_makes _ h = absurd (cc)
 
   function_makes : (r : Record) → kind_in r ≡ Some a_function → (t : Function) × (function_made T rs r ≡ Some t)
-  function_makes (table_record rows m) h = absurd (cc)
   function_makes (function_record c cs) h = (_, refl)
-  function_makes (closed_record i) h = absurd (cc)
-  function_makes (open_record a b c) h = absurd (cc)
-  function_makes (fresh_record i) h = absurd (cc)
-  function_makes (suspended_record fs) h = absurd (cc)
-  function_makes dead_record h = absurd (cc)
-  function_makes (failed_record e vs) h = absurd (cc)
-  function_makes no_record h = absurd (cc)
+  function_makes _ h = absurd (cc)
 
   coroutine_makes : (r : Record) → kind_in r ≡ Some a_coroutine → (t : Coroutine) × (coroutine_made T rs r ≡ Some t)
-  coroutine_makes (table_record rows m) h = absurd (cc)
-  coroutine_makes (function_record c cs) h = absurd (cc)
-  coroutine_makes (closed_record i) h = absurd (cc)
-  coroutine_makes (open_record a b c) h = absurd (cc)
   coroutine_makes (fresh_record i) h = (_, refl)
   coroutine_makes (suspended_record fs) h = (_, refl)
   coroutine_makes dead_record h = (_, refl)
   coroutine_makes (failed_record e vs) h = (_, refl)
-  coroutine_makes no_record h = absurd (cc)
+  coroutine_makes _ h = absurd (cc)
 
   cell_makes : (r : Record) → is_cell r ≡ true → (t : Cell) × (cell_made T rs r ≡ Some t)
-  cell_makes (table_record rows m) h = absurd (cc)
-  cell_makes (function_record c cs) h = absurd (cc)
   cell_makes (closed_record i) h = (_, refl)
   cell_makes (open_record a b c) h = (_, refl)
-  cell_makes (fresh_record i) h = absurd (cc)
-  cell_makes (suspended_record fs) h = absurd (cc)
-  cell_makes dead_record h = absurd (cc)
-  cell_makes (failed_record e vs) h = absurd (cc)
-  cell_makes no_record h = absurd (cc)
+  cell_makes _ h = absurd (cc)
 
   grows : Grows y z
   grows = record {
@@ -157,14 +133,7 @@ module _ (H : Host) (target : IsTarget H.target H.world) (old : Solid H.primitiv
         rows = each_made (λ row. ItemFits H row.0 × ItemFits H row.1) (λ row. Valid z row.0 × Valid z row.1) (row_made T rs) (λ row f. (item_valid row.0 f.0, item_valid row.1 f.1)) rows k.0;
         metatable = metatable_valid (value_made T rs m) (item_valid m k.1);
       })
-  table_ok n (function_record c cs) t h e = absurd (cc)
-  table_ok n (closed_record i) t h e = absurd (cc)
-  table_ok n (open_record a b c) t h e = absurd (cc)
-  table_ok n (fresh_record i) t h e = absurd (cc)
-  table_ok n (suspended_record fs) t h e = absurd (cc)
-  table_ok n dead_record t h e = absurd (cc)
-  table_ok n (failed_record x vs) t h e = absurd (cc)
-  table_ok n no_record t h e = absurd (cc)
+  table_ok n _ t h e = absurd (cc)
 
   function_ok : (n : ℕ) (r : Record) (t : Function) → slice_get rs n ≡ Some r → function_made T rs r ≡ Some t → FunctionOk z t
   function_ok n (function_record code cells) t h e =
@@ -178,14 +147,7 @@ module _ (H : Host) (target : IsTarget H.target H.world) (old : Solid H.primitiv
       length_map : {A B : Type 0} (f : A → B) (xs : List A) → length (map f xs) ≡ length xs
       length_map f [] = refl
       length_map f (x ∷ xs) = ap suc (length_map f xs)
-  function_ok n (table_record rows m) t h e = absurd (cc)
-  function_ok n (closed_record i) t h e = absurd (cc)
-  function_ok n (open_record a b c) t h e = absurd (cc)
-  function_ok n (fresh_record i) t h e = absurd (cc)
-  function_ok n (suspended_record fs) t h e = absurd (cc)
-  function_ok n dead_record t h e = absurd (cc)
-  function_ok n (failed_record x vs) t h e = absurd (cc)
-  function_ok n no_record t h e = absurd (cc)
+  function_ok n _ t h e = absurd (cc)
 
   -- frames
   code_there : (i : Item) (code : _) → CodeIs H i code → (f : Function) × (slice_get X.functions (function_number (value_made T rs i)) ≡ Some f) × (f.code ≡ code)
@@ -194,70 +156,27 @@ module _ (H : Host) (target : IsTarget H.target H.world) (old : Solid H.primitiv
       let v : function_number (value_made T rs (numbered n)) ≡ new_number T rs a_function n = ap (λ o. function_number (numbered_value T rs n o)) e in
       (_, ap (slice_get X.functions) v ∙ function_there n (function_record code h.0) _ h.1 refl, refl)
   code_there (permanent a_function key) code h = (h.1, ap (λ v. slice_get X.functions (function_number v)) h.2 ∙ get_push_old V.functions (chosen (function_made T rs) rs) h.0 h.1 h.3, h.4)
-  code_there (permanent a_table key) code h = absurd h
-  code_there (permanent a_coroutine key) code h = absurd h
-  code_there (plain p) code h = absurd h
-  code_there environment code h = absurd h
+  code_there _ code h = absurd h
 
   waits_same : (w : Wait Item) (op : Opcode) (i : Instruction) → waits_at (wait_made T rs w) op i ≡ waits_at w op i
   waits_same running op i = refl
-  waits_same for_call op i = refl
-  waits_same for_iterator op i = refl
-  waits_same for_value op i = refl
-  waits_same for_truth op i = refl
-  waits_same dropped op i = refl
-  waits_same (for_concat n) op i = refl
-  waits_same for_close op i = refl
-  waits_same (returning n) op i = refl
-  waits_same (leaving e) op i = refl
+  waits_same _ op i = refl
 
   size_same : (w : Wait Item) (i : Instruction) (stack : ℕ) → waiting_size (wait_made T rs w) i stack ≡ waiting_size w i stack
   size_same running i stack = refl
-  size_same for_call i stack = refl
-  size_same for_iterator i stack = refl
-  size_same for_value i stack = refl
-  size_same for_truth i stack = refl
-  size_same dropped i stack = refl
-  size_same (for_concat n) i stack = refl
-  size_same for_close i stack = refl
-  size_same (returning n) i stack = refl
-  size_same (leaving e) i stack = refl
+  size_same _ i stack = refl
 
   kept_same : (w : Wait Item) (i : Instruction) (stack : ℕ) → kept_below (wait_made T rs w) i stack ≡ kept_below w i stack
   kept_same running i stack = refl
-  kept_same for_call i stack = refl
-  kept_same for_iterator i stack = refl
-  kept_same for_value i stack = refl
-  kept_same for_truth i stack = refl
-  kept_same dropped i stack = refl
-  kept_same (for_concat n) i stack = refl
-  kept_same for_close i stack = refl
-  kept_same (returning n) i stack = refl
-  kept_same (leaving e) i stack = refl
+  kept_same _ i stack = refl
 
   size_most : (w : Wait Item) (i : Instruction) (stack : ℕ) → stack ≤ waiting_size w i stack
   size_most running i stack = omega arith
-  size_most for_call i stack = omega arith
-  size_most for_iterator i stack = omega arith
-  size_most for_value i stack = omega arith
-  size_most for_truth i stack = omega arith
-  size_most dropped i stack = omega arith
-  size_most (for_concat n) i stack = omega arith
-  size_most for_close i stack = omega arith
-  size_most (returning n) i stack = omega arith
-  size_most (leaving e) i stack = omega arith
+  size_most _ i stack = omega arith
 
   wait_ok : (w : Wait Item) → WaitFits H w → WaitOk z (wait_made T rs w)
-  wait_ok running h = tt
-  wait_ok for_call h = tt
-  wait_ok for_iterator h = tt
-  wait_ok for_value h = tt
-  wait_ok for_truth h = tt
-  wait_ok dropped h = tt
-  wait_ok (for_concat n) h = tt
-  wait_ok for_close h = tt
-  wait_ok (returning n) h = tt
   wait_ok (leaving e) h = item_valid e h
+  wait_ok _ h = tt
 
   map_length : {A B : Type 0} (f : A → B) (xs : List A) → length (map f xs) ≡ length xs
   map_length f [] = refl
@@ -310,10 +229,7 @@ module _ (H : Host) (target : IsTarget H.target H.world) (old : Solid H.primitiv
 
   frame_waits : (f : FrameItem) → FrameFits H f → FrameWaits z (frame_made T rs f)
   frame_waits (lua_item f) h = lua_waits f h
-  frame_waits pcall_item h = tt
-  frame_waits (xpcall_item i) h = tt
-  frame_waits handler_item h = tt
-  frame_waits (closing_item e left) h = tt
+  frame_waits _ h = tt
 
   coroutine_ok : (n : ℕ) (r : Record) (c : Coroutine) → slice_get rs n ≡ Some r → coroutine_made T rs r ≡ Some c → CoroutineOk z c
   coroutine_ok n (fresh_record i) c h e = let k = ok.records n (fresh_record i) h in subst (CoroutineOk z) (some_is refl e) (item_valid i k.0, k.1)
@@ -327,11 +243,7 @@ module _ (H : Host) (target : IsTarget H.target H.world) (old : Solid H.primitiv
       })
   coroutine_ok n dead_record c h e = subst (CoroutineOk z) (some_is refl e) tt
   coroutine_ok n (failed_record x vs) c h e = let k = ok.records n (failed_record x vs) h in subst (CoroutineOk z) (some_is refl e) (item_valid x k.0, items_valid vs k.1)
-  coroutine_ok n (table_record rows m) c h e = absurd (cc)
-  coroutine_ok n (function_record code cs) c h e = absurd (cc)
-  coroutine_ok n (closed_record i) c h e = absurd (cc)
-  coroutine_ok n (open_record a b d) c h e = absurd (cc)
-  coroutine_ok n no_record c h e = absurd (cc)
+  coroutine_ok n _ c h e = absurd (cc)
 
   -- cells
   registers_there : (co frame register : ℕ) → OpenFits H co frame register → register < registers_of X.coroutines (new_number T rs a_coroutine co) frame
@@ -347,13 +259,7 @@ module _ (H : Host) (target : IsTarget H.target H.world) (old : Solid H.primitiv
   cell_ok : (n : ℕ) (r : Record) (c : Cell) → slice_get rs n ≡ Some r → cell_made T rs r ≡ Some c → CellOk z X.coroutines c
   cell_ok n (closed_record i) c h e = subst (CellOk z X.coroutines) (some_is refl e) (item_valid i (ok.records n (closed_record i) h))
   cell_ok n (open_record co f r) c h e = subst (CellOk z X.coroutines) (some_is refl e) (registers_there co f r (ok.records n (open_record co f r) h))
-  cell_ok n (table_record rows m) c h e = absurd (cc)
-  cell_ok n (function_record code cs) c h e = absurd (cc)
-  cell_ok n (fresh_record i) c h e = absurd (cc)
-  cell_ok n (suspended_record fs) c h e = absurd (cc)
-  cell_ok n dead_record c h e = absurd (cc)
-  cell_ok n (failed_record x vs) c h e = absurd (cc)
-  cell_ok n no_record c h e = absurd (cc)
+  cell_ok n _ c h e = absurd (cc)
 
   registers_old : (co frame register : ℕ) → register < registers_of V.coroutines co frame → (co < length V.coroutines) × (registers_of X.coroutines co frame ≡ registers_of V.coroutines co frame)
   registers_old co frame register h = go (slice_get V.coroutines co) refl h
@@ -404,11 +310,7 @@ module _ (H : Host) (target : IsTarget H.target H.world) (old : Solid H.primitiv
   new_apart (suspended_record fs) c e = subst (λ c. standing c ≡ apart) (some_is refl e) refl
   new_apart dead_record c e = subst (λ c. standing c ≡ apart) (some_is refl e) refl
   new_apart (failed_record x vs) c e = subst (λ c. standing c ≡ apart) (some_is refl e) refl
-  new_apart (table_record rows m) c e = absurd (cc)
-  new_apart (function_record code cs) c e = absurd (cc)
-  new_apart (closed_record i) c e = absurd (cc)
-  new_apart (open_record a b d) c e = absurd (cc)
-  new_apart no_record c e = absurd (cc)
+  new_apart _ c e = absurd (cc)
 
   get_standing : (cs : List Coroutine) (co : ℕ) (c : Coroutine) → slice_get cs co ≡ Some c → slice_get (map standing cs) co ≡ Some (standing c)
   get_standing cs co c e = slice_get-map standing cs co ∙ ap (option_map standing) e

@@ -4,7 +4,7 @@ use Rattle.std.specs.Prelude.{slice_get, flat_map, unwrap_or}
 use Rattle.std.proofs.lemmas.Option.{slice_get_within}
 use Rattle.int_core.specs.Value.{nil, a_table, a_function, a_coroutine, Value, known, object, bind}
 use Rattle.int_core.specs.Heap.{Table}
-use Rattle.machine_core.specs.World.{Cell, closed, open_at, Wait, running, for_call, for_iterator, for_value, for_truth, dropped, for_concat, for_close, returning, leaving, Frame, lua, pcall, xpcall, handler, closing, Coroutine, fresh, suspended, in_progress, normal, dead, failed, World, frames_of, lua_frame, register_at}
+use Rattle.machine_core.specs.World.{Cell, closed, open_at, Wait, leaving, Frame, lua, pcall, xpcall, handler, closing, Coroutine, fresh, suspended, in_progress, normal, dead, failed, World, frames_of, lua_frame, register_at}
 use Rattle.machine_sound.specs.Sound.{Each, Sizes, sizes, Valid, OptionOk, TableOk, FunctionOk, WaitOk, FrameOk, CoroutineOk, registers_in, registers_of, CellOk, Solid, apart, standing}
 use Rattle.machine_sound.proofs.Lists.{get_there}
 use Rattle.machine_sound.proofs.NewCoroutines.{coroutine_within}
@@ -97,16 +97,8 @@ module _ (n : ℕ) (W : World) (s : Solid n W) where
   cells_ok (c ∷ cs) h = (h 0 c refl, cells_ok cs (λ i x e. h (suc i) x e))
 
   wait_ok : (w : Wait Value) → WaitOk z w → Every FieldOk (wait_fields w)
-  wait_ok running h = tt
-  wait_ok for_call h = tt
-  wait_ok for_iterator h = tt
-  wait_ok for_value h = tt
-  wait_ok for_truth h = tt
-  wait_ok dropped h = tt
-  wait_ok (for_concat k) h = tt
-  wait_ok for_close h = tt
-  wait_ok (returning k) h = tt
   wait_ok (leaving e) h = (h, tt)
+  wait_ok _ h = tt
 
   error_ok : (e : Option Value) → OptionOk (Valid z) e → Every FieldOk (error_fields e)
   error_ok None h = tt
@@ -200,12 +192,9 @@ module _ (n : ℕ) (W : World) (s : Solid n W) where
     N = naming W name roots
 
     kind_of_coroutine : (c : Coroutine) → standing c ≡ apart → kind_in (record_of_coroutine N c) ≡ Some a_coroutine
-    kind_of_coroutine (fresh b) h = refl
-    kind_of_coroutine (suspended fs) h = refl
     kind_of_coroutine (in_progress fs) h = absurd (cc)
     kind_of_coroutine (normal fs) h = absurd (cc)
-    kind_of_coroutine dead h = refl
-    kind_of_coroutine (failed e vs) h = refl
+    kind_of_coroutine _ h = refl
 
     cell_of : (c : Cell) → is_cell (record_of_cell N W c) ≡ true
     cell_of (closed v) = refl

@@ -1,7 +1,7 @@
 -- The reader goes by the objects of keys.
 use Rattle.std.proofs.Common.{ℕ, ◌≡◌, true, List, refl, ap, ◌∙◌, sym, arith}
 use Rattle.std.specs.Prelude.{nat_eq}
-use Rattle.int_core.specs.Value.{nil, boolean, integer, string, primitive, Value, known, object}
+use Rattle.int_core.specs.Value.{primitive, Value, known}
 use Rattle.int_core.proofs.Equality.{value_is}
 use Rattle.chunk_check.proofs.Exact.{no_fault_in_checked}
 use Rattle.image_core.specs.Image.{Perm, Item, plain, numbered, permanent, environment}
@@ -15,12 +15,8 @@ use Rattle.session_images.specs.Permanents.{base_permanents}
 use Rattle.images_joined.specs.Law.{ReaderKnows, SessionReaderKnows}
 
 same_sort : (v : Value) → sort_of_object v ≡ object_sort v
-same_sort (known nil) = refl
-same_sort (known (boolean b)) = refl
-same_sort (known (integer n)) = refl
-same_sort (known (string s)) = refl
 same_sort (known (primitive n)) = refl
-same_sort (object kind n) = refl
+same_sort _ = refl
 
 abbrev key_becomes : RowKey → Becomes
 key_becomes (of_value v) = a_value v

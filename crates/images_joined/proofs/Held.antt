@@ -1,7 +1,7 @@
 -- Where nothing is refused, each field without a name is held.
 use Rattle.std.proofs.Common.{◌≡◌, List, [], ◌∷◌, Option, Some, None, refl, sym, ap, ◌∙◌, Bool, true, false, cond}
 use Rattle.code_core.specs.Writable.{signed_fits}
-use Rattle.int_core.specs.Value.{nil, boolean, integer, string, primitive, Value, known, object}
+use Rattle.int_core.specs.Value.{integer, primitive, Value, known}
 use Rattle.machine_core.specs.World.{World}
 use Rattle.machine_sound.specs.Sound.{Each}
 use Rattle.image_core.specs.Image.{Item}
@@ -16,16 +16,13 @@ module _ (W : World) (name : Value → Option Item) where
   both_none (Some c) b h = absurd (cc)
 
   value_held : (v : Value) → unnamed_refusal W v ≡ None → IsHeld v
-  value_held (known nil) h = tt
-  value_held (known (boolean b)) h = tt
   value_held (known (integer n)) h = by (signed_fits 63 n) h
     where
       by : (b : Bool) → cond b None (Some beyond) ≡ None → b ≡ true
       by true h = refl
       by false h = absurd (cc)
-  value_held (known (string s)) h = tt
   value_held (known (primitive n)) h = absurd (cc)
-  value_held (object kind n) h = tt
+  value_held _ h = tt
 
   field_held : (f : Field) → field_refusal W name f ≡ None → FieldIsHeld name f
   field_held (of_value v) h = λ e. value_held v (unless_none e h)

@@ -10,7 +10,7 @@ use Rattle.code_core.specs.Check.{at}
 use Rattle.code_core.specs.Prototype.{Prototype}
 use Rattle.int_core.specs.Heap.{Table}
 use Rattle.int_core.specs.Value.{a_table, a_function, a_coroutine, Value, object, bind}
-use Rattle.machine_core.specs.World.{Function, Cell, closed, open_at, Wait, running, for_call, for_iterator, for_value, for_truth, dropped, for_concat, for_close, returning, leaving, LuaFrame, Frame, lua, pcall, xpcall, handler, closing, Coroutine, fresh, suspended, in_progress, normal, dead, failed, World, frames_of, lua_frame}
+use Rattle.machine_core.specs.World.{Function, Cell, closed, open_at, Wait, running, LuaFrame, Frame, lua, pcall, xpcall, handler, closing, Coroutine, fresh, suspended, in_progress, normal, dead, failed, World, frames_of, lua_frame}
 use Rattle.machine_sound.specs.Sound.{Each, sizes, FrameOk, LuaOk, waits_at, waiting_size, kept_below, LuaWaits, FrameWaits, CoroutineOk, registers_in, registers_of, CellOk, Solid}
 use Rattle.machine_sound.proofs.Lists.{get_map}
 use Rattle.image_core.specs.Visit.{IsMet, greatest_count}
@@ -50,18 +50,11 @@ all_below (r ∷ rs) n h = and_true (nat_lt r n) (list_all (λ r. nat_lt r n) rs
 
 -- which records are open cells
 open_is : (k frame register : ℕ) (r : Record) → is_open_record k frame register r ≡ true → r ≡ open_record k frame register
-open_is k frame register (table_record rows m) h = absurd (cc)
-open_is k frame register (function_record code cells) h = absurd (cc)
-open_is k frame register (closed_record i) h = absurd (cc)
 open_is k frame register (open_record c f g) h =
     let a = and_parts (nat_eq k c) (nat_eq frame f && nat_eq register g) h in
     let b = and_parts (nat_eq frame f) (nat_eq register g) a.1 in
     sym (ap (λ x. open_record x frame register) (equal_so k c a.0) ∙ (ap (λ x. open_record c x register) (equal_so frame f b.0) ∙ ap (λ x. open_record c f x) (equal_so register g b.1)))
-open_is k frame register (fresh_record body) h = absurd (cc)
-open_is k frame register (suspended_record frames) h = absurd (cc)
-open_is k frame register dead_record h = absurd (cc)
-open_is k frame register (failed_record e pending) h = absurd (cc)
-open_is k frame register no_record h = absurd (cc)
+open_is k frame register _ h = absurd (cc)
 
 module _ (W : World) (perms : List Perm) (roots : List Value) (R : Reader) (primitives : ℕ) (are : ArePermanents perms) (knows : Knows W.prelude_environment perms R)
     (few : slice_get (parts_in_order W (name W perms roots) roots) greatest_count ≡ None)
@@ -116,39 +109,15 @@ module _ (W : World) (perms : List Perm) (roots : List Value) (R : Reader) (prim
 
     waits_item : (w : Wait Value) (op : Opcode) (i : Instruction) → waits_at (wait_item N w) op i ≡ waits_at w op i
     waits_item running op i = refl
-    waits_item for_call op i = refl
-    waits_item for_iterator op i = refl
-    waits_item for_value op i = refl
-    waits_item for_truth op i = refl
-    waits_item dropped op i = refl
-    waits_item (for_concat n) op i = refl
-    waits_item for_close op i = refl
-    waits_item (returning n) op i = refl
-    waits_item (leaving e) op i = refl
+    waits_item _ op i = refl
 
     size_item : (w : Wait Value) (i : Instruction) (stack : ℕ) → waiting_size (wait_item N w) i stack ≡ waiting_size w i stack
     size_item running i stack = refl
-    size_item for_call i stack = refl
-    size_item for_iterator i stack = refl
-    size_item for_value i stack = refl
-    size_item for_truth i stack = refl
-    size_item dropped i stack = refl
-    size_item (for_concat n) i stack = refl
-    size_item for_close i stack = refl
-    size_item (returning n) i stack = refl
-    size_item (leaving e) i stack = refl
+    size_item _ i stack = refl
 
     kept_item : (w : Wait Value) (i : Instruction) (stack : ℕ) → kept_below (wait_item N w) i stack ≡ kept_below w i stack
     kept_item running i stack = refl
-    kept_item for_call i stack = refl
-    kept_item for_iterator i stack = refl
-    kept_item for_value i stack = refl
-    kept_item for_truth i stack = refl
-    kept_item dropped i stack = refl
-    kept_item (for_concat n) i stack = refl
-    kept_item for_close i stack = refl
-    kept_item (returning n) i stack = refl
-    kept_item (leaving e) i stack = refl
+    kept_item _ i stack = refl
 
     lua_fit : (f : LuaFrame) → LuaOk (sizes primitives W) f → LuaWaits (sizes primitives W) f → FieldMet (of_value (object a_function f.function)) → lua_fits code_named Rs (lua_frame_item N f) ≡ true
     lua_fit f h w m =
@@ -169,10 +138,7 @@ module _ (W : World) (perms : List Perm) (roots : List Value) (R : Reader) (prim
 
     frame_fit : (f : Frame) → FrameOk (sizes primitives W) f → FrameWaits (sizes primitives W) f → Every FieldMet (frame_fields f) → frame_fits code_named Rs (frame_item N f) ≡ true
     frame_fit (lua f) h w m = lua_fit f h w m.0
-    frame_fit pcall h w m = refl
-    frame_fit (xpcall v) h w m = refl
-    frame_fit handler h w m = refl
-    frame_fit (closing e left) h w m = refl
+    frame_fit _ h w m = refl
 
     frames_fit : (fs : List Frame) → Each (FrameOk (sizes primitives W)) fs → Each (FrameWaits (sizes primitives W)) fs → Every FieldMet (flat_map frame_fields fs) → list_all (frame_fits code_named Rs) (map (frame_item N) fs) ≡ true
     frames_fit [] h w m = refl
@@ -182,12 +148,8 @@ module _ (W : World) (perms : List Perm) (roots : List Value) (R : Reader) (prim
         (frames_fit fs (λ i x e. h (suc i) x e) (λ i x e. w (suc i) x e) g.1)
 
     coroutine_fit : (c : Coroutine) → CoroutineOk (sizes primitives W) c → Every FieldMet (coroutine_fields c) → record_fits code_named Rs (record_of_coroutine N c) ≡ true
-    coroutine_fit (fresh body) h m = refl
     coroutine_fit (suspended fs) h m = frames_fit fs h.right.each h.waits m
-    coroutine_fit (in_progress fs) h m = refl
-    coroutine_fit (normal fs) h m = refl
-    coroutine_fit dead h m = refl
-    coroutine_fit (failed e pending) h m = refl
+    coroutine_fit _ h m = refl
 
     -- open cells
 
@@ -290,11 +252,7 @@ module _ (W : World) (perms : List Perm) (roots : List Value) (R : Reader) (prim
 
     no_coroutine_opens : (c : Coroutine) (k frame register : ℕ) → record_of_coroutine N c ≡ open_record k frame register → ⊥
     no_coroutine_opens (fresh body) k frame register e = cc
-    no_coroutine_opens (suspended fs) k frame register e = cc
-    no_coroutine_opens (in_progress fs) k frame register e = cc
-    no_coroutine_opens (normal fs) k frame register e = cc
-    no_coroutine_opens dead k frame register e = cc
-    no_coroutine_opens (failed v vs) k frame register e = cc
+    no_coroutine_opens _ k frame register e = cc
 
     opens_as : (o : Part) → Met o → (k frame register : ℕ) → record_of N W o ≡ open_record k frame register → OpensAs o k frame register
     opens_as (an_object a_table n) m k frame register e = absurd (by (slice_get W.heap.tables n) e)

@@ -18,11 +18,11 @@ use Rattle.int_core.specs.Value.{nil, boolean, integer, string, primitive, Plain
 use Rattle.int_core.specs.Operations.{is_function}
 use Rattle.int_core.proofs.Equality.{value_is, value_self}
 use Rattle.machine_core.specs.Text.{behind}
-use Rattle.machine_core.specs.World.{Function, Cell, closed, open_at, Wait, running, for_call, for_iterator, for_value, for_truth, dropped, for_concat, for_close, returning, leaving, LuaFrame, Frame, lua, pcall, xpcall, handler, closing, Coroutine, fresh, suspended, in_progress, normal, dead, failed, World, frames_of, lua_frame}
+use Rattle.machine_core.specs.World.{Function, Cell, closed, open_at, Wait, running, returning, leaving, LuaFrame, Frame, lua, pcall, xpcall, handler, closing, Coroutine, fresh, suspended, in_progress, normal, dead, failed, World, frames_of, lua_frame}
 use Rattle.machine_sound.specs.Sound.{Each, Sizes, sizes, Valid, OptionOk, TableOk, FunctionOk, WaitOk, LuaOk, FrameOk, waits_at, waiting_size, LuaWaits, FrameWaits, AllWait, CoroutineOk, registers_in, registers_of, CellOk, Solid}
 use Rattle.machine_sound.proofs.Lists.{get_map, map_get}
 use Rattle.image_core.specs.Visit.{IsMet, greatest_count}
-use Rattle.image_core.specs.Image.{PermKey, Perm, Item, plain, numbered, permanent, environment, Record, table_record, function_record, closed_record, open_record, fresh_record, suspended_record, dead_record, failed_record, no_record}
+use Rattle.image_core.specs.Image.{PermKey, Perm, Item, plain, numbered, permanent, environment, Record, closed_record, open_record, suspended_record, no_record}
 use Rattle.image_core.specs.Numbers.{item_numbers}
 use Rattle.image_core.specs.Records.{Part, an_object, a_cell, same_part, Field, of_value, of_cell, of_coroutine, row_fields, metatable_value, table_fields, wait_fields, error_fields, frame_fields, coroutine_fields, present, cell_fields, if_there, fields, key_of, sort_of, value_parts, unless_named, field_parts, parts, is_reached, parts_in_order, Naming, naming, unnamed_item, or_item, item, wait_item, lua_frame_item, frame_item, row_item, record_of_table, record_of_function, record_of_coroutine, record_of_cell, or_none, record_of}
 use Rattle.image_core.specs.Loading.{kind_in, is_cell}
@@ -108,26 +108,15 @@ kind_byte a_function = 2
 kind_byte a_coroutine = 4
 
 pub kind_sort : (r : Record) (kind : Kind) → kind_in r ≡ Some kind → sort_byte r ≡ kind_byte kind
-kind_sort (table_record rows m) kind e = ap kind_byte (some_so e)
-kind_sort (function_record code cells) kind e = ap kind_byte (some_so e)
 kind_sort (closed_record i) kind e = absurd (none_some kind e)
 kind_sort (open_record co frame register) kind e = absurd (none_some kind e)
-kind_sort (fresh_record body) kind e = ap kind_byte (some_so e)
-kind_sort (suspended_record frames) kind e = ap kind_byte (some_so e)
-kind_sort dead_record kind e = ap kind_byte (some_so e)
-kind_sort (failed_record i pending) kind e = ap kind_byte (some_so e)
 kind_sort no_record kind e = absurd (none_some kind e)
+kind_sort _ kind e = ap kind_byte (some_so e)
 
 pub cell_sort : (r : Record) → is_cell r ≡ true → sort_byte r ≡ 3
-cell_sort (table_record rows m) e = absurd (cc)
-cell_sort (function_record code cells) e = absurd (cc)
 cell_sort (closed_record i) e = refl
 cell_sort (open_record co frame register) e = refl
-cell_sort (fresh_record body) e = absurd (cc)
-cell_sort (suspended_record frames) e = absurd (cc)
-cell_sort dead_record e = absurd (cc)
-cell_sort (failed_record i pending) e = absurd (cc)
-cell_sort no_record e = absurd (cc)
+cell_sort _ e = absurd (cc)
 
 object_wanted : (kind : Kind) → list_any (nat_eq (kind_byte kind)) (1 ∷ 2 ∷ 4 ∷ []) ≡ true
 object_wanted a_table = refl
@@ -237,12 +226,9 @@ module _ (W : World) (perms : List Perm) (roots : List Value) (R : Reader) (prim
     -- which values may stand at a place
 
     nil_is_no_object : (v : Value) → IsObject v → known nil ≡ v → ⊥
-    nil_is_no_object (known nil) h e = h
-    nil_is_no_object (known (boolean b)) h e = h
-    nil_is_no_object (known (integer n)) h e = h
-    nil_is_no_object (known (string s)) h e = h
     nil_is_no_object (known (primitive n)) h e = absurd (cc)
     nil_is_no_object (object kind n) h e = absurd (cc)
+    nil_is_no_object _ h e = h
 
     nil_unnamed : (i : Item) → Named W.prelude_environment perms (known nil) i → ⊥
     nil_unnamed i (by_environment h) = absurd (cc)
@@ -483,15 +469,9 @@ module _ (W : World) (perms : List Perm) (roots : List Value) (R : Reader) (prim
 
         wait_stands : (wait : Wait Value) (op : Opcode) (w : Instruction) (stack size : ℕ) → IsTrue (waits_at wait op w) → size ≡ waiting_size wait w stack → WaitOk z wait → Every FieldGood (wait_fields wait) → WaitStands Now size (wait_item N wait)
         wait_stands running op w stack size h s k g = absurd (cc)
-        wait_stands for_call op w stack size h s k g = tt
-        wait_stands for_iterator op w stack size h s k g = tt
-        wait_stands for_value op w stack size h s k g = tt
-        wait_stands for_truth op w stack size h s k g = tt
-        wait_stands dropped op w stack size h s k g = tt
-        wait_stands (for_concat left) op w stack size h s k g = tt
-        wait_stands for_close op w stack size h s k g = tt
         wait_stands (returning count) op w stack size h s k g = returned_few stack (a_of w) count size s
         wait_stands (leaving e) op w stack size h s k g = item_stands e (value_good e k g.0)
+        wait_stands _ op w stack size h s k g = tt
 
         small_all : (rs : List ℕ) (stack : ℕ) → stack < 2 ^ 32 → Each (λ r. r < stack) rs → Every (λ r. r < 2 ^ 32) rs
         small_all [] stack h k = tt

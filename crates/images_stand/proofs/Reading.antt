@@ -1,7 +1,7 @@
 -- A reader that goes by the objects of keys knows the permanents.
 use Rattle.std.proofs.Common.{ℕ, zero, suc, ◌≡◌, Bool, true, false, cond, List, [], ◌∷◌, Some, refl, subst, sym, ap, ◌∙◌}
 use Rattle.std.specs.Prelude.{slice_get, option_map}
-use Rattle.int_core.specs.Value.{nil, boolean, integer, string, primitive, Plain, Kind, a_table, Value, known, object}
+use Rattle.int_core.specs.Value.{primitive, Plain, Kind, a_table, Value, known, object}
 use Rattle.int_core.proofs.Equality.{value_self}
 use Rattle.image_core.specs.Image.{PermKey, Perm, Item, plain, numbered, permanent, environment}
 use Rattle.image_core.specs.Records.{key_of, sort_of, named}
@@ -36,12 +36,9 @@ module _ (env : ℕ) (perms : List Perm) (are : ArePermanents perms) where
   object_of_key i p e = object_is perms are.once i p e
 
   sort_is : (v : Value) → IsObject v → object_sort v ≡ Some (sort_of v)
-  sort_is (known nil) h = absurd h
-  sort_is (known (boolean b)) h = absurd h
-  sort_is (known (integer n)) h = absurd h
-  sort_is (known (string s)) h = absurd h
   sort_is (known (primitive n)) h = refl
   sort_is (object kind n) h = refl
+  sort_is _ h = absurd h
 
   -- the value that stands as a permanent
   record StandsFor (kind : Kind) (key : PermKey) : Type 0 where
@@ -71,11 +68,8 @@ module _ (env : ℕ) (perms : List Perm) (are : ArePermanents perms) where
   plain_so e = cc
 
   no_object : (p : Plain) → PlainIsHeld p → IsObject (known p) → ⊥
-  no_object nil h k = k
-  no_object (boolean b) h k = k
-  no_object (integer n) h k = k
-  no_object (string s) h k = k
   no_object (primitive n) h k = h
+  no_object _ h k = k
 
   item_so : {i j : Item} → Some i ≡ Some j → i ≡ j
   item_so e = cc

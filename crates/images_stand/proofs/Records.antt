@@ -182,15 +182,7 @@ module _ (R : Reader) where
 
   numbered_wait : (size : ℕ) (w : Wait Item) → WaitStands size w → nat_le (wait_number R w) 8 ≡ true
   numbered_wait size running h = absurd h
-  numbered_wait size for_call h = refl
-  numbered_wait size for_iterator h = refl
-  numbered_wait size for_value h = refl
-  numbered_wait size for_truth h = refl
-  numbered_wait size dropped h = refl
-  numbered_wait size (for_concat left) h = refl
-  numbered_wait size for_close h = refl
-  numbered_wait size (returning count) h = refl
-  numbered_wait size (leaving e) h = refl
+  numbered_wait size _ h = refl
 
   words_walk : {count : ℕ} (ns : List ℕ) → Every (λ n. n < 2 ^ 32) ns → Walks count (list word) ns []
   words_walk {count = count} ns h = walks_as (quiet ns) (list_walks word (λ _. []) ns word_costs (every_on (λ n. n < 2 ^ 32) (λ n. Walks count word n []) word_walks ns h))

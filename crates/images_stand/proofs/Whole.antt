@@ -3,7 +3,7 @@ use Rattle.std.proofs.Common.{arith, ℕ, ◌+◌, ◌<◌, ◌≤◌, ◌^◌, 
 use Rattle.std.specs.Prelude.{nat_le, nat_lt, ◌&&◌}
 use Rattle.std.proofs.lemmas.List.{length-map}
 use Rattle.int_core.specs.Value.{bind}
-use Rattle.image_core.specs.Image.{Record, table_record, function_record, closed_record, open_record, fresh_record, suspended_record, dead_record, failed_record, no_record, Image}
+use Rattle.image_core.specs.Image.{Record, no_record, Image}
 use Rattle.image_core.specs.Numbers.{walk, walk_records, item_numbers, items_numbers, record_numbers}
 use Rattle.image_core.proofs.Lists.{Every}
 use Rattle.image_bytes.specs.Format.{Format, of_kind, byte, word, followed, tested, case, spell_all, times, list_by}
@@ -27,15 +27,8 @@ is_sort_byte s = nat_lt 0 s && nat_le s 4
 
 module _ (R : Reader) where
   sort_is : (r : Record) → RecordStands R r → is_sort_byte (sort_byte r) ≡ true
-  sort_is (table_record rows m) h = refl
-  sort_is (function_record code cells) h = refl
-  sort_is (closed_record i) h = refl
-  sort_is (open_record co frame register) h = refl
-  sort_is (fresh_record body) h = refl
-  sort_is (suspended_record frames) h = refl
-  sort_is dead_record h = refl
-  sort_is (failed_record e pending) h = refl
   sort_is no_record h = absurd h
+  sort_is _ h = refl
 
   sorts_walk : (rs : List Record) → Every (RecordStands R) rs → Every (λ s. Walks 0 (tested is_sort_byte (λ _. of_kind 5) byte) s []) (map sort_byte rs)
   sorts_walk [] h = tt

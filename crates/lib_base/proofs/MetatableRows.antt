@@ -7,7 +7,7 @@ use Rattle.library_rows.specs.Base.{gets_metatable, is_table_or_nil, sets_metata
 use Rattle.library_rows.specs.Look.{read, written, Step, does_op, no_word, Look, gives, refuses, does, Done, done, refused, looked, look, read_field, read_metatable, write_metatable}
 use Rattle.table_core.specs.declared.value.TableId.{TableId}
 use Rattle.table_core.specs.declared.value.Value.{Value as Kept}
-use Rattle.table_core.specs.declared.value.Value.TheVariants.{Nil, Bool as Boolean, Int, Str, Prim, Table, Func, Coro}
+use Rattle.table_core.specs.declared.value.Value.TheVariants.{Nil, Table}
 use Rattle.lua_heap.specs.declared.world.World.{World as Memory}
 use Rattle.lua_heap.specs.Reading.{value}
 use Rattle.lib_base.specs.Raw.{heap_of, Operates, table_or_nil}
@@ -15,23 +15,12 @@ use Rattle.lib_base.specs.Metatables.{field_or, IsMetatableArgument, IsNoMetatab
 
 present : (texts : List (List ℕ)) (v : Kept) → (v ≡ Nil → ⊥) → is_absent (shape (value texts v)) ≡ false
 present texts Nil h = absurd (h refl)
-present texts (Boolean b) h = refl
-present texts (Int n) h = refl
-present texts (Str id) h = refl
-present texts (Prim n) h = refl
-present texts (Table id) h = refl
-present texts (Func id) h = refl
-present texts (Coro id) h = refl
+present texts _ h = refl
 
 pub no_metatable : (texts : List (List ℕ)) (v : Kept) → ((id : TableId) → v ≡ Table id → ⊥) → (v ≡ Nil → ⊥) → is_table_or_nil (shape (value texts v)) ≡ false
 no_metatable texts Nil t h = absurd (h refl)
-no_metatable texts (Boolean b) t h = refl
-no_metatable texts (Int n) t h = refl
-no_metatable texts (Str id) t h = refl
-no_metatable texts (Prim n) t h = refl
 no_metatable texts (Table id) t h = absurd (t id refl)
-no_metatable texts (Func id) t h = refl
-no_metatable texts (Coro id) t h = refl
+no_metatable texts _ t h = refl
 
 pub metatable_value : (texts : List (List ℕ)) (v : Value) (m : Option TableId) → IsMetatableArgument v (Ok m) → v ≡ value texts (table_or_nil m)
 metatable_value texts v None h = h
@@ -62,13 +51,7 @@ module _ (W : Memory) (vs : List Value) where
 
   either_given : (m v : Kept) → looked (field (shape (value W.strings v))) (value W.strings v ∷ value W.strings m ∷ vs) (heap_of W) ≡ done (heap_of W) (value W.strings (field_or v m) ∷ [])
   either_given m Nil = refl
-  either_given m (Boolean b) = refl
-  either_given m (Int n) = refl
-  either_given m (Str id) = refl
-  either_given m (Prim n) = refl
-  either_given m (Table id) = refl
-  either_given m (Func id) = refl
-  either_given m (Coro id) = refl
+  either_given m _ = refl
 
   pub gets_metatable_is : (a m n v : Kept) → nth vs 0 ≡ value W.strings a → value W.strings n ≡ known (string (codes "__metatable")) →
       Operates read_metatable W (a ∷ []) W (m ∷ []) no_word → Operates read_field W (m ∷ n ∷ []) W (v ∷ []) no_word →

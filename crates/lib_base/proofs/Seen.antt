@@ -10,7 +10,7 @@ use Rattle.machine_sound.proofs.Outside.{heap_of as heap_ok}
 use Rattle.machine_sound.specs.Sound.{Each, OptionOk, Valid, Sizes, sizes}
 use Rattle.table_core.specs.declared.value.TableId.{TableId}
 use Rattle.table_core.specs.declared.value.Value.{Value as Kept}
-use Rattle.table_core.specs.declared.value.Value.TheVariants.{Nil, Bool as Boolean, Int, Str, Prim, Table, Func, Coro}
+use Rattle.table_core.specs.declared.value.Value.TheVariants.{Str, Table}
 use Rattle.lua_heap.specs.Law.{StringsAreThere}
 use Rattle.lua_heap.specs.Reading.{value}
 use Rattle.lua_heap.specs.declared.world.World.{World as Memory}
@@ -20,14 +20,8 @@ use Rattle.lib_base.specs.Raw.{heap_of, Operates}
 use Rattle.lib_base.specs.Shapes.{IsThere}
 
 pub there : StringsAreThere → (z : Sizes) (texts : List (List ℕ)) (v : Kept) → Valid z (value texts v) → IsThere texts v
-there law z texts Nil h = tt
-there law z texts (Boolean b) h = tt
-there law z texts (Int n) h = tt
 there law z texts (Str id) h = law z texts id h
-there law z texts (Prim n) h = tt
-there law z texts (Table id) h = tt
-there law z texts (Func id) h = tt
-there law z texts (Coro id) h = tt
+there law z texts _ h = tt
 
 pub nth_valid : (z : Sizes) (vs : List Value) → Each (Valid z) vs → (at : ℕ) → Valid z (nth vs at)
 nth_valid z vs h at = by (slice_get vs at) refl
@@ -37,14 +31,8 @@ nth_valid z vs h at = by (slice_get vs at) refl
     by (Some v) e = h at v e
 
 pub no_table : (texts : List (List ℕ)) (v : Kept) → ((id : TableId) → v ≡ Table id → ⊥) → is_table (shape (value texts v)) ≡ false
-no_table texts Nil h = refl
-no_table texts (Boolean b) h = refl
-no_table texts (Int n) h = refl
-no_table texts (Str id) h = refl
-no_table texts (Prim n) h = refl
 no_table texts (Table id) h = absurd (h id refl)
-no_table texts (Func id) h = refl
-no_table texts (Coro id) h = refl
+no_table texts _ h = refl
 
 pub or_nil_valid : (z : Sizes) (o : Option Value) → OptionOk (Valid z) o → Valid z (or_nil o)
 or_nil_valid z None h = tt

@@ -11,7 +11,7 @@ use Rattle.list_laws.proofs.Items.{append_nil}
 use Rattle.std.proofs.lemmas.List.Elements.{All-from_recursion, recursion_from_All}
 use Rattle.std.proofs.lemmas.List.Sorted.{All-permutation, IsPermutation-map}
 use Rattle.int_core.specs.Heap.{Heap, raw_get}
-use Rattle.int_core.specs.Value.{Plain, nil, boolean, integer, string, primitive, Value, known, object, a_table, a_function, a_coroutine, Shape, shape, nth, greatest_string}
+use Rattle.int_core.specs.Value.{Plain, nil, integer, string, Value, known, object, a_table, a_coroutine, Shape, shape, nth, greatest_string}
 use Rattle.library_rows.specs.Arguments.{bad_argument, is_absent, is_table, plain_of, wrong_type}
 use Rattle.library_rows.specs.Base.{can_be_sorted, is_string, reads_shapes, sorted, sorts, sorts_shapes, told_number, writes_sorted}
 use Rattle.library_rows.specs.Base as row
@@ -26,7 +26,7 @@ use Rattle.machine_sound.proofs.Outside.{heap_of as heap_ok}
 use Rattle.machine_sound.specs.Sound.{Sizes, Valid, sizes}
 use Rattle.table_core.specs.declared.value.TableId.{TableId}
 use Rattle.table_core.specs.declared.value.Value.{Value as Kept}
-use Rattle.table_core.specs.declared.value.Value.TheVariants.{Nil, Bool as Boolean, Int, Str, Prim, Table, Func, Coro}
+use Rattle.table_core.specs.declared.value.Value.TheVariants.{Nil, Int, Str}
 use Rattle.lua_heap.specs.Law.{StringsAreThere}
 use Rattle.lua_heap.specs.Plain.{plain}
 use Rattle.lua_heap.specs.Reading.{text_or, value}
@@ -45,23 +45,11 @@ use Rattle.lib_base.proofs.Sorted.{at_most, integers_sorted, rises_map, rises_of
 
 integer_seen : (texts : List (List ℕ)) (v : Kept) → row.is_integer (shape (value texts v)) ≡ is_integer v
 integer_seen texts Nil = refl
-integer_seen texts (Boolean b) = refl
-integer_seen texts (Int n) = refl
-integer_seen texts (Str id) = refl
-integer_seen texts (Prim n) = refl
-integer_seen texts (Table id) = refl
-integer_seen texts (Func id) = refl
-integer_seen texts (Coro id) = refl
+integer_seen texts _ = refl
 
 text_seen : (texts : List (List ℕ)) (v : Kept) → is_string (shape (value texts v)) ≡ is_text v
 text_seen texts Nil = refl
-text_seen texts (Boolean b) = refl
-text_seen texts (Int n) = refl
-text_seen texts (Str id) = refl
-text_seen texts (Prim n) = refl
-text_seen texts (Table id) = refl
-text_seen texts (Func id) = refl
-text_seen texts (Coro id) = refl
+text_seen texts _ = refl
 
 all_seen : (texts : List (List ℕ)) (f : Shape → Bool) (g : Kept → Bool) → ((v : Kept) → f (shape (value texts v)) ≡ g v) → (vs : List Kept) → list_all f (shapes_in texts vs) ≡ list_all g vs
 all_seen texts f g h [] = refl
@@ -116,14 +104,8 @@ second_of true c h = h
 second_of false c h = absurd (cc)
 
 integer_made : (texts : List (List ℕ)) (v : Kept) → is_integer v ≡ true → IsMade texts number_of integer v
-integer_made texts Nil e = absurd (cc)
-integer_made texts (Boolean b) e = absurd (cc)
 integer_made texts (Int n) e = refl
-integer_made texts (Str id) e = absurd (cc)
-integer_made texts (Prim n) e = absurd (cc)
-integer_made texts (Table id) e = absurd (cc)
-integer_made texts (Func id) e = absurd (cc)
-integer_made texts (Coro id) e = absurd (cc)
+integer_made texts _ e = absurd (cc)
 
 integers_made : (texts : List (List ℕ)) (vs : List Kept) → list_all is_integer vs ≡ true → AllByRecursion (IsMade texts number_of integer) vs
 integers_made texts [] e = tt
@@ -143,14 +125,8 @@ text_there : (texts : List (List ℕ)) (n : ℕ) → n < length texts → text_o
 text_there texts n h = let t = there_at texts n h in ap (text_or n) t.1 ∙ sym (ap (λ o. unwrap_or o []) t.1)
 
 text_made : (texts : List (List ℕ)) (v : Kept) → is_text v ≡ true → IsThere texts v → IsMade texts (bytes_of texts) string v
-text_made texts Nil e h = absurd (cc)
-text_made texts (Boolean b) e h = absurd (cc)
-text_made texts (Int n) e h = absurd (cc)
 text_made texts (Str id) e h = ap (λ t. known (string t)) (text_there texts id.0 h)
-text_made texts (Prim n) e h = absurd (cc)
-text_made texts (Table id) e h = absurd (cc)
-text_made texts (Func id) e h = absurd (cc)
-text_made texts (Coro id) e h = absurd (cc)
+text_made texts _ e h = absurd (cc)
 
 texts_made : (texts : List (List ℕ)) (vs : List Kept) → list_all is_text vs ≡ true → AreThere texts vs → AllByRecursion (IsMade texts (bytes_of texts) string) vs
 texts_made texts [] e h = tt
@@ -185,17 +161,12 @@ items_there law W arguments s t many vs e =
     all_there law (sizes s.primitives (plain W s.fuel)) W.strings vs (subst (AllValid (sizes s.primitives (plain W s.fuel))) (sym e) (items_valid W arguments s t many 1))
 
 plain_fits : (z : Sizes) (v : Value) → Valid z v → fits_length (plain_of (shape v)) ≡ true
-plain_fits z (known nil) h = refl
-plain_fits z (known (boolean b)) h = refl
-plain_fits z (known (integer n)) h = refl
 plain_fits z (known (string s)) h = within (length s) greatest_string h
   where
     within : (m n : ℕ) → m ≤ n → nat_le m n ≡ true
     within m n h = grind (arith, nat_tests)
-plain_fits z (known (primitive n)) h = refl
-plain_fits z (object a_table n) h = refl
-plain_fits z (object a_function n) h = refl
 plain_fits z (object a_coroutine n) h = refl
+plain_fits z _ h = refl
 
 all_fit : (z : Sizes) (vs : List Value) → AllValid z vs → list_all fits_length (map plain_of (map shape vs)) ≡ true
 all_fit z [] h = refl
@@ -277,13 +248,7 @@ module _ (vs : List Value) (H : Heap) (id : TableId) (e : nth vs 0 ≡ object a_
 
 pub no_nil : (texts : List (List ℕ)) (v : Kept) → (v ≡ Nil → ⊥) → is_absent (shape (value texts v)) ≡ false
 no_nil texts Nil h = absurd (h refl)
-no_nil texts (Boolean b) h = refl
-no_nil texts (Int n) h = refl
-no_nil texts (Str id) h = refl
-no_nil texts (Prim n) h = refl
-no_nil texts (Table id) h = refl
-no_nil texts (Func id) h = refl
-no_nil texts (Coro id) h = refl
+no_nil texts _ h = refl
 
 -- all of a list is put back
 pub put_back_whole : {A : Type 0} (old new : List A) (n : ℕ) → length new ≡ length old → n ≡ length old → take n (new ++ drop (length new) old) ≡ new

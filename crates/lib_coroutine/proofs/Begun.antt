@@ -8,7 +8,7 @@ use Rattle.machine_sound.proofs.Lists.{get_map, get_there}
 use Rattle.table_core.specs.declared.value.CoroId.{CoroId}
 use Rattle.table_core.specs.declared.value.FuncId.{FuncId}
 use Rattle.table_core.specs.declared.value.Value.{Value as Kept}
-use Rattle.table_core.specs.declared.value.Value.TheVariants.{Nil, Bool as Boolean, Int, Str, Prim, Table, Func, Coro}
+use Rattle.table_core.specs.declared.value.Value.TheVariants.{Prim, Func}
 use Rattle.lua_heap.specs.declared.world.Coro.TheVariants.{Fresh}
 use Rattle.lua_heap.specs.declared.world.World.{World as Memory}
 use Rattle.lua_heap.specs.Reading.{value}
@@ -23,14 +23,9 @@ no_true : false ≡ true → ⊥
 no_true e = cc
 
 one_of_both : (texts : List (List ℕ)) (v : Kept) → is_function (value texts v) ≡ true → ((id : FuncId) → v ≡ Func id → ⊥) → ((n : ℕ) → v ≡ Prim n → ⊥) → ⊥
-one_of_both texts Nil e f p = no_true e
-one_of_both texts (Boolean b) e f p = no_true e
-one_of_both texts (Int n) e f p = no_true e
-one_of_both texts (Str id) e f p = no_true e
 one_of_both texts (Prim n) e f p = p n refl
-one_of_both texts (Table id) e f p = no_true e
 one_of_both texts (Func id) e f p = f id refl
-one_of_both texts (Coro id) e f p = no_true e
+one_of_both texts _ e f p = no_true e
 
 -- the body of a coroutine of a sound world is a Lua function or a primitive
 pub body_is_function : {W : Memory} → IsSound W → (co : CoroId) (body : Kept) → slice_get W.coros.objects co.0 ≡ Some (Fresh body) → ((id : FuncId) → body ≡ Func id → ⊥) → ((n : ℕ) → body ≡ Prim n → ⊥) → ⊥

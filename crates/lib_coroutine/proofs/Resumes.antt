@@ -17,7 +17,7 @@ use Rattle.table_core.specs.declared.value.CoroId.{CoroId}
 use Rattle.table_core.specs.declared.value.Value.{Value as Kept}
 use Rattle.lua_stack.specs.Frames.{KeptStack, frames}
 use Rattle.lua_heap.specs.declared.world.Coro.{Coro}
-use Rattle.lua_heap.specs.declared.world.Coro.TheVariants.{Fresh, Suspended, Running, Normal, Dead, Failed}
+use Rattle.lua_heap.specs.declared.world.Coro.TheVariants.{Fresh, Suspended}
 use Rattle.lua_heap.specs.declared.world.World.{World as Memory}
 use Rattle.lua_heap.specs.Reading.{value}
 use Rattle.lua_heap.specs.Plain.{coroutine, plain}
@@ -64,10 +64,7 @@ not_resumed : (texts : List (List ℕ)) (W : World) (s : Stack) (co : ℕ) (c : 
     → resumes_in W s co (coroutine texts c) args ≡ made W [] (refused text)
 not_resumed texts W s co (Fresh body) args text e = too_many (nat_lt greatest_resumes (length W.chain)) text (resumption.Begins body) _ W e refl
 not_resumed texts W s co (Suspended stack) args text e = too_many (nat_lt greatest_resumes (length W.chain)) text resumption.GoesOn _ W e refl
-not_resumed texts W s co (Running stack) args text e = ap (λ t. made W [] (refused t)) (some_same _ _ e)
-not_resumed texts W s co (Normal stack) args text e = ap (λ t. made W [] (refused t)) (some_same _ _ e)
-not_resumed texts W s co Dead args text e = ap (λ t. made W [] (refused t)) (some_same _ _ e)
-not_resumed texts W s co (Failed v pending) args text e = ap (λ t. made W [] (refused t)) (some_same _ _ e)
+not_resumed texts W s co _ args text e = ap (λ t. made W [] (refused t)) (some_same _ _ e)
 
 answered : (V : World) (text : List ℕ) → run (after_resume (refused text)) (V.moving ++ [] ++ []) (with_moving V []) ≡ run hand_over ((V.moving ++ [] ++ []) ++ []) (with_moving V (known (boolean false) ∷ known (string text) ∷ []))
 answered V text = refl
@@ -209,10 +206,7 @@ begins_is (Suspended k) n body e = absurd (not_begun (nat_lt greatest_resumes n)
     not_begun : (b : Bool) (body : Kept) → cond b resumption.TooMany resumption.GoesOn ≡ resumption.Begins body → ⊥
     not_begun true body e = cc
     not_begun false body e = cc
-begins_is (Running k) n body e = absurd (cc)
-begins_is (Normal k) n body e = absurd (cc)
-begins_is Dead n body e = absurd (cc)
-begins_is (Failed v pending) n body e = absurd (cc)
+begins_is _ n body e = absurd (cc)
 
 pub goes_on_is : (c : Coro) (n : ℕ) → resumption_of c n ≡ resumption.GoesOn → (k : KeptStack) × (c ≡ Suspended k) × (n ≤ greatest_resumes)
 goes_on_is (Fresh v) n e = absurd (not_gone (nat_lt greatest_resumes n) v e)
@@ -221,10 +215,7 @@ goes_on_is (Fresh v) n e = absurd (not_gone (nat_lt greatest_resumes n) v e)
     not_gone true v e = cc
     not_gone false v e = cc
 goes_on_is (Suspended k) n e = (k, refl, few_told n (gone_told (nat_lt greatest_resumes n) e))
-goes_on_is (Running k) n e = absurd (cc)
-goes_on_is (Normal k) n e = absurd (cc)
-goes_on_is Dead n e = absurd (cc)
-goes_on_is (Failed v pending) n e = absurd (cc)
+goes_on_is _ n e = absurd (cc)
 
 -- worlds that differ in room alone, and what moves then
 

@@ -13,7 +13,7 @@ use Rattle.machine_core.specs.MachineStep.{can_call, create_row, creates, gives_
 use Rattle.machine_sound.proofs.Lists.{some_is}
 use Rattle.table_core.specs.declared.value.CoroId.{CoroId}
 use Rattle.table_core.specs.declared.value.Value.{Value as Kept}
-use Rattle.table_core.specs.declared.value.Value.TheVariants.{Nil, Bool as Boolean, Int, Str, Prim, Table, Func, Coro}
+use Rattle.table_core.specs.declared.value.Value.TheVariants.{Prim, Table, Func, Coro}
 use Rattle.lua_heap.specs.declared.world.World.{World as Memory}
 use Rattle.lua_heap.specs.Reading.{value}
 use Rattle.lua_heap.specs.Plain.{plain}
@@ -70,27 +70,17 @@ pub refuses : {old new : Memory} {ending : Ending} (row : Shape → ℕ → Row)
 refuses {old} row text same l = record { is = λ fuel. refused_is row text (plain old fuel) same ∙ (l []).is fuel }
 
 pub first_coroutine : (v : Kept) (co : CoroId) → coroutine_in v ≡ Some co → v ≡ Coro co
-first_coroutine Nil co e = absurd (cc)
-first_coroutine (Boolean b) co e = absurd (cc)
-first_coroutine (Int n) co e = absurd (cc)
-first_coroutine (Str id) co e = absurd (cc)
-first_coroutine (Prim n) co e = absurd (cc)
-first_coroutine (Table id) co e = absurd (cc)
-first_coroutine (Func id) co e = absurd (cc)
 first_coroutine (Coro id) co e = ap Coro (some_is {o = Some id} refl e)
+first_coroutine _ co e = absurd (cc)
 
 -- a first argument that is no coroutine
 module _ (row : Shape → ℕ → Row) (name : List ℕ) (plainly : (p : Plain) → row (is_known p) 0 ≡ not_coroutine name (is_known p)) (table : row (is_object a_table) 0 ≡ not_coroutine name (is_object a_table))
     (function : row (is_object a_function) 0 ≡ not_coroutine name (is_object a_function)) where
   pub wrong : (texts : List (List ℕ)) (v : Kept) → coroutine_in v ≡ None → row (shape (value texts v)) 0 ≡ blames (wrong_type 1 name (codes "coroutine") (shape (value texts v)))
-  wrong texts Nil e = plainly _
-  wrong texts (Boolean b) e = plainly _
-  wrong texts (Int n) e = plainly _
-  wrong texts (Str id) e = plainly _
-  wrong texts (Prim n) e = plainly _
   wrong texts (Table id) e = table
   wrong texts (Func id) e = function
   wrong texts (Coro id) e = absurd (cc)
+  wrong texts _ e = plainly _
 
 -- the first of the values that move, as it is read from them
 
@@ -161,24 +151,14 @@ behind_first [] vs = refl
 behind_first (v ∷ env) vs = behind_first env vs
 
 pub callable : (texts : List (List ℕ)) (v : Kept) → can_be_called v ≡ true → (can_call (shape (value texts v)) ≡ true) × (is_function (value texts v) ≡ true)
-callable texts Nil e = absurd (cc)
-callable texts (Boolean b) e = absurd (cc)
-callable texts (Int n) e = absurd (cc)
-callable texts (Str id) e = absurd (cc)
 callable texts (Prim n) e = (refl, refl)
-callable texts (Table id) e = absurd (cc)
 callable texts (Func id) e = (refl, refl)
-callable texts (Coro id) e = absurd (cc)
+callable texts _ e = absurd (cc)
 
 pub not_callable : (texts : List (List ℕ)) (v : Kept) → can_be_called v ≡ false → creates (shape (value texts v)) 0 ≡ blames (wrong_type 1 (codes "create") (codes "function") (shape (value texts v)))
-not_callable texts Nil e = refl
-not_callable texts (Boolean b) e = refl
-not_callable texts (Int n) e = refl
-not_callable texts (Str id) e = refl
 not_callable texts (Prim n) e = absurd (cc)
-not_callable texts (Table id) e = refl
 not_callable texts (Func id) e = absurd (cc)
-not_callable texts (Coro id) e = refl
+not_callable texts _ e = refl
 
 made_world : {V W : World} {a b : Value} → ◌≡◌ {A = Option (Made (Unit {0}))} (made V (a ∷ []) tt) (made W (b ∷ []) tt) → (V ≡ W) × (a ≡ b)
 made_world {V} {W} {a} {b} e =

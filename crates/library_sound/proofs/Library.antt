@@ -60,13 +60,8 @@ border_is H (Some n) = refl
 
 length_is : (vs : List Value) (H : Heap) (v : Value) → nth vs 0 ≡ v → looked (Base.size_of (shape v)) vs H ≡ done_as H (length_of H v)
 length_is vs H (object a_table n) e = ap (λ u. told H (border_in H u)) e ∙ border_is H (border_in H (object a_table n))
-length_is vs H (object a_function n) e = refl
-length_is vs H (object a_coroutine n) e = refl
-length_is vs H (known (string s)) e = refl
-length_is vs H (known nil) e = refl
-length_is vs H (known (boolean b)) e = refl
-length_is vs H (known (integer n)) e = refl
 length_is vs H (known (primitive n)) e = refl
+length_is vs H _ e = refl
 
 border_there : (o : Option ℕ) → AllThere count (border_row o)
 border_there None = each_one (IsThere count) nil tt
@@ -74,13 +69,8 @@ border_there (Some n) = each_one (IsThere count) (integer (pos n)) tt
 
 length_there : (H : Heap) (v : Value) → AllThere count (length_of H v)
 length_there H (object a_table n) = border_there (border_in H (object a_table n))
-length_there H (object a_function n) = tt
-length_there H (object a_coroutine n) = tt
 length_there H (known (string s)) = each_one (IsThere count) (integer (pos (length s))) tt
-length_there H (known nil) = tt
-length_there H (known (boolean b)) = tt
-length_there H (known (integer n)) = tt
-length_there H (known (primitive n)) = tt
+length_there H _ = tt
 
 length_good : PrimitiveGood count (look_row Base.raw_length)
 length_good = steady_good count Base.raw_length (λ vs H. length_of H (nth vs 0)) (λ vs H. length_is vs H (nth vs 0) refl) (λ vs H. length_there H (nth vs 0))

@@ -2,7 +2,7 @@
 use Rattle.std.proofs.Common.{ℕ, zero, suc, ◌+◌, ◌-◌, List, [], ◌∷◌, ◌++◌, map, length, Option, Some, None, Bool, true, false, Result, Ok, Err}
 use Rattle.std.specs.Prelude.{◌*◌, ℤ, pos, negsuc, cond, int_lt, nat_lt, nat_le, drop, ◌<◌, ◌==◌, ◌||◌, slice_index, codes}
 use Rattle.std.specs.List.{repeat}
-use Rattle.int_core.specs.Value.{Plain, nil, boolean, integer, string, primitive, Shape, is_known, is_object, holds, greatest_string}
+use Rattle.int_core.specs.Value.{Plain, nil, integer, string, primitive, Shape, is_known, holds, greatest_string}
 use Rattle.lua_pattern.specs.declared.answer.Capture.{Capture}
 use Rattle.lua_pattern.specs.declared.answer.Capture.TheVariants.{Text, Position}
 use Rattle.library_rows.specs.Plainly.{Outcome, results, error, too_large}
@@ -79,22 +79,14 @@ module _ (n : ℕ) where
 
   to_integer : (s : Shape) → AllThere n (elim s as (λ _. Outcome) [ is_known p ↦ elim p as (λ _. Outcome) [ integer n ↦ one (integer n) | _ ↦ nothing ] | _ ↦ nothing ])
   to_integer (is_known (integer m)) = one_there (integer m) tt
-  to_integer (is_known nil) = nil_there
-  to_integer (is_known (boolean b)) = nil_there
-  to_integer (is_known (string s)) = nil_there
-  to_integer (is_known (primitive k)) = nil_there
-  to_integer (is_object kind) = nil_there
+  to_integer _ = nil_there
 
   pub tointeger_there : (ss : List Shape) → AllThere n (Integers.math_tointeger_row ss)
   tointeger_there ss = to_integer (argument ss 1)
 
   type_told : (s : Shape) → AllThere n (elim s as (λ _. Outcome) [ is_known p ↦ elim p as (λ _. Outcome) [ integer n ↦ one (string (codes "integer")) | _ ↦ nothing ] | _ ↦ nothing ])
   type_told (is_known (integer m)) = one_there (string (codes "integer")) tt
-  type_told (is_known nil) = nil_there
-  type_told (is_known (boolean b)) = nil_there
-  type_told (is_known (string s)) = nil_there
-  type_told (is_known (primitive k)) = nil_there
-  type_told (is_object kind) = nil_there
+  type_told _ = nil_there
 
   pub type_there : (ss : List Shape) → AllThere n (Integers.math_type_row ss)
   type_there ss = type_told (argument ss 1)

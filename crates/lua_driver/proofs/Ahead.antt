@@ -3,7 +3,7 @@ use Rattle.std.proofs.Common.{ℕ, zero, suc, ◌+◌, ◌<◌, ◌≤◌, ◌�
 use Rattle.std.specs.Prelude.{cond, length}
 use Rattle.library_rows.specs.Library.{all_entries}
 use Rattle.machine_core.specs.World.{World}
-use Rattle.machine_core.specs.Moves.{Ending, go, returned, asks, calls_primitive, raised, unwinding, spent, main_yielded, main_returned, main_failed, Row, Outcome, trapped, ends}
+use Rattle.machine_core.specs.Moves.{Ending, go, spent, main_yielded, main_returned, main_failed, Row, Outcome, trapped, ends}
 use Rattle.machine_core.specs.MachineStep.{step, steps, and_then}
 use Rattle.machine_core.specs.PrimitiveRows.{row_numbered}
 use Rattle.machine_ends.specs.Measure.{Within, measure}
@@ -31,16 +31,11 @@ reached_further {rows} {from} {at} {to} {old} {mid} {new} {fuel} {left} {less} r
 -- what ends a turn stays
 
 end_stays : (rows : ℕ → Row) (e : Ending) (W : World) → is_end e ≡ true → step rows e W ≡ ends e W
-end_stays rows go W h = absurd (cc)
-end_stays rows returned W h = absurd (cc)
-end_stays rows asks W h = absurd (cc)
-end_stays rows (calls_primitive n) W h = absurd (cc)
-end_stays rows raised W h = absurd (cc)
-end_stays rows unwinding W h = absurd (cc)
 end_stays rows spent W h = refl
 end_stays rows main_yielded W h = refl
 end_stays rows main_returned W h = refl
 end_stays rows main_failed W h = refl
+end_stays rows _ W h = absurd (cc)
 
 pub ends_stay : (rows : ℕ → Row) (n : ℕ) (e : Ending) (W : World) → is_end e ≡ true → steps rows n e W ≡ ends e W
 ends_stay rows zero e W h = refl

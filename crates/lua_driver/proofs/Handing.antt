@@ -4,7 +4,7 @@ use Rattle.std.specs.Prelude.{◌^◌, map}
 use Rattle.std.proofs.Math.Seq.{drop-append_seam}
 use Rattle.library_rows.specs.Library.{all_entries}
 use Rattle.int_core.specs.Value.{Value, bind, boolean, is_known, last}
-use Rattle.machine_core.specs.World.{Frame, lua, pcall, xpcall, handler, closing, World, Stack, stack_of}
+use Rattle.machine_core.specs.World.{Frame, closing, World, Stack, stack_of}
 use Rattle.machine_core.specs.Text.{results}
 use Rattle.machine_core.specs.InstructionRows.{returns}
 use Rattle.machine_core.specs.FrameRows.{expand, handed, leave_row}
@@ -61,12 +61,8 @@ carrying W values few = record W { moving = record { ptr = W.moving.ptr; len = l
 -- what is on top is the same whatever moves
 
 top_moved : (V : World) (vs : List Value) (o : Option Frame) → top_shape (moved V vs) o ≡ top_shape V o
-top_moved V vs None = refl
-top_moved V vs (Some (lua t)) = refl
-top_moved V vs (Some pcall) = refl
-top_moved V vs (Some (xpcall h)) = refl
-top_moved V vs (Some handler) = refl
 top_moved V vs (Some (closing e left)) = refl
+top_moved V vs _ = refl
 
 abbrev top_in : World → Option Stack → Option TopShape
 top_in V o = bind o (λ s. Some (top_shape V (last s.frames)))

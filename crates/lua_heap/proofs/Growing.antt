@@ -3,7 +3,7 @@ use Rattle.std.proofs.Common.{◌≡◌, ℕ, suc, List, [], ◌∷◌, ◌++◌
 use Rattle.std.specs.Prelude.{bytes_eq, if◌then◌else◌}
 use Rattle.std.specs.List.{list_all, list_any}
 use Rattle.code_core.specs.declared.proto.Const.{Const}
-use Rattle.code_core.specs.declared.proto.Const.TheVariants.{Nil, False, True, Int, Str as Text}
+use Rattle.code_core.specs.declared.proto.Const.TheVariants.{Str as Text}
 use Rattle.code_core.specs.Prototype.{Parts, Prototype}
 use Rattle.code_core.specs.Check.{IsChecked}
 use Rattle.code_core.specs.Writable.{number_fits, name_fits, byte_fits, word_fits, constant_fits, lists_fit, parts_fit}
@@ -17,7 +17,7 @@ use Rattle.table_core.specs.Table.{Contents}
 use Rattle.table_core.specs.declared.value.Value.{Value as Kept}
 use Rattle.table_core.specs.declared.value.Value.TheVariants.{Str}
 use Rattle.lua_stack.specs.declared.frame.Wait.{Wait as KeptWait}
-use Rattle.lua_stack.specs.declared.frame.Wait.TheVariants.{Running as Runs, ForCall, ForIterator, ForValue, ForTruth, Dropped, ForConcat, ForClose, Returning, Leaving}
+use Rattle.lua_stack.specs.declared.frame.Wait.TheVariants.{Leaving}
 use Rattle.lua_stack.specs.Frames.{wait_of, lua_of, error_of, frame_of, frames, KeptLua, KeptFrame, kept_lua, kept_pcall, kept_xpcall, kept_handler, kept_closing, KeptStack}
 use Rattle.lua_heap.specs.declared.world.Cell.{Cell as KeptCell}
 use Rattle.lua_heap.specs.declared.world.Cell.TheVariants.{Closed, Open}
@@ -47,16 +47,8 @@ module _ (z : Sizes) (texts : List (List ℕ)) (s : List ℕ) where
   table_stays t h = ap (λ rows. record (table texts t) { rows = rows }) (rows_stay z texts s t.rows h.rows)
 
   wait_stays : (w : KeptWait) → WaitOk z (wait_of (value texts) w) → wait_of (value now) w ≡ wait_of (value texts) w
-  wait_stays Runs h = refl
-  wait_stays ForCall h = refl
-  wait_stays ForIterator h = refl
-  wait_stays ForValue h = refl
-  wait_stays ForTruth h = refl
-  wait_stays Dropped h = refl
-  wait_stays (ForConcat left) h = refl
-  wait_stays ForClose h = refl
-  wait_stays (Returning count) h = refl
   wait_stays (Leaving e) h = ap leaving (value_stays z texts s e h)
+  wait_stays _ h = refl
 
   error_stays : (e : Option Kept) → OptionOk (Valid z) (error_of (value texts) e) → error_of (value now) e ≡ error_of (value texts) e
   error_stays None h = refl
@@ -124,11 +116,8 @@ none_there : Sizes
 none_there = record { primitives = 0; tables = 0; functions = []; cells = 0; coroutines = 0 }
 
 constant_valid : (k : Const) → constant_fits k ≡ true → Valid none_there (known (constant k))
-constant_valid Nil h = tt
-constant_valid False h = tt
-constant_valid True h = tt
-constant_valid (Int n) h = tt
 constant_valid (Text bytes) h = le_of _ _ h
+constant_valid _ h = tt
 
 pub constants_stay : (texts : List (List ℕ)) (s : List ℕ) (cs : List Kept) (ks : List Const) → list_all constant_fits ks ≡ true
     → map (value texts) cs ≡ map (λ k. known (constant k)) ks → map (value (texts ++ s ∷ [])) cs ≡ map (value texts) cs

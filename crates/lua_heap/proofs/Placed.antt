@@ -18,14 +18,14 @@ use Rattle.list_laws.proofs.Tests.{lt_is}
 use Rattle.machine_core.specs.World.{Function, Frame, Coroutine, Stack, running_frames}
 use Rattle.machine_core.specs.Moves.{line_of, frame_place, where_text}
 use Rattle.machine_sound.proofs.Lists.{get_there}
-use Rattle.lua_stack.specs.Frames.{KeptFrame, kept_lua, kept_pcall, kept_xpcall, kept_handler, kept_closing, KeptStack, frame_of, kept_place}
+use Rattle.lua_stack.specs.Frames.{KeptFrame, kept_lua, KeptStack, frame_of, kept_place}
 use Rattle.table_core.specs.declared.value.CoroId.{CoroId}
 use Rattle.table_core.specs.declared.value.FuncId.{FuncId}
 use Rattle.table_core.specs.declared.value.StrId.{StrId}
 use Rattle.table_core.specs.declared.value.Value.TheVariants.{Str}
 use Rattle.lua_heap.specs.declared.codes.Codes.{Codes}
 use Rattle.lua_heap.specs.declared.world.Coro.{Coro}
-use Rattle.lua_heap.specs.declared.world.Coro.TheVariants.{Fresh, Suspended, Running, Normal, Dead, Failed}
+use Rattle.lua_heap.specs.declared.world.Coro.TheVariants.{Running}
 use Rattle.lua_heap.specs.declared.world.Func.{Func}
 use Rattle.lua_heap.specs.declared.world.World.{World as Memory}
 use Rattle.lua_heap.specs.Reading.{text_or, value}
@@ -81,10 +81,7 @@ module _ (W : Memory) (fuel : ℕ) where
       ap (λ o. bind o (λ g. bind g.code.own.source (λ name. bind (line_of g.code t.pc) (λ line. Some (position name line)))))
       (slice_get-map (function (functions W.codes)) W.funcs.objects t.function.0)
       ∙ function_case t.pc (slice_get W.funcs.objects t.function.0)
-  place_is kept_pcall = refl
-  place_is (kept_xpcall h) = refl
-  place_is kept_handler = refl
-  place_is (kept_closing error left) = refl
+  place_is _ = refl
 
   -- all of them
 
@@ -122,14 +119,9 @@ module _ (W : Memory) (fuel : ℕ) where
 
   in_coroutine : (level : ℕ) (o : Option Coro)
       → text_in level (bind (option_map (coroutine W.strings) o) running_frames) ≡ text_or_nothing (bind (bind o stack_if_runs) (λ s. nth_place W s.frames level))
-  in_coroutine level None = refl
-  in_coroutine level (Some (Fresh body)) = refl
-  in_coroutine level (Some (Suspended s)) = refl
   in_coroutine level (Some (Running s)) =
       ap (λ (o : Option (List ℕ)). elim o [ None ↦ [] | Some text ↦ text ]) (in_stack s level) ∙ level_case (nth_place W s.frames level)
-  in_coroutine level (Some (Normal s)) = refl
-  in_coroutine level (Some Dead) = refl
-  in_coroutine level (Some (Failed error pending)) = refl
+  in_coroutine level _ = refl
 
   abbrev frames_at : ℕ → Option (List Frame)
   frames_at co = bind (slice_get (map (coroutine W.strings) W.coros.objects) co) running_frames

@@ -7,7 +7,7 @@ use Rattle.std.proofs.lemmas.Slice.Eq.{bytes_eq-Decides}
 use Rattle.int_core.specs.Value.{known, string, greatest_string}
 use Rattle.table_core.specs.declared.value.StrId.{StrId}
 use Rattle.table_core.specs.declared.value.Value.{Value as Kept}
-use Rattle.table_core.specs.declared.value.Value.TheVariants.{Nil, Bool as Boolean, Int, Str, Prim, Table, Func, Coro}
+use Rattle.table_core.specs.declared.value.Value.TheVariants.{Str}
 use Rattle.machine_sound.specs.Sound.{Sizes, Each, Valid}
 use Rattle.list_laws.proofs.Items.{get_old}
 use Rattle.lua_heap.specs.Strings.{AreApart, AreShort}
@@ -34,16 +34,10 @@ strings_there z texts id h = let t = string_there z texts id h in slice_get_with
 
 -- so a new string changes no sound value
 pub value_stays : (z : Sizes) (texts : List (List ℕ)) (s : List ℕ) (v : Kept) → Valid z (value texts v) → value (texts ++ s ∷ []) v ≡ value texts v
-value_stays z texts s Nil h = refl
-value_stays z texts s (Boolean b) h = refl
-value_stays z texts s (Int n) h = refl
 value_stays z texts s (Str id) h =
     let t = string_there z texts id h in
     ap (λ o. known (string (text_or id.0 o))) (get_old texts (s ∷ []) id.0 t.0 t.1) ∙ sym (ap (λ o. known (string (text_or id.0 o))) t.1)
-value_stays z texts s (Prim n) h = refl
-value_stays z texts s (Table id) h = refl
-value_stays z texts s (Func id) h = refl
-value_stays z texts s (Coro id) h = refl
+value_stays z texts s _ h = refl
 
 pub values_stay : (z : Sizes) (texts : List (List ℕ)) (s : List ℕ) (vs : List Kept) → Each (Valid z) (map (value texts) vs) → map (value (texts ++ s ∷ [])) vs ≡ map (value texts) vs
 values_stay z texts s [] h = refl

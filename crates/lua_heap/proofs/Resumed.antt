@@ -13,7 +13,7 @@ use Rattle.lua_stack.specs.declared.frame.OpenCell.{OpenCell}
 use Rattle.table_core.specs.declared.value.CoroId.{CoroId}
 use Rattle.lua_heap.specs.declared.world.Cell.{Cell as KeptCell}
 use Rattle.lua_heap.specs.declared.world.Coro.{Coro}
-use Rattle.lua_heap.specs.declared.world.Coro.TheVariants.{Fresh, Suspended, Running, Normal, Dead, Failed}
+use Rattle.lua_heap.specs.declared.world.Coro.TheVariants.{Suspended, Running, Normal}
 use Rattle.lua_heap.specs.declared.world.World.{World as Memory}
 use Rattle.lua_heap.specs.Reading.{value}
 use Rattle.lua_heap.specs.Plain.{coroutine, plain}
@@ -91,12 +91,8 @@ mapped_some f None b e = absurd (cc)
 mapped_some f (Some a) b e = (a, refl, some_same _ _ e)
 
 running_case : (texts : List (List ℕ)) (c : Coro) (fs : List Frame) → running_frames (coroutine texts c) ≡ Some fs → (k : KeptStack) × (c ≡ Running k) × (frames (value texts) k ≡ fs)
-running_case texts (Fresh body) fs e = absurd (cc)
-running_case texts (Suspended k) fs e = absurd (cc)
 running_case texts (Running k) fs e = (k, refl, some_same _ _ e)
-running_case texts (Normal k) fs e = absurd (cc)
-running_case texts Dead fs e = absurd (cc)
-running_case texts (Failed error pending) fs e = absurd (cc)
+running_case texts _ fs e = absurd (cc)
 
 abbrev stack_with : ℕ → List Frame → Stack
 stack_with n fs = record { coroutine = n; frames = fs }

@@ -5,7 +5,7 @@ use Rattle.lua_lex.specs.declared.token.Token.TheVariants.{End}
 use Rattle.std.specs.Prelude.{false, Option, Some, None, take_while}
 use Rattle.lua_lex.specs.declared.kind.Kind.{Kind}
 use Rattle.lua_lex.specs.declared.kind.Kind.TheVariants as kind
-use Rattle.lua_lex.specs.declared.kind.Kind.TheVariants.{Space, Comment, LongComment, Word, Numeral, ShortString, LongString, Symbol}
+use Rattle.lua_lex.specs.declared.kind.Kind.TheVariants.{Space, Comment, LongComment, Word}
 use Rattle.lua_lex.specs.Words.{keywords, place_of}
 use Rattle.lua_lex.specs.Classes.{is_name_byte}
 use Rattle.lua_lex.specs.Lexical.{kind_of, word_token, is_end, EndsOnce, IsTokenOf, Gap, IsToken, IsRefused, line_of, TokensFrom, ends, goes_on, TokensOf, BadFrom, here, later, BadToken}
@@ -113,14 +113,11 @@ not_end_of Word text rest token t = by_place (place_of keywords (take_while is_n
   by_place : (place : Option ℕ) → token ≡ word_token (take_while is_name_byte text) place → is_end token ≡ false
   by_place (Some number) is = ap is_end is
   by_place None is = ap is_end is
-not_end_of Numeral text rest token t = ap is_end t.2
-not_end_of ShortString text rest token t = ap is_end t.2
-not_end_of LongString text rest token t = ap is_end t.2
-not_end_of Symbol text rest token t = ap is_end t.2
 not_end_of kind.End text rest token t = absurd t
 not_end_of Space text rest token t = absurd t
 not_end_of Comment text rest token t = absurd t
 not_end_of LongComment text rest token t = absurd t
+not_end_of _ text rest token t = ap is_end t.2
 
 pub ends_once : {line : ℕ} {text : List ℕ} {list : List (Token × ℕ)} → TokensFrom line text list → EndsOnce list
 ends_once (ends gap) = refl

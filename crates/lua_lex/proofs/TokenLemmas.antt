@@ -36,16 +36,13 @@ one_token_of Numeral text token other rest rest' t u =
 one_token_of Symbol text token other rest rest' t u =
     let same = one_mark text t.0 u.0 rest rest' t.1 u.1 in
     record { tokens = t.2 ∙ same.tokens ∙ sym u.2; rests = same.rests }
-one_token_of End text token other rest rest' t u = absurd t
-one_token_of Space text token other rest rest' t u = absurd t
-one_token_of Comment text token other rest rest' t u = absurd t
-one_token_of LongComment text token other rest rest' t u = absurd t
 one_token_of ShortString text token other rest rest' t u =
     let same = one_quoted t.1 u.1 in
     record { tokens = t.2 ∙ ap Str same.contents ∙ sym u.2; rests = same.rests }
 one_token_of LongString text token other rest rest' t u =
     let same = one_bracket text t.0 u.0 rest rest' t.1 u.1 in
     record { tokens = t.2 ∙ ap (λ c. Str (read_lines (behind_line_end c))) same.contents ∙ sym u.2; rests = same.rests }
+one_token_of _ text token other rest rest' t u = absurd t
 
 pub one_token : (text : List ℕ) (token other : Token) (rest rest' : List ℕ) → IsToken text token rest → IsToken text other rest' → Same token other rest rest'
 one_token text = one_token_of (kind_of text) text
@@ -54,12 +51,7 @@ one_skip_of : (kind : Kind) (text rest rest' : List ℕ) → SkipsOf kind text r
 one_skip_of Space text rest rest' s t = s ∙ sym t
 one_skip_of Comment text rest rest' s t = s ∙ sym t
 one_skip_of LongComment text rest rest' s t = (one_bracket (drop 2 text) s.0 t.0 rest rest' s.1 t.1).rests
-one_skip_of End text rest rest' s t = absurd s
-one_skip_of Word text rest rest' s t = absurd s
-one_skip_of Numeral text rest rest' s t = absurd s
-one_skip_of ShortString text rest rest' s t = absurd s
-one_skip_of LongString text rest rest' s t = absurd s
-one_skip_of Symbol text rest rest' s t = absurd s
+one_skip_of _ text rest rest' s t = absurd s
 
 pub one_skip : (text rest rest' : List ℕ) → Skips text rest → Skips text rest' → rest ≡ rest'
 one_skip text = one_skip_of (kind_of text) text
@@ -70,11 +62,7 @@ not_both_of Space text rest rest' token s t = t
 not_both_of Comment text rest rest' token s t = t
 not_both_of LongComment text rest rest' token s t = t
 not_both_of End text rest rest' token s t = t
-not_both_of Word text rest rest' token s t = s
-not_both_of Numeral text rest rest' token s t = s
-not_both_of ShortString text rest rest' token s t = s
-not_both_of LongString text rest rest' token s t = s
-not_both_of Symbol text rest rest' token s t = s
+not_both_of _ text rest rest' token s t = s
 
 pub not_both : (text rest rest' : List ℕ) (token : Token) → Skips text rest → IsToken text token rest' → ⊥
 not_both text = not_both_of (kind_of text) text

@@ -175,10 +175,7 @@ module _ {F S : Type 0} (system : System F S) where
       (λ _. enters_keep n (goes_into W co []) body vs raises_why (along_keeps n W co [] W.chain k (omega arith)) (raises_keep n))
   resumes_keep n W co (suspended frames) vs k few =
       either n (nat_lt (greatest_resumes) (length W.chain)) _ _ (λ _. now_keeps n W _ k) (λ _. now_keeps n (goes_into W co frames) _ (along_keeps n W co frames W.chain k few))
-  resumes_keep n W co running vs k few = now_keeps n W _ k
-  resumes_keep n W co (normal frames) vs k few = now_keeps n W _ k
-  resumes_keep n W co dead vs k few = now_keeps n W _ k
-  resumes_keep n W co (failed e pending) vs k few = now_keeps n W _ k
+  resumes_keep n W co _ vs k few = now_keeps n W _ k
 
   closes_in_keeps : (n : ℕ) (W : World F S) (co : ℕ) (e : Option Value) (vs : List Value) → Keeps n W → Keeps n (closes_in system W co e vs)
   closes_in_keeps n W co e vs k =

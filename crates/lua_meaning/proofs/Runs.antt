@@ -1,7 +1,7 @@
 -- Runs that have ended, and runs that are cut at a yield.
 use Rattle.std.proofs.Common.{◌≡◌, ℕ, zero, suc, ◌+◌, ◌≤◌, Bool, true, false, List, [], ◌∷◌, ◌++◌, Option, Some, None, refl, sym, ◌∙◌, ap, arith, append_assoc}
 use Rattle.std.specs.Prelude.{option_map}
-use Rattle.lua_meaning.specs.World.{System, World, yielded, returned, failed_with, spent, broken, Now, talks, gives_back, raises_error, unwinds, calls_primitive, ends}
+use Rattle.lua_meaning.specs.World.{System, World, yielded, returned, failed_with, spent, broken, Now, ends}
 use Rattle.lua_meaning.specs.Step.{Primitives, has_ended, tick, ticks}
 use Rattle.lua_meaning.specs.Meaning.{Meaning, Outcome, is_suspended, behind, at_end, suspends, handed_line, run_from, onward, begun, Script, IsMeaning, IsOnward}
 use Rattle.list_laws.proofs.Items.{some_same}
@@ -27,11 +27,7 @@ module _ {F S : Type 0} (system : System F S) (primitives : Primitives F) where
   -- a run that gives a meaning has ended
   gives_ended : (now : Now) (W : World F S) (goes : World F S → Option (Meaning F S)) (x : Meaning F S) → at_end now W goes ≡ Some x → has_ended now ≡ true
   gives_ended (ends ending) W goes x given = refl
-  gives_ended talks W goes x given = absurd (cc)
-  gives_ended (gives_back vs) W goes x given = absurd (cc)
-  gives_ended (raises_error e) W goes x given = absurd (cc)
-  gives_ended (unwinds e) W goes x given = absurd (cc)
-  gives_ended (calls_primitive n vs) W goes x given = absurd (cc)
+  gives_ended _ W goes x given = absurd (cc)
 
   -- what follows a yield may be replaced
   map_given : (text : List ℕ) (o p : Option (Meaning F S)) (x : Meaning F S) → option_map (behind text) o ≡ Some x → ((y : Meaning F S) → o ≡ Some y → p ≡ Some y) → option_map (behind text) p ≡ Some x
@@ -45,11 +41,7 @@ module _ {F S : Type 0} (system : System F S) (primitives : Primitives F) where
   at_end_given (ends (failed_with e)) W goes on x given more = given
   at_end_given (ends spent) W goes on x given more = given
   at_end_given (ends broken) W goes on x given more = given
-  at_end_given talks W goes on x given more = absurd (cc)
-  at_end_given (gives_back vs) W goes on x given more = absurd (cc)
-  at_end_given (raises_error e) W goes on x given more = absurd (cc)
-  at_end_given (unwinds e) W goes on x given more = absurd (cc)
-  at_end_given (calls_primitive n vs) W goes on x given more = absurd (cc)
+  at_end_given _ W goes on x given more = absurd (cc)
 
   -- more steps a turn give the same meaning
   pub given_within : (m n : ℕ) (W : World F S) (input : List (List ℕ)) (budget : ℕ) (x : Meaning F S)
@@ -104,11 +96,7 @@ module _ {F S : Type 0} (system : System F S) (primitives : Primitives F) where
   at_end_cut (ends (failed_with e)) V goes on x y W given suspended more = absurd (not_suspended _ x W refl given suspended)
   at_end_cut (ends spent) V goes on x y W given suspended more = absurd (not_suspended _ x W refl given suspended)
   at_end_cut (ends broken) V goes on x y W given suspended more = absurd (not_suspended _ x W refl given suspended)
-  at_end_cut talks V goes on x y W given suspended more = absurd (cc)
-  at_end_cut (gives_back vs) V goes on x y W given suspended more = absurd (cc)
-  at_end_cut (raises_error e) V goes on x y W given suspended more = absurd (cc)
-  at_end_cut (unwinds e) V goes on x y W given suspended more = absurd (cc)
-  at_end_cut (calls_primitive n vs) V goes on x y W given suspended more = absurd (cc)
+  at_end_cut _ V goes on x y W given suspended more = absurd (cc)
 
   -- where the lines have run out, it is the further lines that count
   suspended_here : (n : ℕ) (V W : World F S) (more : List (List ℕ)) (budget : ℕ) (z y : Meaning F S)

@@ -5,7 +5,7 @@ use Rattle.std.specs.List.{list_any}
 use Rattle.std.proofs.lemmas.Slice.Eq.{bytes_eq-Decides}
 use Rattle.int_core.specs.Value.{string, Value, known, same, greatest_string}
 use Rattle.table_core.specs.declared.value.Value.{Value as Kept}
-use Rattle.table_core.specs.declared.value.Value.TheVariants.{Nil, Bool as Boolean, Int, Str, Prim, Table, Func, Coro}
+use Rattle.table_core.specs.declared.value.Value.TheVariants.{Str}
 use Rattle.table_core.specs.Value.{value_eq}
 use Rattle.table_core.proofs.ValueLemmas.{value_eq-equal, value_eq-refl}
 use Rattle.lua_heap.specs.Strings.{AreApart, AreShort}
@@ -48,13 +48,7 @@ string_so e = cc
 
 pub no_text : (texts : List (List ℕ)) (text : List ℕ) → length text ≤ greatest_string → list_any (bytes_eq text) texts ≡ false → (v : Kept) → value texts v ≡ known (string text) → ⊥
 no_text texts text short absent (Str id) e = text_known texts text id.0 short absent (string_so e)
-no_text texts text short absent Nil e = absurd (cc)
-no_text texts text short absent (Boolean b) e = absurd (cc)
-no_text texts text short absent (Int n) e = absurd (cc)
-no_text texts text short absent (Prim n) e = absurd (cc)
-no_text texts text short absent (Table id) e = absurd (cc)
-no_text texts text short absent (Func id) e = absurd (cc)
-no_text texts text short absent (Coro id) e = absurd (cc)
+no_text texts text short absent _ e = absurd (cc)
 
 -- rows
 

@@ -31,15 +31,7 @@ of_rank (suc (suc (suc (suc (suc (suc (suc (suc (suc n))))))))) = Product
 of_own_rank : (l : Level) → of_rank (rank l) ≡ l
 unfolding of_rank
 of_own_rank Or = refl
-of_own_rank And = refl
-of_own_rank Comparison = refl
-of_own_rank BitOr = refl
-of_own_rank BitXor = refl
-of_own_rank BitAnd = refl
-of_own_rank Shift = refl
-of_own_rank Concat = refl
-of_own_rank Sum = refl
-of_own_rank Product = refl
+of_own_rank _ = refl
 
 pub same_rank : (l m : Level) → rank l ≡ rank m → l ≡ m
 same_rank l m e = sym (of_own_rank l) ∙ ap of_rank e ∙ of_own_rank m
@@ -47,27 +39,11 @@ same_rank l m e = sym (of_own_rank l) ∙ ap of_rank e ∙ of_own_rank m
 -- the operands of the next level are the chains of this one
 pub operand_looser : (l : Level) → 0 < rank l → operand (looser l) ≡ chain l
 operand_looser Or h = absurd (omega (arith, h))
-operand_looser And h = refl
-operand_looser Comparison h = refl
-operand_looser BitOr h = refl
-operand_looser BitXor h = refl
-operand_looser BitAnd h = refl
-operand_looser Shift h = refl
-operand_looser Concat h = refl
-operand_looser Sum h = refl
-operand_looser Product h = refl
+operand_looser _ h = refl
 
 pub rank_looser : (l : Level) → rank (looser l) ≡ rank l - 1
 rank_looser Or = refl
-rank_looser And = refl
-rank_looser Comparison = refl
-rank_looser BitOr = refl
-rank_looser BitXor = refl
-rank_looser BitAnd = refl
-rank_looser Shift = refl
-rank_looser Concat = refl
-rank_looser Sum = refl
-rank_looser Product = refl
+rank_looser _ = refl
 
 -- a chain is read where its first operand and what is behind it are
 pub chain_leads : (l : Level) (room : ℕ) (tokens rest : List Lexeme) (e : Exp) (height : ℕ) → Reads (expects room (operand l)) tokens (whole (an_exp e) height rest) → Leads (expects room (chain l)) tokens (expects room (behind l e height)) rest
@@ -103,15 +79,7 @@ next_operand l k room tokens o e h r =
 
 pub at_most_product : (l : Level) → rank l ≤ 9
 at_most_product Or = omega arith
-at_most_product And = omega arith
-at_most_product Comparison = omega arith
-at_most_product BitOr = omega arith
-at_most_product BitXor = omega arith
-at_most_product BitAnd = omega arith
-at_most_product Shift = omega arith
-at_most_product Concat = omega arith
-at_most_product Sum = omega arith
-at_most_product Product = omega arith
+at_most_product _ = omega arith
 
 pub less : (a b : ℕ) → true ≡ nat_lt a b → a < b
 less a b e = grind (arith, nat_tests)

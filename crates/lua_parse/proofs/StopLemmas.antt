@@ -152,15 +152,11 @@ pub record Starts (tokens : List Lexeme) : Type 0 where
 
 pub stuck_starts : {move : Move} {tokens : List Lexeme} {outcome : Outcome} (rest : List Lexeme) → Reads move tokens outcome → outcome ≡ stuck rest → Starts rest
 stuck_starts rest (picks h) e = stuck_starts rest h e
-stuck_starts rest picks_none e = absurd cc
 stuck_starts rest (passes h) e = stuck_starts rest h e
-stuck_starts rest passes_none e = absurd cc
 stuck_starts rest (refuses {token = token} {tokens = tokens}) e = record { token = token; more = tokens; is = (let same : token ∷ tokens ≡ rest = cc in sym same) }
-stuck_starts rest refuses_none e = absurd cc
-stuck_starts rest is_whole e = absurd cc
 stuck_starts rest (within_whole piece height between h later) e = stuck_starts rest later e
-stuck_starts rest (within_cut h) e = absurd cc
 stuck_starts rest (within_stuck h) e = stuck_starts rest h e
+stuck_starts rest _ e = absurd cc
 
 no_front : {tokens rest : List Lexeme} → Reads (expects 400 chunk) tokens (stuck rest) → Front tokens → ⊥
 no_front h (ends_within h') = let bad = only h h' in cc

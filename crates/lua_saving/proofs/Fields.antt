@@ -2,7 +2,7 @@
 use Rattle.std.proofs.Common.{arith, ℕ, zero, suc, ◌+◌, ◌<◌, ◌≤◌, ◌≡◌, List, [], ◌∷◌, ◌++◌, Option, Some, None, refl, subst, sym, ap, ◌∙◌, length, Bool, true, false, cond, map}
 use Rattle.std.specs.Prelude.{slice_get, flat_map, option_map, nat_eq, ◌||◌}
 use Rattle.std.specs.List.{list_any}
-use Rattle.int_core.specs.Value.{nil, boolean, integer, string, primitive, a_table, a_function, a_coroutine, Value, known, object}
+use Rattle.int_core.specs.Value.{integer, primitive, a_function, a_coroutine, Value, known, object}
 use Rattle.code_core.specs.Writable.{signed_fits}
 use Rattle.list_laws.proofs.Tests.{eq_refl, eq_true}
 use Rattle.library_rows.specs.Library.{all_entries, key_of as key_of_entry}
@@ -88,14 +88,11 @@ module _ (W : World) (s : Solid (length all_entries) W) (idle : W.chain ≡ []) 
   function_fine m true g e = absurd (let low = number_in 0 (length function_keys) m (subst (λ l. list_any (nat_eq m) l ≡ true) names g) in let high = unnamed_function W m e in omega (arith, low, high))
 
   unnamed_fine : (v : Value) → Valid (sizes (length all_entries) W) v → session_name W v ≡ None → IsFine (unnamed_refusal W v)
-  unnamed_fine (known nil) h e = tt
-  unnamed_fine (known (boolean b)) h e = tt
   unnamed_fine (known (integer i)) h e = integer_fine (signed_fits 63 i)
-  unnamed_fine (known (string t)) h e = tt
   unnamed_fine (known (primitive m)) h e = let k = base_keyed m h in absurd (let f = sym (ap (option_map (permanent a_function)) k.1) ∙ e in cc)
-  unnamed_fine (object a_table m) h e = tt
   unnamed_fine (object a_function m) h e = function_fine m (list_any (nat_eq m) W.prelude_functions) refl e
   unnamed_fine (object a_coroutine m) h e = coroutine_fine m
+  unnamed_fine _ h e = tt
 
   value_fine : (v : Value) → Valid (sizes (length all_entries) W) v → IsFine (unless_item (session_name W v) (unnamed_refusal W v))
   value_fine v h = by (session_name W v) refl

@@ -16,9 +16,9 @@ use Rattle.machine_sound.proofs.Lists.{map_get, get_map}
 use Rattle.machine_runs.specs.Opening.{numbers}
 use Rattle.table_core.specs.declared.value.CellId.{CellId}
 use Rattle.table_core.specs.declared.value.FuncId.{FuncId}
-use Rattle.table_core.specs.declared.value.Value.TheVariants.{Nil, Bool as Boolean, Int, Str, Prim, Table, Func as AFunction, Coro}
+use Rattle.table_core.specs.declared.value.Value.TheVariants.{Table}
 use Rattle.lua_heap.specs.declared.world.Cell.{Cell as Kept_cell}
-use Rattle.lua_heap.specs.declared.world.Cell.TheVariants.{Closed, Open}
+use Rattle.lua_heap.specs.declared.world.Cell.TheVariants.{Closed}
 use Rattle.lua_heap.specs.declared.world.Func.{Func}
 use Rattle.lua_heap.specs.declared.world.World.{World as Memory}
 use Rattle.lua_heap.specs.Codes.{functions}
@@ -77,14 +77,7 @@ count_differs ids count other is = other (sym (length_ids ids) ∙ (ap length is
 
 cell_told : (texts : List (List ℕ)) (c : Kept_cell) → (holds_environment c ≡ true → cell texts c ≡ closed (object a_table environment_table)) × (cell texts c ≡ closed (object a_table environment_table) → holds_environment c ≡ true)
 cell_told texts (Closed (Table id)) = (λ h. let is : id.0 ≡ environment_table = grind (arith, tests) in ap (λ n. closed (object a_table n)) is, λ e. let is : id.0 ≡ environment_table = cc in grind (arith, tests))
-cell_told texts (Closed Nil) = (λ h. absurd (cc), λ e. absurd (cc))
-cell_told texts (Closed (Boolean b)) = (λ h. absurd (cc), λ e. absurd (cc))
-cell_told texts (Closed (Int n)) = (λ h. absurd (cc), λ e. absurd (cc))
-cell_told texts (Closed (Str id)) = (λ h. absurd (cc), λ e. absurd (cc))
-cell_told texts (Closed (Prim n)) = (λ h. absurd (cc), λ e. absurd (cc))
-cell_told texts (Closed (AFunction id)) = (λ h. absurd (cc), λ e. absurd (cc))
-cell_told texts (Closed (Coro id)) = (λ h. absurd (cc), λ e. absurd (cc))
-cell_told texts (Open co frame register) = (λ h. absurd (cc), λ e. absurd (cc))
+cell_told texts _ = (λ h. absurd (cc), λ e. absurd (cc))
 
 pub cell_is : (texts : List (List ℕ)) (cs : List Kept_cell) (c : Kept_cell) → slice_get cs environment_cell ≡ Some c
     → (holds_environment c ≡ true → slice_get (map (cell texts) cs) environment_cell ≡ Some (closed (object a_table environment_table)))

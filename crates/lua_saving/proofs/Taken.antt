@@ -7,9 +7,9 @@ use Rattle.machine_core.specs.World.{Frame, suspended, World}
 use Rattle.machine_sound.proofs.Lists.{bind_some, get_map}
 use Rattle.table_core.specs.declared.value.TableId.{TableId}
 use Rattle.table_core.specs.declared.value.Value.{Value as Kept}
-use Rattle.table_core.specs.declared.value.Value.TheVariants.{Nil, Bool as Boolean, Int, Str, Prim, Table, Func, Coro}
+use Rattle.table_core.specs.declared.value.Value.TheVariants.{Nil, Int, Str, Table, Coro}
 use Rattle.lua_heap.specs.declared.world.Coro.{Coro as Kept_coroutine}
-use Rattle.lua_heap.specs.declared.world.Coro.TheVariants.{Fresh, Suspended, Running, Normal, Dead, Failed}
+use Rattle.lua_heap.specs.declared.world.Coro.TheVariants.{Suspended}
 use Rattle.lua_heap.specs.declared.world.World.{World as Memory}
 use Rattle.lua_heap.specs.Plain.{plain, coroutine}
 use Rattle.lua_heap.specs.Reading.{text_of, value}
@@ -62,12 +62,7 @@ by_metatable : (texts : List (List ℕ)) (r : Roots) (Y : World) (c : Kept) → 
     → with_roots (object a_coroutine r.main.0 ∷ object a_table r.globals.0 ∷ value texts c ∷ known (string (text_of texts r.spkey.0)) ∷ known (integer r.maxrec) ∷ []) Y ≡ Some (with_five texts r Y)
 by_metatable texts r Y Nil h = ap (λ m. Some (record Y { main = Some r.main.0; globals = r.globals.0; heap = record Y.heap { string_metatable = option_map (λ (m : TableId). m.0) m }; special_key = text_of texts r.spkey.0; max_depth = r.maxrec })) (some_same None r.string_meta h)
 by_metatable texts r Y (Table id) h = ap (λ m. Some (record Y { main = Some r.main.0; globals = r.globals.0; heap = record Y.heap { string_metatable = option_map (λ (m : TableId). m.0) m }; special_key = text_of texts r.spkey.0; max_depth = r.maxrec })) (some_same (Some id) r.string_meta h)
-by_metatable texts r Y (Boolean b) h = absurd (cc)
-by_metatable texts r Y (Int n) h = absurd (cc)
-by_metatable texts r Y (Str id) h = absurd (cc)
-by_metatable texts r Y (Prim n) h = absurd (cc)
-by_metatable texts r Y (Func id) h = absurd (cc)
-by_metatable texts r Y (Coro id) h = absurd (cc)
+by_metatable texts r Y _ h = absurd (cc)
 
 roots_are : (texts : List (List ℕ)) (a b c d e : Kept) (r : Roots) (Y : World) → roots_of_five a b c d e ≡ Some r → with_roots (map (value texts) (a ∷ b ∷ c ∷ d ∷ e ∷ [])) Y ≡ Some (with_five texts r Y)
 roots_are texts a b c d e r Y h =
@@ -115,11 +110,7 @@ yielded W co _ e h = absurd (cc)
 
 not_yielded : (texts : List (List ℕ)) (c : Kept_coroutine) (fs : List Frame) → has_yielded c ≡ false → coroutine texts c ≡ suspended fs → ⊥
 not_yielded texts (Suspended stack) fs h e = absurd (cc)
-not_yielded texts (Fresh body) fs h e = absurd (cc)
-not_yielded texts (Running stack) fs h e = absurd (cc)
-not_yielded texts (Normal stack) fs h e = absurd (cc)
-not_yielded texts Dead fs h e = absurd (cc)
-not_yielded texts (Failed error pending) fs h e = absurd (cc)
+not_yielded texts _ fs h e = absurd (cc)
 
 pub none_waits : (W : Memory) (vs : List Kept) (none : Kept) (r : Roots) (c : Kept_coroutine) → length vs ≡ 5 → roots_among vs none ≡ Some r → slice_get W.coros.objects r.main.0 ≡ Some c → has_yielded c ≡ false → IsNoSession W vs
 none_waits W vs none r c n h e waits_not = record { none = other }

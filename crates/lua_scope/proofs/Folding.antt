@@ -3,7 +3,7 @@ use Rattle.std.proofs.Common.{ℕ, ◌≡◌, Bool, true, false, List, [], ◌�
 use Rattle.std.specs.Prelude.{flat_map, if◌then◌else◌}
 use Rattle.tree_core.specs.declared.name.Name.{Name}
 use Rattle.tree_core.specs.declared.name.Declared.{Declared}
-use Rattle.tree_core.specs.Tree.{Block, Falls, Returns, Body, BodyOf, Stats, EndStats, MoreStats, Stat, Empty, Local, LocalFunction, Assign, CallStat, Do, While, Repeat, If, IfElse, NumFor, NumForStep, GenFor, Label, Goto, Break, Arms, EndArms, MoreArms, Exps, EndExps, MoreExps, Exp, Nil, True, False, Int, Str, Vararg, Function, Var, Index, Call, Method, Unary, Binary, And, Or, Paren, Table, Fields, EndFields, MoreFields, Field, Item, Keyed}
+use Rattle.tree_core.specs.Tree.{Block, Falls, Returns, Body, BodyOf, Stats, EndStats, MoreStats, Stat, Local, LocalFunction, Assign, CallStat, Do, While, Repeat, If, IfElse, NumFor, NumForStep, GenFor, Arms, EndArms, MoreArms, Exps, EndExps, MoreExps, Exp, Vararg, Function, Index, Call, Method, Unary, Binary, And, Or, Paren, Table, Fields, EndFields, MoreFields, Field, Item, Keyed}
 use Rattle.scope_core.specs.declared.violation.Violation.{Violation}
 use Rattle.scope_core.specs.declared.variable.Variable.{Variable}
 use Rattle.scope_core.specs.Scopes.{Scope, declared_by, declared_variable, plain_variable, numeric_hidden, generic_hidden}
@@ -66,14 +66,8 @@ for_met s hidden line ns o o' b e =
 
 mutual
   exp_met : (s : Scope) (o : Option Violation) (e : Exp) → meet_all o (broken (exp_parts s e)) ≡ met_exp s.frames s.is_vararg o e
-  exp_met s o (Nil line) = refl
-  exp_met s o (True line) = refl
-  exp_met s o (False line) = refl
-  exp_met s o (Int line value) = refl
-  exp_met s o (Str line bytes) = refl
   exp_met s o (Vararg line) = alone o (at s (Rest line))
   exp_met s o (Function line body) = body_met s o body
-  exp_met s o (Var line name) = refl
   exp_met s o (Index line a b) = both o _ _ (exp_parts s a) (exp_parts s b) (exp_met s o a) (exp_met s (met_exp s.frames s.is_vararg o a) b)
   exp_met s o (Call line a es) = both o _ _ (exp_parts s a) (exps_parts s es) (exp_met s o a) (exps_met s (met_exp s.frames s.is_vararg o a) es)
   exp_met s o (Method line a name es) = both o _ _ (exp_parts s a) (exps_parts s es) (exp_met s o a) (exps_met s (met_exp s.frames s.is_vararg o a) es)
@@ -83,6 +77,7 @@ mutual
   exp_met s o (Or line a b) = both o _ _ (exp_parts s a) (exp_parts s b) (exp_met s o a) (exp_met s (met_exp s.frames s.is_vararg o a) b)
   exp_met s o (Paren line a) = exp_met s o a
   exp_met s o (Table line fs) = fields_met s o fs
+  exp_met s o _ = refl
 
   exps_met : (s : Scope) (o : Option Violation) (es : Exps) → meet_all o (broken (exps_parts s es)) ≡ met_exps s.frames s.is_vararg o es
   exps_met s o EndExps = refl
@@ -122,7 +117,6 @@ mutual
       (one o' _ (at last (Result line es)) (exps_parts last es) (exps_met last (meet_all o' (held_violations last line (held_behind 0 es))) es))
 
   stat_met : (s : Scope) (o : Option Violation) (st : Stat) → meet_all o (broken (stat_parts s st)) ≡ met_stat s o st
-  stat_met s o (Empty line) = refl
   stat_met s o (Local line names values) = both o _ _ (exps_parts s values) (declarations s names) (exps_met s o values) (declarations_met s (met_exps s.frames s.is_vararg o values) names)
   stat_met s o (LocalFunction line name body) =
       let s' : Scope = with_variables s (plain_variable name ∷ []) in
@@ -151,9 +145,7 @@ mutual
   stat_met s o (GenFor line names es b) =
       let o' : Option Violation = met_exps s.frames s.is_vararg o es in
       apart o o' _ (exps_parts s es) _ _ (exps_met s o es) (for_met s generic_hidden line names o' _ b (block_met (with_variables (loop_scope s generic_hidden) (map plain_variable names)) true (met_names (loop_scope s generic_hidden).frames (met_declared (loop_scope s generic_hidden).frames o' line) names) b))
-  stat_met s o (Label line name) = refl
-  stat_met s o (Goto line name) = refl
-  stat_met s o (Break line) = refl
+  stat_met s o _ = refl
 
   arms_met : (s : Scope) (o : Option Violation) (as' : Arms) → meet_all o (broken (arms_parts s as')) ≡ met_arms s o as'
   arms_met s o EndArms = refl

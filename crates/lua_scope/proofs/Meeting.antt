@@ -55,24 +55,9 @@ line_of_stat s = by s.node s.line
     by Break line = refl
 
 pub one_target : (o : Option Violation) (frames : List Frame) (e : tree.Exp) (es : tree.Exps) → meet_all o (target_violations frames (tree.MoreExps e es)) ≡ meet_all (meet_all o (target_violations frames (tree.MoreExps e tree.EndExps))) (target_violations frames es)
-one_target o frames (tree.Nil line) es = refl
-one_target o frames (tree.True line) es = refl
-one_target o frames (tree.False line) es = refl
-one_target o frames (tree.Int line value) es = refl
-one_target o frames (tree.Str line bytes) es = refl
-one_target o frames (tree.Vararg line) es = refl
-one_target o frames (tree.Function line body) es = refl
 one_target o frames (tree.Var line name) es = by (names_fixed name.text frames)
   where
     by : (b : Bool) → meet_all o (breach b name.line 1 ++ target_violations frames es) ≡ meet_all (meet_all o (breach b name.line 1 ++ [])) (target_violations frames es)
     by true = refl
     by false = refl
-one_target o frames (tree.Index line indexed key) es = refl
-one_target o frames (tree.Call line called arguments) es = refl
-one_target o frames (tree.Method line object name arguments) es = refl
-one_target o frames (tree.Unary line operator operand) es = refl
-one_target o frames (tree.Binary line operator left right) es = refl
-one_target o frames (tree.And line left right) es = refl
-one_target o frames (tree.Or line left right) es = refl
-one_target o frames (tree.Paren line inner) es = refl
-one_target o frames (tree.Table line fields) es = refl
+one_target o frames _ es = refl

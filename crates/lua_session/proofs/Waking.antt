@@ -3,7 +3,7 @@ use Rattle.std.proofs.Common.{◌≡◌, ℕ, ◌+◌, ◌<◌, List, [], ◌∷
 use Rattle.std.specs.Prelude.{cond, map, nat_le, option_map, slice_get, slice_set}
 use Rattle.int_core.specs.Limits.{greatest_depth, stack_overflow}
 use Rattle.int_core.specs.Operations.{is_function}
-use Rattle.int_core.specs.Value.{nil, boolean, integer, string, primitive, Value, a_table, a_function, a_coroutine, known, object, bind}
+use Rattle.int_core.specs.Value.{primitive, Value, a_function, known, object, bind}
 use Rattle.machine_core.specs.World.{Function as Body, Coroutine, fresh, suspended, in_progress, World, stack_of, Frame}
 use Rattle.machine_core.specs.Moves.{Made, made, take_moving, CallShape, is_entered, is_primitive, not_entered, ResumeShape, resumed, go_into, put_coroutine, awake, enters, has_room, push_all, new_frame, starts_in, can_start, Ending, ends, run}
 use Rattle.machine_core.specs.FrameRows.{hand_over}
@@ -17,13 +17,13 @@ use Rattle.table_core.specs.declared.value.CoroId.{CoroId}
 use Rattle.table_core.specs.declared.value.Value.{Value as Kept}
 use Rattle.lua_stack.specs.Frames.{KeptStack, frames}
 use Rattle.lua_heap.specs.declared.world.Coro.{Coro}
-use Rattle.lua_heap.specs.declared.world.Coro.TheVariants.{Fresh, Suspended, Running, Normal, Dead, Failed}
+use Rattle.lua_heap.specs.declared.world.Coro.TheVariants.{Fresh, Suspended}
 use Rattle.lua_heap.specs.declared.world.World.{World as Memory}
 use Rattle.lua_heap.specs.Plain.{plain, coroutine}
 use Rattle.lua_heap.specs.Reading.{value}
 use Rattle.move_laws.specs.Memory.{HasStack, IsSound, Leads, Makes}
 use Rattle.machine_calls.specs.declared.calling.Called.{Called}
-use Rattle.machine_calls.specs.declared.calling.Called.TheVariants.{Function, Primitive, NotPaid, Fault, NoRoom}
+use Rattle.machine_calls.specs.declared.calling.Called.TheVariants.{Function, Primitive}
 use Rattle.machine_calls.specs.Calling.{CanEnter, told_of}
 use Rattle.machine_calls.specs.Entering.{EntersSo}
 use Rattle.lua_session.specs.Resuming.{HasYielded, Resumes, body_in}
@@ -79,17 +79,11 @@ entered_there U X co n f vs told s g e =
 
 told_entered : (texts : List (List ℕ)) (called : Called) → told_of texts called ≡ is_entered → (called ≡ Function → ⊥) → ⊥
 told_entered texts Function e f = f refl
-told_entered texts (Primitive n) e f = absurd (cc)
-told_entered texts NotPaid e f = absurd (cc)
-told_entered texts (Fault cause) e f = absurd (cc)
-told_entered texts NoRoom e f = absurd (cc)
+told_entered texts _ e f = absurd (cc)
 
 told_primitive : (texts : List (List ℕ)) (n : ℕ) (called : Called) → told_of texts called ≡ is_primitive n → ((m : ℕ) → called ≡ Primitive m → ⊥) → ⊥
 told_primitive texts n (Primitive m) e f = f m refl
-told_primitive texts n Function e f = absurd (cc)
-told_primitive texts n NotPaid e f = absurd (cc)
-told_primitive texts n (Fault cause) e f = absurd (cc)
-told_primitive texts n NoRoom e f = absurd (cc)
+told_primitive texts n _ e f = absurd (cc)
 
 abbrev IsThere : World → Value → Type 0
 IsThere U body = (n : ℕ) → body ≡ object a_function n → (f : Body) × (slice_get U.functions n ≡ Some f)
@@ -101,12 +95,7 @@ pub no_other : (U X : World) (co : ℕ) (body : Value) (vs : List Value) (texts 
     → enters U body vs ≡ made X [] (told_of texts called) → (called ≡ Function → ⊥) → ((n : ℕ) → called ≡ Primitive n → ⊥) → ⊥
 no_other U X co (known (primitive n)) vs texts called s b f e nf np = told_primitive texts n called (same_told X (record U { moving = vs }) (told_of texts called) (is_primitive n) (sym e)) np
 no_other U X co (object a_function n) vs texts called s b f e nf np = let g = f n refl in told_entered texts called (entered_there U X co n g.0 vs (told_of texts called) s g.1 e) nf
-no_other U X co (known nil) vs texts called s b f e nf np = no_true b
-no_other U X co (known (boolean x)) vs texts called s b f e nf np = no_true b
-no_other U X co (known (integer n)) vs texts called s b f e nf np = no_true b
-no_other U X co (known (string text)) vs texts called s b f e nf np = no_true b
-no_other U X co (object a_table n) vs texts called s b f e nf np = no_true b
-no_other U X co (object a_coroutine n) vs texts called s b f e nf np = no_true b
+no_other U X co _ vs texts called s b f e nf np = no_true b
 
 -- in memory
 
@@ -189,18 +178,11 @@ went_on old taken into new co s arguments e m k t i texts came gives h = record 
 only_yielded : (texts : List (List ℕ)) (c : Coro) → body_in c ≡ None → can_start (coroutine texts c) ≡ true → (stack : KeptStack) × (c ≡ Suspended stack)
 only_yielded texts (Suspended stack) e t = (stack, refl)
 only_yielded texts (Fresh body) e t = absurd (cc)
-only_yielded texts (Running stack) e t = absurd (no_true t)
-only_yielded texts (Normal stack) e t = absurd (no_true t)
-only_yielded texts Dead e t = absurd (no_true t)
-only_yielded texts (Failed error pending) e t = absurd (no_true t)
+only_yielded texts _ e t = absurd (no_true t)
 
 is_body : (c : Coro) (body : Kept) → body_in c ≡ Some body → c ≡ Fresh body
 is_body (Fresh v) body e = let same : v ≡ body = some_is {o = Some v} refl e in ap (λ v. Fresh v) same
-is_body (Suspended stack) body e = absurd (cc)
-is_body (Running stack) body e = absurd (cc)
-is_body (Normal stack) body e = absurd (cc)
-is_body Dead body e = absurd (cc)
-is_body (Failed error pending) body e = absurd (cc)
+is_body _ body e = absurd (cc)
 
 pub main_is : (W : Memory) (t : MayTurn (plain W 0)) (co : CoroId) → W.main ≡ Some co → t.main ≡ co.0
 main_is W t co e = some_is t.is_main (ap (option_map (λ (co : CoroId). co.0)) e)

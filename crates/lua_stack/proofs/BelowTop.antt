@@ -50,11 +50,7 @@ module _ (values : List Kept) (pending : List ℕ) where
     where
       state : ℕ → LuaState
       state n = record { function = r.function; wait = r.wait; pc = r.pc; size = n }
-  state_read Missing r w i = refl
-  state_read Pcall r w i = refl
-  state_read (Xpcall h) r w i = refl
-  state_read Handler r w i = refl
-  state_read (Closing e) r w i = refl
+  state_read _ r w i = refl
 
 last_below : (a : Inside) (s : KeptStack) → shown a ≡ s → stands a → last (without_last s.frames) ≡ option_map (frame_at a.values.items a.pending.items) (slice_get a.below.items (length a.below.items - 1))
 last_below a s v i =

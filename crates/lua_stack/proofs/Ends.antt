@@ -53,12 +53,8 @@ top_there a s t v i k =
 -- a stack on which a Lua frame stands knows so
 module _ (f : Kept → Value) (values : List Kept) (pending : List ℕ) (fs : List Frame) (t : LuaFrame) where
   frame_lua : (k : Kind) (r : Running) (w : Window) → frame_of f (frame_in values pending k r w) ≡ lua t → k ≡ Lua
-  frame_lua Missing r w e = absurd (cc)
   frame_lua Lua r w e = refl
-  frame_lua Pcall r w e = absurd (cc)
-  frame_lua (Xpcall h) r w e = absurd (cc)
-  frame_lua Handler r w e = absurd (cc)
-  frame_lua (Closing x) r w e = absurd (cc)
+  frame_lua _ r w e = absurd (cc)
 
   top_lua : (below : List Record) (r : Record) → map (frame_of f) (map (frame_at values pending) (below ++ r ∷ [])) ≡ fs ++ lua t ∷ [] → r.kind ≡ Lua
   top_lua below r e =

@@ -7,7 +7,7 @@ use Rattle.table_core.specs.declared.value.Value.{Value as Kept}
 use Rattle.lua_stack.specs.declared.frame.OpenCell.{OpenCell}
 use Rattle.lua_stack.specs.declared.stack.Stack.TheInside.{Inside}
 use Rattle.lua_stack.specs.declared.frame.Kind.TheVariants.{Lua}
-use Rattle.lua_stack.specs.Frames.{KeptFrame, KeptLua, kept_lua, kept_pcall, kept_xpcall, kept_handler, kept_closing, KeptStack, HasLuaTop, TopBecomes, frames, frame_of, lua_of, with_registers}
+use Rattle.lua_stack.specs.Frames.{KeptFrame, KeptLua, kept_lua, KeptStack, HasLuaTop, TopBecomes, frames, frame_of, lua_of, with_registers}
 use Rattle.lua_stack.specs.View.{part, seen, lua_at, frame_at, registers_at, tops}
 use Rattle.lua_stack.specs.Lending.{written_over, top_written, with_top}
 use Rattle.lua_stack.proofs.Ends.{map_more, shown, stands, lua_on_top, lua_frames}
@@ -152,10 +152,7 @@ record IsKeptLua (f : Kept → Value) (k : KeptFrame) (t : LuaFrame) : Type 0 wh
 
 kept_is : (f : Kept → Value) (k : KeptFrame) (t : LuaFrame) → frame_of f k ≡ lua t → IsKeptLua f k t
 kept_is f (kept_lua u) t e = record { kept = u; is = refl; reads = same_lua _ _ e }
-kept_is f kept_pcall t e = absurd (cc)
-kept_is f (kept_xpcall h) t e = absurd (cc)
-kept_is f kept_handler t e = absurd (cc)
-kept_is f (kept_closing x left) t e = absurd (cc)
+kept_is f _ t e = absurd (cc)
 
 pub lent_becomes : (s : KeptStack) (w : List Kept) → ((f : Kept → Value) (below : List Frame) (t : LuaFrame) → frames f s ≡ below ++ lua t ∷ [] → length w ≡ length t.own.registers)
     → TopBecomes s (with_top s w) (λ f t. with_registers (map f w) t)

@@ -334,12 +334,8 @@ resized_open below w v cs h b = record { there = by cs h.there b; in_order = h.i
     by (c ∷ cs) h b = (one below c.frame c.register h.0 b.0.frame_at_most b.0.register_less, by cs h.1 b.1)
 
 reach_whole : (k : Kind) (w v : Window) (r : ℕ) → w.kept ≤ v.kept → r < reach_of k w → r < reach_of k v
-reach_whole Missing w v r m l = absurd (omega arith)
 reach_whole Lua w v r m l = omega arith
-reach_whole Pcall w v r m l = absurd (omega arith)
-reach_whole (Xpcall h) w v r m l = absurd (omega arith)
-reach_whole Handler w v r m l = absurd (omega arith)
-reach_whole (Closing e) w v r m l = absurd (omega arith)
+reach_whole _ w v r m l = absurd (omega arith)
 
 -- the frame below is on top again
 pub popped_open : (below : List Record) (q : Record) (k : Kind) (w : Window) (cs : List OpenCell) → q.window.kept ≤ q.window.size → AreOpen (below ++ q ∷ []) k w cs → AllBelow (length (below ++ q ∷ [])) 0 cs
@@ -445,12 +441,8 @@ last_there below k w cs c h = (within_split below k w cs (c ∷ []) h).1.0
 
 -- the frame on top is a Lua frame where it has a register that is its own
 pub reach_lua : (k : Kind) (w : Window) (r : ℕ) → r < reach_of k w → (k ≡ Lua) × (r < w.kept)
-reach_lua Missing w r l = absurd (omega arith)
 reach_lua Lua w r l = (refl, l)
-reach_lua Pcall w r l = absurd (omega arith)
-reach_lua (Xpcall h) w r l = absurd (omega arith)
-reach_lua Handler w r l = absurd (omega arith)
-reach_lua (Closing e) w r l = absurd (omega arith)
+reach_lua _ w r l = absurd (omega arith)
 
 pub last_reach : (below : List Record) (k : Kind) (w : Window) (register : ℕ) (old new : List OpenCell) (c : OpenCell) → AreOpen below k w old → IsTaken (length below) register old new c
     → (c.frame ≡ length below) × (register ≤ c.register) × (c.register < reach_of k w)

@@ -113,12 +113,8 @@ module _ (f : Kept → Value) (z : f Nil ≡ known nil) (values : List Kept) (pe
   read_all xs (p ∷ ps) = ap (λ v. v ∷ map f (map (kept_at xs) ps)) (read_at xs p) ∙ ap (λ l. nth (map f xs) p ∷ l) (read_all xs ps)
 
   read_frame : (k : Kind) (r : Running) (w : Window) → map f (marked_by values pending k w) ≡ pending_values (frame_of f (frame_in values pending k r w))
-  read_frame Missing r w = refl
   read_frame Lua r w = read_all (registers_at values w) (part w.marks w.marked pending)
-  read_frame Pcall r w = refl
-  read_frame (Xpcall h) r w = refl
-  read_frame Handler r w = refl
-  read_frame (Closing x) r w = refl
+  read_frame _ r w = refl
 
   read_frames : (rs : List Record) → map f (flat_map (marked_values values pending) rs) ≡ flat_map pending_values (map (frame_of f) (map (frame_at values pending) rs))
   read_frames [] = refl

@@ -22,27 +22,15 @@ use Rattle.lua_stack.proofs.OpenCells.{below_pushed, closed_top, emptied_open, n
 
 pub tops_missing : (k : Kind) (r : Record) → is_missing k ≡ true → tops_of k r ≡ []
 tops_missing Missing r e = refl
-tops_missing Lua r e = absurd (cc)
-tops_missing Pcall r e = absurd (cc)
-tops_missing (Xpcall h) r e = absurd (cc)
-tops_missing Handler r e = absurd (cc)
-tops_missing (Closing x) r e = absurd (cc)
+tops_missing _ r e = absurd (cc)
 
 pub tops_there : (k : Kind) (r : Record) → is_missing k ≡ false → tops_of k r ≡ r ∷ []
 tops_there Missing r e = absurd (cc)
-tops_there Lua r e = refl
-tops_there Pcall r e = refl
-tops_there (Xpcall h) r e = refl
-tops_there Handler r e = refl
-tops_there (Closing x) r e = refl
+tops_there _ r e = refl
 
 tops_frame : (k : Kind) (w : Window) (r : Record) → IsFrame k w → tops_of k r ≡ r ∷ []
 tops_frame Missing w r f = absurd f
-tops_frame Lua w r f = refl
-tops_frame Pcall w r f = refl
-tops_frame (Xpcall h) w r f = refl
-tops_frame Handler w r f = refl
-tops_frame (Closing x) w r f = refl
+tops_frame _ w r f = refl
 
 under_behind : (n m : ℕ) (r : Record) (k : Kind) → IsWithin n m r.window → IsUnder (record_behind r k).window r.window
 under_behind n m r k w = record { extra = w.extra; values = (let e = w.kept in omega arith); marks = le_refl _ }
@@ -68,19 +56,11 @@ module _ (n m : ℕ) (below : List Record) (r : Running) (w : Window) (s : AreSt
 
 none_under : (k : Kind) (rs : List Record) → is_missing k ≡ false → NoneUnder k rs
 none_under Missing rs e = absurd (cc)
-none_under Lua rs e = tt
-none_under Pcall rs e = tt
-none_under (Xpcall h) rs e = tt
-none_under Handler rs e = tt
-none_under (Closing x) rs e = tt
+none_under _ rs e = tt
 
 plain_is : (k : Kind) → is_plain k ≡ true → is_missing k ≡ false
 plain_is Missing e = absurd (cc)
-plain_is Lua e = refl
-plain_is Pcall e = refl
-plain_is (Xpcall h) e = refl
-plain_is Handler e = refl
-plain_is (Closing x) e = refl
+plain_is _ e = refl
 
 pub pushed_stands : (a : Inside) (below : List Record) (k : Kind) (top : Record) → stands a → below ≡ a.below.items ++ tops a.top → is_plain k ≡ true → top ≡ record_behind a.top k → IsStack a.values.items a.pending.items below top
 pushed_stands a below k top i e p q =
@@ -140,7 +120,6 @@ module _ (values : List Kept) (pending : List ℕ) (r : Record) (w : IsWithin (l
       (take_put_all (blank (r.window.size - r.window.kept)) values r.window.base (r.window.base + r.window.kept) (omega arith))
 
   woken_frame : (k : Kind) → IsFrame k r.window → frame_in filled pending k r.running (whole_record r).window ≡ frame_in values pending k r.running r.window
-  woken_frame Missing f = refl
   woken_frame Lua f =
       let W = (whole_record r).window in
       let marks = part W.marks W.marked pending in
@@ -149,12 +128,10 @@ module _ (values : List Kept) (pending : List ℕ) (r : Record) (w : IsWithin (l
     where
       lua_all : Running → List Kept → List Kept → List ℕ → KeptFrame
       lua_all r registers extra marks = kept_lua (record { function = r.function; wait = r.wait; pc = r.pc; registers = registers; varargs = extra; pending = marks; opened = r.opened })
-  woken_frame Pcall f = refl
-  woken_frame (Xpcall h) f = refl
-  woken_frame Handler f = refl
   woken_frame (Closing e) f =
       let z : r.window.size - r.window.kept ≡ 0 = omega (arith, f) in
       ap (kept_closing e) (values_filled ∙ ap (λ n. part r.window.base r.window.kept values ++ blank n) z ∙ append_nil (part r.window.base r.window.kept values))
+  woken_frame _ f = refl
 
 missing_none : (k : Kind) (below : List Record) (r : Record) → NoneUnder k (below ++ r ∷ []) → is_missing k ≡ false
 missing_none Missing below r e = absurd (never below e)
@@ -162,11 +139,7 @@ missing_none Missing below r e = absurd (never below e)
     never : (below : List Record) → below ++ r ∷ [] ≡ [] → ⊥
     never [] e = cc
     never (q ∷ below) e = cc
-missing_none Lua below r e = refl
-missing_none Pcall below r e = refl
-missing_none (Xpcall h) below r e = refl
-missing_none Handler below r e = refl
-missing_none (Closing x) below r e = refl
+missing_none _ below r e = refl
 
 -- what holds where the frame on top is a Lua frame
 lua_closed : (a : Inside) (s : KeptStack) (P : Type 0) → shown a ≡ s → a.top.kind ≡ Lua → OnTop s (λ f t. P) → P

@@ -12,7 +12,7 @@ use Rattle.lua_stack.specs.declared.frame.Running.{Running}
 use Rattle.lua_stack.specs.declared.frame.Record.{Record}
 use Rattle.lua_stack.specs.declared.frame.OpenCell.{OpenCell}
 use Rattle.lua_stack.specs.declared.frame.Kind.{Kind}
-use Rattle.lua_stack.specs.declared.frame.Kind.TheVariants.{Missing, Lua, Pcall, Xpcall, Handler, Closing}
+use Rattle.lua_stack.specs.declared.frame.Kind.TheVariants.{Lua, Closing}
 use Rattle.lua_stack.specs.declared.stack.Stack.TheInside.{Inside}
 use Rattle.lua_stack.specs.Frames.{KeptStack, kept_lua, kept_closing, cell_at, frames, frame_of, lua_of, register_in, HasOpen, HasRegisters, AllBelow, NoneFrom, TakesLast, RegisterIs, RegisterBecomes, Adds, opened_at, top_number}
 use Rattle.lua_stack.specs.View.{part, blank, frame_at, frame_in, lua_at, registers_at, tops_of, seen, IsUnder, AllUnder, AllOver, IsWithin, AreStacked, AreOpen, IsTaken, reach_of, reach_at, window_at}
@@ -49,22 +49,14 @@ module _ (a : Inside) (s : KeptStack) (frame register : ℕ) (v : shown a ≡ s)
 module _ (f : Kept → Value) (xs : List Kept) (ps : List ℕ) (register : ℕ) (v : Kept) where
   lua_reads : (k : Kind) (r : Running) (w : Window) → register < reach_of k w → slice_get xs (w.base + register) ≡ Some v
       → bind (lua_frame (frame_of f (frame_in xs ps k r w))) (λ t. slice_get t.own.registers register) ≡ Some (f v)
-  lua_reads Missing r w l g = absurd (omega arith)
   lua_reads Lua r w l g =
       get_map f (registers_at xs w) register v (get_old (part w.base w.kept xs) (blank (w.size - w.kept)) register v (get_part xs w.base w.kept register l ∙ g))
-  lua_reads Pcall r w l g = absurd (omega arith)
-  lua_reads (Xpcall h) r w l g = absurd (omega arith)
-  lua_reads Handler r w l g = absurd (omega arith)
-  lua_reads (Closing e) r w l g = absurd (omega arith)
+  lua_reads _ r w l g = absurd (omega arith)
 
   top_reads : (k : Kind) (r : Running) (w : Window) → register < reach_of k w → slice_get xs (w.base + register) ≡ Some v
       → register_in 0 register (map (frame_of f) (map (frame_at xs ps) (tops_of k (record { kind = k; running = r; window = w })))) ≡ Some (f v)
-  top_reads Missing r w l g = absurd (omega arith)
   top_reads Lua r w l g = lua_reads Lua r w l g
-  top_reads Pcall r w l g = absurd (omega arith)
-  top_reads (Xpcall h) r w l g = absurd (omega arith)
-  top_reads Handler r w l g = absurd (omega arith)
-  top_reads (Closing e) r w l g = absurd (omega arith)
+  top_reads _ r w l g = absurd (omega arith)
 
   frame_reads : (below : List Record) (k : Kind) (r : Running) (w : Window) (frame : ℕ) → register < reach_at below k w frame → slice_get xs ((window_at below w frame).base + register) ≡ Some v
       → register_in frame register (map (frame_of f) (map (frame_at xs ps) (below ++ tops_of k (record { kind = k; running = r; window = w })))) ≡ Some (f v)
@@ -95,14 +87,11 @@ module _ (f : Kept → Value) (xs : List Kept) (ps : List ℕ) (register at : �
   -- a frame whose values are the same
   same_frame : (k : Kind) (r : Running) (w : Window) → part w.base w.kept ys ≡ part w.base w.kept xs → part w.start (w.base - w.start) ys ≡ part w.start (w.base - w.start) xs
       → frame_in ys ps k r w ≡ frame_in xs ps k r w
-  same_frame Missing r w e d = refl
   same_frame Lua r w e d =
       ap (λ l. lua_with r w l (part w.start (w.base - w.start) ys) (part w.marks w.marked ps)) e
       ∙ ap (λ l. lua_with r w (part w.base w.kept xs) l (part w.marks w.marked ps)) d
-  same_frame Pcall r w e d = refl
-  same_frame (Xpcall h) r w e d = refl
-  same_frame Handler r w e d = refl
   same_frame (Closing x) r w e d = ap (kept_closing x) e
+  same_frame _ r w e d = refl
 
   under_same : (k : Kind) (r : Running) (w : Window) → w.start ≤ w.base → w.base + w.kept ≤ at → frame_in ys ps k r w ≡ frame_in xs ps k r w
   under_same k r w x l =
@@ -114,12 +103,9 @@ module _ (f : Kept → Value) (xs : List Kept) (ps : List ℕ) (register at : �
 
   tops_over : (k : Kind) (r : Running) (w : Window) → w.start ≤ w.base → at < w.start
       → map (frame_at ys ps) (tops_of k (record { kind = k; running = r; window = w })) ≡ map (frame_at xs ps) (tops_of k (record { kind = k; running = r; window = w }))
-  tops_over Missing r w x l = refl
   tops_over Lua r w x l = ap (λ g. g ∷ []) (over_same Lua r w x l)
-  tops_over Pcall r w x l = refl
-  tops_over (Xpcall h) r w x l = refl
-  tops_over Handler r w x l = refl
   tops_over (Closing e) r w x l = ap (λ g. g ∷ []) (over_same (Closing e) r w x l)
+  tops_over _ r w x l = refl
 
   all_over : (z : Window) (n m : ℕ) (below : List Record) (k : Kind) (r : Running) (w : Window) → AllOver z below → AreStacked n m below → IsUnder w z → w.start ≤ w.base → at < z.base + z.kept
       → map (frame_at ys ps) (below ++ tops_of k (record { kind = k; running = r; window = w })) ≡ map (frame_at xs ps) (below ++ tops_of k (record { kind = k; running = r; window = w }))
@@ -131,7 +117,6 @@ module _ (f : Kept → Value) (xs : List Kept) (ps : List ℕ) (register at : �
 
   lua_writes : (k : Kind) (r : Running) (w : Window) → register < reach_of k w → at ≡ w.base + register → w.start ≤ w.base → w.base + w.kept ≤ length xs
       → frame_of f (frame_in ys ps k r w) ≡ write_in_frame register (f v) (frame_of f (frame_in xs ps k r w))
-  lua_writes Missing r w l e x b = absurd (omega arith)
   lua_writes Lua r w l e x b =
       let P = part w.base w.kept xs in
       let B = blank (w.size - w.kept) in
@@ -142,10 +127,7 @@ module _ (f : Kept → Value) (xs : List Kept) (ps : List ℕ) (register at : �
       ∙ ap (λ l. lua (made f r (part w.marks w.marked ps) l (map f (part w.start (w.base - w.start) ys)))) (map_set f (P ++ B) register v (omega (arith, n, m, l)))
       ∙ ap (λ l. lua (made f r (part w.marks w.marked ps) (write register (f v) (map f (P ++ B))) (map f l)))
       (part_kept w.start (w.base - w.start) w.base xs ys (omega arith) (take_set xs w.base at v (omega (arith, e))))
-  lua_writes Pcall r w l e x b = absurd (omega arith)
-  lua_writes (Xpcall h) r w l e x b = absurd (omega arith)
-  lua_writes Handler r w l e x b = absurd (omega arith)
-  lua_writes (Closing y) r w l e x b = absurd (omega arith)
+  lua_writes _ r w l e x b = absurd (omega arith)
 
   -- the frame that is written stands behind those below it
   base_behind : (z : Window) (n m : ℕ) (below : List Record) (w : Window) (frame : ℕ) → AllOver z below → AreStacked n m below → IsUnder w z → w.start ≤ w.base → frame ≤ length below → z.base + z.kept ≤ (window_at below w frame).base
@@ -159,12 +141,8 @@ module _ (f : Kept → Value) (xs : List Kept) (ps : List ℕ) (register at : �
   top_writes : (k : Kind) (r : Running) (w : Window) → register < reach_of k w → at ≡ w.base + register → w.start ≤ w.base → w.base + w.kept ≤ length xs → (g : Frame)
       → slice_get (read_all xs (tops_of k (record { kind = k; running = r; window = w }))) 0 ≡ Some g
       → read_all ys (tops_of k (record { kind = k; running = r; window = w })) ≡ slice_set (read_all xs (tops_of k (record { kind = k; running = r; window = w }))) 0 (write_in_frame register (f v) g)
-  top_writes Missing r w l e x b g is = absurd (omega arith)
   top_writes Lua r w l e x b g is = ap (λ g. g ∷ []) (lua_writes Lua r w l e x b ∙ ap (write_in_frame register (f v)) (some_same _ _ is))
-  top_writes Pcall r w l e x b g is = absurd (omega arith)
-  top_writes (Xpcall h) r w l e x b g is = absurd (omega arith)
-  top_writes Handler r w l e x b g is = absurd (omega arith)
-  top_writes (Closing y) r w l e x b g is = absurd (omega arith)
+  top_writes _ r w l e x b g is = absurd (omega arith)
 
   frame_writes : (m : ℕ) (below : List Record) (k : Kind) (r : Running) (w : Window) (frame : ℕ) → AreStacked (length xs) m below → AllUnder w below → IsWithin (length xs) m w
       → register < reach_at below k w frame → at ≡ (window_at below w frame).base + register → (g : Frame)

@@ -5,7 +5,7 @@ use Rattle.lua_stack.specs.declared.frame.Window.{Window}
 use Rattle.lua_stack.specs.declared.frame.Running.{Running}
 use Rattle.lua_stack.specs.declared.frame.Record.{Record}
 use Rattle.lua_stack.specs.declared.frame.Kind.{Kind}
-use Rattle.lua_stack.specs.declared.frame.Kind.TheVariants.{Missing, Lua, Pcall, Xpcall, Handler, Closing}
+use Rattle.lua_stack.specs.declared.frame.Kind.TheVariants.{Lua, Closing}
 use Rattle.lua_stack.specs.Frames.{KeptFrame, kept_lua, kept_closing}
 use Rattle.lua_stack.specs.View.{part, blank, frame_at, frame_in, IsUnder, AllUnder, AllOver, IsWithin, IsFrame, AreStacked}
 use Rattle.lua_stack.proofs.Parts.{part_kept}
@@ -23,15 +23,12 @@ lua_with r w kept extra marks = kept_lua (record {
 
 module _ (xs ys : List Kept) (ps qs : List ℕ) (n m : ℕ) (same : take n ys ≡ take n xs) (marks_same : take m qs ≡ take m ps) where
   kept_frame : (k : Kind) (r : Running) (w : Window) → w.start ≤ w.base → w.base + w.kept ≤ n → w.marks + w.marked ≤ m → frame_in ys qs k r w ≡ frame_in xs ps k r w
-  kept_frame Missing r w a b c = refl
   kept_frame Lua r w a b c =
       ap (λ l. lua_with r w l (part w.start (w.base - w.start) ys) (part w.marks w.marked qs)) (part_kept w.base w.kept n xs ys b same)
       ∙ ap (λ l. lua_with r w (part w.base w.kept xs) l (part w.marks w.marked qs)) (part_kept w.start (w.base - w.start) n xs ys (omega arith) same)
       ∙ ap (λ l. lua_with r w (part w.base w.kept xs) (part w.start (w.base - w.start) xs) l) (part_kept w.marks w.marked m ps qs c marks_same)
-  kept_frame Pcall r w a b c = refl
-  kept_frame (Xpcall h) r w a b c = refl
-  kept_frame Handler r w a b c = refl
   kept_frame (Closing e) r w a b c = ap (kept_closing e) (part_kept w.base w.kept n xs ys b same)
+  kept_frame _ r w a b c = refl
 
   pub below_kept : (w : Window) (rs : List Record) → AllUnder w rs → w.start ≤ n → w.marks ≤ m → map (frame_at ys qs) rs ≡ map (frame_at xs ps) rs
   below_kept w [] u a b = refl

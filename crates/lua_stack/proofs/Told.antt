@@ -1,5 +1,5 @@
 -- What the machine is told of frames, read from how they are kept.
-use Rattle.std.proofs.Common.{◌≡◌, List, [], ◌∷◌, length, map, Option, Some, None, refl, ap, sym, ◌∙◌}
+use Rattle.std.proofs.Common.{◌≡◌, List, [], ◌∷◌, length, map, Option, Some, refl, ap, sym, ◌∙◌}
 use Rattle.std.specs.Prelude.{option_map, reverse, slice_get}
 use Rattle.std.proofs.lemmas.List.{length-map}
 use Rattle.int_core.specs.Value.{Value, last}
@@ -11,12 +11,8 @@ use Rattle.lua_stack.proofs.ClosingTop.{reverse_map}
 use Rattle.lua_stack.proofs.Pushed.{get_map}
 
 kept_tells : (k : Option KeptFrame) → Tells (top_is k) (λ f. option_map (frame_of f) k)
-kept_tells None = record { shape = λ f W. refl; handlers = λ f. refl }
-kept_tells (Some (kept_lua t)) = record { shape = λ f W. refl; handlers = λ f. refl }
-kept_tells (Some kept_pcall) = record { shape = λ f W. refl; handlers = λ f. refl }
-kept_tells (Some (kept_xpcall h)) = record { shape = λ f W. refl; handlers = λ f. refl }
-kept_tells (Some kept_handler) = record { shape = λ f W. refl; handlers = λ f. refl }
 kept_tells (Some (kept_closing error left)) = record { shape = λ f W. refl; handlers = λ f. refl }
+kept_tells _ = record { shape = λ f W. refl; handlers = λ f. refl }
 
 tells_as : (top : Top) (k : Option KeptFrame) (frame : (Kept → Value) → Option _) → top ≡ top_is k → ((f : Kept → Value) → frame f ≡ option_map (frame_of f) k) → Tells top frame
 tells_as top k frame e h = record {

@@ -3,7 +3,7 @@ use Rattle.std.proofs.Common.{ℕ, zero, suc, ◌≡◌, List, [], ◌∷◌, �
 use Rattle.std.specs.Prelude.{slice_get, nat_eq, reverse, filter_map, codes, decimal}
 use Rattle.code_core.specs.Prototype.{Prototype}
 use Rattle.int_core.specs.Limits.{limited, source_name, stack_overflow, string_fits}
-use Rattle.int_core.specs.Value.{nil, boolean, integer, string, primitive, a_table, a_function, a_coroutine, Value, known, bind, last}
+use Rattle.int_core.specs.Value.{nil, boolean, integer, string, primitive, a_function, a_coroutine, Value, known, bind, last}
 use Rattle.int_core.specs.Operations.{Callee, callee_of, greatest_chain, handler_in, of_close}
 use Rattle.machine_core.specs.World.{Function, Wait, running, for_call, for_iterator, for_value, for_truth, dropped, for_concat, for_close, returning, leaving, LuaFrame, Frame, lua, World, Stack, stack_of, Place}
 use Rattle.machine_core.specs.Text.{Arg, arg, Own, close_cells, keep_pending, Given, results, thrown, given_values}
@@ -21,19 +21,14 @@ use Rattle.machine_alike.proofs.OwnFrame.{on_place}
 -- a function that can be entered
 
 pub enters_same : (p : Pairs) (W X : World) (f g : Value) (vs ws : List Value) → AgreeInTurn p W X → SameValue p f g → SameValues p vs ws → Alike p CallShape (enters W f vs) (enters X g ws)
-enters_same p W X f g vs ws a (same_known nil) s = tt
-enters_same p W X f g vs ws a (same_known (boolean b)) s = tt
-enters_same p W X f g vs ws a (same_known (integer n)) s = tt
-enters_same p W X f g vs ws a (same_known (string t)) s = tt
 enters_same p W X f g vs ws a (same_known (primitive n)) s = made_same p p CallShape _ _ [] [] (is_primitive n) (is_primitive n) (extends_self p) (moving_agrees p W X vs ws a s) tt refl
-enters_same p W X f g vs ws a (same_object a_table i j h) s = tt
-enters_same p W X f g vs ws a (same_object a_coroutine i j h) s = tt
 enters_same p W X f g vs ws a (same_object a_function i j h) s =
     each_bind (SameFunction p) (MadeAlike p CallShape) _ _
     (λ x y k. cond_rel (Alike p CallShape) (has_room W 1) (has_room X 1) _ _ _ _ (has_room_same p W X 1 a)
     (made_same p p CallShape _ _ [] [] is_entered is_entered (extends_self p) (push_all_same p (new_frame i x.code vs ∷ []) (new_frame j y.code ws ∷ []) W X a (new_frame_same p i j x y vs ws h k s, tt)) tt refl)
     (made_same p p CallShape W X [] [] (not_entered stack_overflow) (not_entered stack_overflow) (extends_self p) a tt refl))
     (slice_get W.functions i) (slice_get X.functions j) (function_at p W X a i j h)
+enters_same p W X f g vs ws a _ s = tt
 
 -- W and X as they were, V and Y made ready
 paid_same : (p : Pairs) (W X V Y : World) (f g : Value) (vs ws : List Value) (m n : ℕ) → m ≡ n → AgreeInTurn p W X → AgreeInTurn p V Y → SameValue p f g → SameValues p vs ws → Alike p CallShape
@@ -106,10 +101,7 @@ lua_place p W X f g a h = by (slice_get W.functions f.function) (slice_get X.fun
 
 place_same_text : (p : Pairs) (W X : World) → AgreeInTurn p W X → (f g : Frame) → SameFrame p f g → frame_place W f ≡ frame_place X g
 place_same_text p W X a f g (same_lua x y h) = lua_place p W X x y a h
-place_same_text p W X a f g same_pcall = refl
-place_same_text p W X a f g (same_xpcall v w h) = refl
-place_same_text p W X a f g same_handler = refl
-place_same_text p W X a f g (same_closing v w vs ws h k) = refl
+place_same_text p W X a f g _ = refl
 
 abbrev where_by : World → ℕ → Option Stack → List ℕ
 where_by W level o = elim (bind o (λ s. slice_get (filter_map (frame_place W) (reverse s.frames)) level)) [ None ↦ [] | Some text ↦ text ]

@@ -50,10 +50,7 @@ nths_same p vs ws (r ∷ places) h = (nth_same p vs ws r h, nths_same p vs ws pl
 
 pending_same : (p : Pairs) (f g : Frame) → SameFrame p f g → SameValues p (pending_values f) (pending_values g)
 pending_same p f g (same_lua x y h) = subst (λ places. SameValues p (map (nth x.own.registers) x.own.pending) (map (nth y.own.registers) places)) h.own.pending (nths_same p x.own.registers y.own.registers x.own.pending h.own.registers)
-pending_same p f g same_pcall = tt
-pending_same p f g (same_xpcall v w h) = tt
-pending_same p f g same_handler = tt
-pending_same p f g (same_closing v w vs ws h k) = tt
+pending_same p f g _ = tt
 
 all_pending_same : (p : Pairs) (fs gs : List Frame) → SameFrames p fs gs → SameValues p (flat_map pending_values fs) (flat_map pending_values gs)
 all_pending_same p fs gs h = zip_parts (SameFrame p) (SameValue p) pending_values pending_values (pending_same p) fs gs h
@@ -179,18 +176,11 @@ starts_same p W X i j vs ws a h s c d (same_fresh v w k) =
 starts_same p W X i j vs ws a h s c d (same_suspended fs gs k) =
     made_same p p ResumeShape _ _ [] [] (resumed is_entered) (resumed is_entered) (extends_self p)
     (moving_agrees p _ _ vs ws (into_same p W X i j fs gs a h k) s) tt refl
-starts_same p W X i j vs ws a h s c d (same_in_progress fs gs k) = refused_same p W X _ a
-starts_same p W X i j vs ws a h s c d (same_normal fs gs k) = refused_same p W X _ a
-starts_same p W X i j vs ws a h s c d same_dead = refused_same p W X _ a
-starts_same p W X i j vs ws a h s c d (same_failed v w xs ys k l) = refused_same p W X _ a
+starts_same p W X i j vs ws a h s c d _ = refused_same p W X _ a
 
 can_start_same : (p : Pairs) (c d : Coroutine) → SameCoroutine p c d → can_start c ≡ can_start d
 can_start_same p c d (same_fresh v w k) = refl
-can_start_same p c d (same_suspended fs gs k) = refl
-can_start_same p c d (same_in_progress fs gs k) = refl
-can_start_same p c d (same_normal fs gs k) = refl
-can_start_same p c d same_dead = refl
-can_start_same p c d (same_failed v w xs ys k l) = refl
+can_start_same p c d _ = refl
 
 resumes_same : (p : Pairs) (W X : World) (s t : Stack) (i j : ℕ) (c d : Coroutine) (vs ws : List Value) → AgreeInTurn p W X → SameStack p s t → SameNumber p a_coroutine i j → SameCoroutine p c d → SameValues p vs ws → Alike p ResumeShape (resumes W s i c vs) (resumes X t j d ws)
 resumes_same p W X s t i j c d vs ws a b h k l =
@@ -253,11 +243,7 @@ create_keeps x p env other W X s g =
 
 status_same : (p : Pairs) (c d : Coroutine) → SameCoroutine p c d → status_of c ≡ status_of d
 status_same p c d (same_fresh v w k) = refl
-status_same p c d (same_suspended fs gs k) = refl
-status_same p c d (same_in_progress fs gs k) = refl
-status_same p c d (same_normal fs gs k) = refl
-status_same p c d same_dead = refl
-status_same p c d (same_failed v w xs ys k l) = refl
+status_same p c d _ = refl
 
 pub see_status_keeps : (x : Arg) → Keeps (see_status x)
 see_status_keeps x p env other W X s g =

@@ -15,7 +15,7 @@ use Rattle.machine_core.specs.FrameRows.{by_asking, expand, goes_on_by, asked_ro
 use Rattle.machine_core.specs.MachineStep.{woken, lua_step, frame_step, top_step, from_world, step_by, step, and_then, steps}
 use Rattle.machine_core.specs.RowFits.{MakesNone, OpensFirst}
 use Rattle.machine_core.proofs.RowsOpen.{row_opens, rest_none}
-use Rattle.machine_alike.specs.Agree.{Pairs, Each, SameValues, SameFunction, SameWait, same_running, same_for_call, same_for_iterator, same_for_value, same_for_truth, same_dropped, same_for_concat, same_for_close, same_returning, same_leaving, SameLuaFrame, SameFrame, same_lua, same_pcall, same_xpcall, same_handler, same_closing, AgreeInTurn}
+use Rattle.machine_alike.specs.Agree.{Pairs, Each, SameValues, SameFunction, SameWait, same_running, same_for_concat, same_leaving, SameLuaFrame, SameFrame, same_lua, AgreeInTurn}
 use Rattle.machine_alike.specs.Laws.{SameOutcome, both_trap, both_end, NoneMade, StepsKeep}
 use Rattle.machine_alike.proofs.Pairwise.{zip_last, zip_length}
 use Rattle.machine_alike.proofs.Same.{nth_same, SameStack, SamePlace, stack_same, function_at, extends_self}
@@ -84,16 +84,9 @@ module _ (p : Pairs) (W X : World) (s t : Stack) (f g : LuaFrame) (a : AgreeInTu
   lua_by : (code : Prototype) → Ready p code [] W X → (v w : Wait Value) → SameWait p v w → SameOutcome p (lua_step W s f code v) (lua_step X t g code w)
   lua_by code ready v w same_running =
       subst (λ text. SameOutcome p (run (expand (text_at code f.own.pc)) [] W) (run (expand text) [] X)) (ap (text_at code) h.own.pc) (first_keeps (text_at code f.own.pc) code [] (text_first code f.own.pc) p [] [] W X tt a ready)
-  lua_by code ready v w same_for_call = goes_on code v w W.moving X.moving refl a.moving
-  lua_by code ready v w same_for_iterator = goes_on code v w W.moving X.moving refl a.moving
-  lua_by code ready v w same_for_value = goes_on code v w W.moving X.moving refl a.moving
-  lua_by code ready v w same_for_truth = goes_on code v w W.moving X.moving refl a.moving
-  lua_by code ready v w same_dropped = goes_on code v w W.moving X.moving refl a.moving
-  lua_by code ready v w (same_for_concat zero) = goes_on code v w W.moving X.moving refl a.moving
   lua_by code ready v w (same_for_concat (suc more)) = goes_on code v w (nth W.moving 0 ∷ []) (nth X.moving 0 ∷ []) refl (nth_same p W.moving X.moving 0 a.moving, tt)
-  lua_by code ready v w same_for_close = goes_on code v w W.moving X.moving refl a.moving
-  lua_by code ready v w (same_returning count) = goes_on code v w W.moving X.moving refl a.moving
   lua_by code ready v w (same_leaving x y k) = goes_on code v w (x ∷ []) (y ∷ []) (left_alike code f.own.pc x y) (k, tt)
+  lua_by code ready v w _ = goes_on code v w W.moving X.moving refl a.moving
 
   lua_same : stack_of W ≡ Some s → stack_of X ≡ Some t → last s.frames ≡ Some (lua f) → last t.frames ≡ Some (lua g) → (x y : Function) → slice_get W.functions f.function ≡ Some x → slice_get X.functions g.function ≡ Some y → SameFunction p x y
       → SameOutcome p (lua_step W s f x.code f.wait) (lua_step X t g y.code g.wait)
@@ -117,10 +110,7 @@ module _ (p : Pairs) (W X : World) (s t : Stack) (f g : LuaFrame) (a : AgreeInTu
 frame_same : (p : Pairs) (W X : World) (s t : Stack) → AgreeInTurn p W X → SameStack p s t → stack_of W ≡ Some s → stack_of X ≡ Some t → (f g : Frame) → last s.frames ≡ Some f → last t.frames ≡ Some g → SameFrame p f g
     → Each (SameOutcome p) (frame_step W s f) (frame_step X t g)
 frame_same p W X s t a b d d' f g e e' (same_lua x y h) = lua_frame_same p W X s t x y a b h d d' e e'
-frame_same p W X s t a b d d' f g e e' same_pcall = tt
-frame_same p W X s t a b d d' f g e e' (same_xpcall v w h) = tt
-frame_same p W X s t a b d d' f g e e' same_handler = tt
-frame_same p W X s t a b d d' f g e e' (same_closing v w vs ws h k) = tt
+frame_same p W X s t a b d d' f g e e' _ = tt
 
 stack_step_same : (p : Pairs) (W X : World) (s t : Stack) → AgreeInTurn p W X → SameStack p s t → stack_of W ≡ Some s → stack_of X ≡ Some t → Each (SameOutcome p) (bind (last s.frames) (frame_step W s)) (bind (last t.frames) (frame_step X t))
 stack_step_same p W X s t a b d d' = by (last s.frames) (last t.frames) refl refl (zip_last (SameFrame p) s.frames t.frames b.frames)

@@ -5,7 +5,7 @@ use Rattle.std.specs.List.{prefix_len}
 use Rattle.std.specs.List.{AllZip}
 use Rattle.std.specs.Map.{keys_of}
 use Rattle.int_core.specs.Rows.{get, set, border, next, rows_after, is_filled}
-use Rattle.int_core.specs.Value.{nil, boolean, integer, string, primitive, a_table, a_function, a_coroutine, Value, known, is_known, same, table_values, nth, bind}
+use Rattle.int_core.specs.Value.{nil, boolean, string, a_table, a_function, a_coroutine, Value, known, is_known, same, table_values, nth, bind}
 use Rattle.int_core.specs.Heap.{Table, Heap, raw_get, raw_set, metatable_of}
 use Rattle.library_rows.specs.Look.{HeapOp, look, compare, read_field, write_field, read_metatable, write_metatable, border_of, row_after, make_table, Step, or_nil, table_or_nil, put_field, put_metatable, put_meta, border_told, border_in, row_step, row_in, does_op, Look, gives, gives_all, refuses, raises, count, does, Done, done as came, refused as was_refused, raised as was_raised, looked, arg, args_of}
 use Rattle.machine_core.specs.World.{World}
@@ -103,15 +103,10 @@ module _ (p : Pairs) where
   number_value (Some x) (Some y) e = same_object a_table x y e
 
   metatable_same : (H I : Heap) (v w : Value) → SameHeap p H I → SameValue p v w → Each (SameNumber p a_table) (metatable_of H v) (metatable_of I w)
-  metatable_same H I v w a (same_known nil) = tt
-  metatable_same H I v w a (same_known (boolean b)) = tt
-  metatable_same H I v w a (same_known (integer n)) = tt
   metatable_same H I v w a (same_known (string s)) = a.string_metatable
-  metatable_same H I v w a (same_known (primitive n)) = tt
-  metatable_same H I v w a (same_object a_function i j h) = tt
-  metatable_same H I v w a (same_object a_coroutine i j h) = tt
   metatable_same H I v w a (same_object a_table i j h) =
       each_bind (SameTable p) (SameNumber p a_table) _ _ (λ x y r. r.metatable) (slice_get H.tables i) (slice_get I.tables j) (at_table H I a i j h)
+  metatable_same H I v w a _ = tt
 
   put_same : (H I : Heap) (o o' : Value) (m n : Option ℕ) → SameHeap p H I → SameValue p o o' → Each (SameNumber p a_table) m n → SameHeap p (put_metatable H o m) (put_metatable I o' n)
   unfolding put_metatable

@@ -87,15 +87,10 @@ module _ (p : Pairs) where
       each_bind (SameTable p) (SameValue p) _ _ (λ x y r. get_same p a.one_to_one x.rows y.rows k k' r.rows t) (slice_get H.tables i) (slice_get I.tables j) (table_at H I a i j h)
 
   metatable_same : (H I : Heap) (v w : Value) → SameHeap p H I → SameValue p v w → Each (SameNumber p a_table) (metatable_of H v) (metatable_of I w)
-  metatable_same H I v w a (same_known nil) = tt
-  metatable_same H I v w a (same_known (boolean b)) = tt
-  metatable_same H I v w a (same_known (integer n)) = tt
   metatable_same H I v w a (same_known (string s)) = a.string_metatable
-  metatable_same H I v w a (same_known (primitive n)) = tt
-  metatable_same H I v w a (same_object a_function i j h) = tt
-  metatable_same H I v w a (same_object a_coroutine i j h) = tt
   metatable_same H I v w a (same_object a_table i j h) =
       each_bind (SameTable p) (SameNumber p a_table) _ _ (λ x y r. r.metatable) (slice_get H.tables i) (slice_get I.tables j) (table_at H I a i j h)
+  metatable_same H I v w a _ = tt
 
   pub handler_same : (H I : Heap) (event : Event) (v w : Value) → SameHeap p H I → SameValue p v w → SameValue p (handler_in H event v) (handler_in I event w)
   handler_same H I event v w a s = value_or_nil p _ _

@@ -119,10 +119,6 @@ one_closed_same p W X s t e f vs ws (Some x) (Some y) a b h k l =
     (put_top_same p W X s t _ _ a b (same_closing e f (without_last vs) (without_last ws) h (zip_without_last (SameValue p) vs ws k))) (l, (error_same p e f h, tt)) refl
 
 next_closing_same : (p : Pairs) (W X : World) (s t : Stack) → AgreeInTurn p W X → SameStack p s t → (f g : Frame) → SameFrame p f g → Alike p ClosingShape (next_closing W s f) (next_closing X t g)
-next_closing_same p W X s t a b f g (same_lua x y h) = tt
-next_closing_same p W X s t a b f g same_pcall = tt
-next_closing_same p W X s t a b f g (same_xpcall v w h) = tt
-next_closing_same p W X s t a b f g same_handler = tt
 next_closing_same p W X s t a b f g (same_closing v w vs ws h k) = by vs ws k
   where
     by : (vs ws : List Value) → SameValues p vs ws → Alike p ClosingShape (next_closing W s (closing v vs)) (next_closing X t (closing w ws))
@@ -130,17 +126,15 @@ next_closing_same p W X s t a b f g (same_closing v w vs ws h k) = by vs ws k
     by [] (y ∷ ws) k = absurd k
     by (x ∷ vs) [] k = absurd k
     by (x ∷ vs) (y ∷ ws) k = one_closed_same p W X s t v w (x ∷ vs) (y ∷ ws) (last (x ∷ vs)) (last (y ∷ ws)) a b h k (zip_last (SameValue p) (x ∷ vs) (y ∷ ws) k)
+next_closing_same p W X s t a b f g _ = tt
 
 pub take_closing_keeps : Keeps take_closing
 take_closing_keeps p env other W X s g = on_stack p ClosingShape W X _ _ g
     (λ x y b. each_bind (SameFrame p) (MadeAlike p ClosingShape) (next_closing W x) (next_closing X y) (next_closing_same p W X x y g b) (last x.frames) (last y.frames) (zip_last (SameFrame p) x.frames y.frames b.frames))
 
 with_error_same : (p : Pairs) (W X : World) (s t : Stack) (d e : Value) → AgreeInTurn p W X → SameStack p s t → SameValue p d e → (f g : Frame) → SameFrame p f g → Alike p (Unit {0}) (with_error W s f d) (with_error X t g e)
-with_error_same p W X s t d e a b r f g (same_lua x y h) = tt
-with_error_same p W X s t d e a b r f g same_pcall = tt
-with_error_same p W X s t d e a b r f g (same_xpcall v w h) = tt
-with_error_same p W X s t d e a b r f g same_handler = tt
 with_error_same p W X s t d e a b r f g (same_closing v w vs ws h k) = made_same p p (Unit {0}) _ _ [] [] tt tt (extends_self p) (put_top_same p W X s t _ _ a b (same_closing (Some d) (Some e) vs ws r k)) tt refl
+with_error_same p W X s t d e a b r f g _ = tt
 
 pub set_error_keeps : (x : Arg) → Keeps (set_error x)
 set_error_keeps x p env other W X s g = on_stack p (Unit {0}) W X _ _ g

@@ -72,19 +72,7 @@ module _ (p : Pairs) where
   reads_same (read_constant n) code env other a b h = constant_same (slice_get code.own.constants n)
   reads_same read_varargs code env other a b h = h.varargs
   reads_same (see_pending r) code env other a b h = subst (λ place. SameValues p (value_if a.registers (last_pending r a.pending)) (value_if b.registers place)) (last_same r a b h) (value_same (last_pending r a.pending) a.registers b.registers h.registers)
-  reads_same (see x) code env other a b h = tt
-  reads_same (write_register r x) code env other a b h = tt
-  reads_same (write_registers at count slot) code env other a b h = tt
-  reads_same (write_list at slot) code env other a b h = tt
-  reads_same (write_nils at count) code env other a b h = tt
-  reads_same end_list code env other a b h = tt
-  reads_same (cut_from r) code env other a b h = tt
-  reads_same (close_cells r) code env other a b h = tt
-  reads_same (mark_pending r) code env other a b h = tt
-  reads_same (take_pending r) code env other a b h = tt
-  reads_same (drop_pending r) code env other a b h = tt
-  reads_same (keep_results from count) code env other a b h = tt
-  reads_same keep_pending code env other a b h = tt
+  reads_same _ code env other a b h = tt
 
   pub tells_same : (m : Own) (code : Prototype) (env other : List Value) (a b : Activation) → SameValues p env other → SameActivation p a b → tells m code env a ≡ tells m code other b
   tells_same (read_register r) code env other a b s h = shape_same p (nth a.registers r) (nth b.registers r) (nth_same p a.registers b.registers r h.registers)
@@ -92,21 +80,7 @@ module _ (p : Pairs) where
       ap (λ n. is_known (integer (pos n))) (zip_length (SameValue p) (list_values from a.registers (list_end code a)) (list_values from b.registers (list_end code b)) (listed_same code from a b h))
   tells_same (see x) code env other a b s h = shape_same p (arg env x) (arg other x) (arg_same env other x s)
   tells_same (see_pending r) code env other a b s h = ap (λ place. is_known (boolean (is_there place))) (last_same r a b h)
-  tells_same (read_registers from count) code env other a b s h = refl
-  tells_same (read_constant n) code env other a b s h = refl
-  tells_same read_varargs code env other a b s h = refl
-  tells_same (write_register r x) code env other a b s h = refl
-  tells_same (write_registers at count slot) code env other a b s h = refl
-  tells_same (write_list at slot) code env other a b s h = refl
-  tells_same (write_nils at count) code env other a b s h = refl
-  tells_same end_list code env other a b s h = refl
-  tells_same (cut_from r) code env other a b s h = refl
-  tells_same (close_cells r) code env other a b s h = refl
-  tells_same (mark_pending r) code env other a b s h = refl
-  tells_same (take_pending r) code env other a b s h = refl
-  tells_same (drop_pending r) code env other a b s h = refl
-  tells_same (keep_results from count) code env other a b s h = refl
-  tells_same keep_pending code env other a b s h = refl
+  tells_same _ code env other a b s h = refl
 
   length_same : (a b : Activation) → SameActivation p a b → length a.registers ≡ length b.registers
   length_same a b h = zip_length (SameValue p) a.registers b.registers h.registers
@@ -120,17 +94,7 @@ module _ (p : Pairs) where
   fits_same (write_list at slot) code a b h = ap (nat_lt at) (length_same a b h)
   fits_same (write_nils at count) code a b h = ap (nat_le (at + count)) (length_same a b h)
   fits_same (mark_pending r) code a b h = ap (nat_lt r) (length_same a b h)
-  fits_same (read_constant n) code a b h = refl
-  fits_same read_varargs code a b h = refl
-  fits_same (see x) code a b h = refl
-  fits_same (see_pending r) code a b h = refl
-  fits_same end_list code a b h = refl
-  fits_same (cut_from r) code a b h = refl
-  fits_same (close_cells r) code a b h = refl
-  fits_same (take_pending r) code a b h = refl
-  fits_same (drop_pending r) code a b h = refl
-  fits_same (keep_results from count) code a b h = refl
-  fits_same keep_pending code a b h = refl
+  fits_same _ code a b h = refl
 
   with_registers : (a b : Activation) (vs ws : List Value) (m n : ℕ) → SameActivation p a b → SameValues p vs ws → m ≡ n → SameActivation p (record a { registers = vs; opened = m }) (record b { registers = ws; opened = n })
   with_registers a b vs ws m n h s e = record { pc = h.pc; registers = s; varargs = h.varargs; pending = h.pending; opened = e }
@@ -156,14 +120,7 @@ module _ (p : Pairs) where
   effect_same (drop_pending r) code env other a b s h = with_pending a b (λ pending. filter (λ q. nat_lt q r) pending) h
   effect_same (keep_results from count) code env other a b s h = with_registers a b _ _ 0 0 h (blanked_by (λ pending i. is_pending pending i || (nat_le from i && nat_lt i (from + count))) (max code.own.stack (behind from count)) a b h) refl
   effect_same keep_pending code env other a b s h = with_registers a b _ _ 0 0 h (blanked_by is_pending code.own.stack a b h) refl
-  effect_same (read_register r) code env other a b s h = h
-  effect_same (read_registers from count) code env other a b s h = h
-  effect_same (read_list from) code env other a b s h = h
-  effect_same (read_constant n) code env other a b s h = h
-  effect_same read_varargs code env other a b s h = h
-  effect_same (see x) code env other a b s h = h
-  effect_same (see_pending r) code env other a b s h = h
-  effect_same (close_cells r) code env other a b s h = h
+  effect_same _ code env other a b s h = h
 
   pub done_same : (ms : List Own) (code : Prototype) (env other : List Value) (a b : Activation) → SameValues p env other → SameActivation p a b → SameActivation p (done ms code env a) (done ms code other b)
   done_same [] code env other a b s h = h
@@ -174,24 +131,7 @@ module _ (p : Pairs) where
 
   cells_after_same : (m : Own) (A B : Objects) (co co' f : ℕ) (a b : Activation) → SameObjects p A B → SameNumber p a_coroutine co co' → SameActivation p a b → SameAfter A B (cells_after m co f a A.cells) (cells_after m co' f b B.cells)
   cells_after_same (close_cells r) A B co co' f a b o at h = close_same p A B co co' f r a.registers b.registers o at h.registers
-  cells_after_same (read_register r) A B co co' f a b o at h = o
-  cells_after_same (read_registers from count) A B co co' f a b o at h = o
-  cells_after_same (read_list from) A B co co' f a b o at h = o
-  cells_after_same (read_constant n) A B co co' f a b o at h = o
-  cells_after_same read_varargs A B co co' f a b o at h = o
-  cells_after_same (see x) A B co co' f a b o at h = o
-  cells_after_same (write_register r x) A B co co' f a b o at h = o
-  cells_after_same (write_registers from count slot) A B co co' f a b o at h = o
-  cells_after_same (write_list from slot) A B co co' f a b o at h = o
-  cells_after_same (write_nils from count) A B co co' f a b o at h = o
-  cells_after_same end_list A B co co' f a b o at h = o
-  cells_after_same (cut_from r) A B co co' f a b o at h = o
-  cells_after_same (mark_pending r) A B co co' f a b o at h = o
-  cells_after_same (see_pending r) A B co co' f a b o at h = o
-  cells_after_same (take_pending r) A B co co' f a b o at h = o
-  cells_after_same (drop_pending r) A B co co' f a b o at h = o
-  cells_after_same (keep_results from count) A B co co' f a b o at h = o
-  cells_after_same keep_pending A B co co' f a b o at h = o
+  cells_after_same _ A B co co' f a b o at h = o
 
   pub cells_done_same : (ms : List Own) (code : Prototype) (A B : Objects) (co co' f : ℕ) (env other : List Value) (a b : Activation) → SameObjects p A B → SameNumber p a_coroutine co co' → SameValues p env other → SameActivation p a b
       → SameAfter A B (cells_done ms code co f env a A.cells) (cells_done ms code co' f other b B.cells)

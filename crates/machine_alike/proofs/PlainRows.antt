@@ -18,11 +18,7 @@ use Rattle.machine_alike.specs.Laws.{NoneMade}
 
 handed_none : (top : TopShape) → NoneMade (handed top)
 handed_none lua_top = tt
-handed_none pcall_top = tt
-handed_none xpcall_top = tt
-handed_none handler_top = tt
-handed_none closing_top = tt
-handed_none (no_top in_main) = tt
+handed_none _ = tt
 
 hand_over_none : NoneMade hand_over
 hand_over_none n top = handed_none top
@@ -85,24 +81,16 @@ fails_none : MakesNone fails
 fails_none n s = plain_cond (is_true s) _ _ tt tt
 
 raised_to_none : (top : TopShape) (h : ℕ) → NoneMade (raised_to top h)
-raised_to_none lua_top h = tt
-raised_to_none pcall_top h = tt
 raised_to_none xpcall_top h = λ _ _ _ room. cond_none room _ _ (λ _ _. tt) (λ _ _. tt)
-raised_to_none handler_top h = tt
-raised_to_none closing_top h = tt
-raised_to_none (no_top true) h = tt
 raised_to_none (no_top false) h = λ _ _ _ _ _ _. hand_over_none
+raised_to_none _ h = tt
 
 pub raised_none : NoneMade raised_row
 raised_none h top = raised_to_none top h
 
 refused_none : (top : TopShape) (text : List ℕ) → NoneMade (refused_under top text)
 refused_none lua_top text = λ _ _. tt
-refused_none pcall_top text = λ _ _. tt
-refused_none xpcall_top text = λ _ _. tt
-refused_none handler_top text = λ _ _. tt
-refused_none closing_top text = λ _ _. tt
-refused_none (no_top in_main) text = λ _ _. tt
+refused_none _ text = λ _ _. tt
 
 after_asked_none : (s : CallShape) → NoneMade (after_asked s)
 after_asked_none is_entered = tt

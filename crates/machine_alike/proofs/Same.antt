@@ -127,12 +127,8 @@ pub record SamePlace (p : Pairs) (a b : Place) : Type 0 where
   pub function : SameFunction p a.function b.function
 
 pub running_same : (p : Pairs) (c d : Coroutine) → SameCoroutine p c d → Each (SameFrames p) (running_frames c) (running_frames d)
-running_same p c d (same_fresh v w h) = tt
-running_same p c d (same_suspended fs gs h) = tt
 running_same p c d (same_in_progress fs gs h) = h
-running_same p c d (same_normal fs gs h) = tt
-running_same p c d same_dead = tt
-running_same p c d (same_failed v w vs ws h k) = tt
+running_same p c d _ = tt
 
 pub frames_same : (p : Pairs) (c d : Coroutine) → SameCoroutine p c d → Each (SameFrames p) (frames_of c) (frames_of d)
 frames_same p c d (same_fresh v w h) = tt
@@ -144,10 +140,7 @@ frames_same p c d (same_failed v w vs ws h k) = tt
 
 pub lua_frame_same : (p : Pairs) (f g : Frame) → SameFrame p f g → Each (SameLuaFrame p) (lua_frame f) (lua_frame g)
 lua_frame_same p f g (same_lua x y h) = h
-lua_frame_same p f g same_pcall = tt
-lua_frame_same p f g (same_xpcall v w h) = tt
-lua_frame_same p f g same_handler = tt
-lua_frame_same p f g (same_closing v w vs ws h k) = tt
+lua_frame_same p f g _ = tt
 
 module _ (p : Pairs) (W X : World) (a : AgreeInTurn p W X) where
   pub coroutine_at : (i j : ℕ) → SameNumber p a_coroutine i j → Each (SameCoroutine p) (slice_get W.coroutines i) (slice_get X.coroutines j)

@@ -20,7 +20,7 @@ use Rattle.table_core.specs.Value.{is_nil as is_nil_kept}
 use Rattle.table_core.specs.declared.value.StrId.{StrId}
 use Rattle.table_core.specs.declared.value.TableId.{TableId}
 use Rattle.table_core.specs.declared.value.Value.{Value as Kept}
-use Rattle.table_core.specs.declared.value.Value.TheVariants.{Nil, Bool as Boolean, Int, Str, Prim, Table, Func, Coro}
+use Rattle.table_core.specs.declared.value.Value.TheVariants.{Nil, Int, Str, Table}
 use Rattle.machine_arms_tables.specs.Fields.{is_raw, field_in, takes, with_field, Settles}
 
 -- a chain of handlers that is settled by its first link, whatever would follow
@@ -30,13 +30,7 @@ index_at (suc links) H o key answer comes = comes (λ h. cond (is_function h) (a
 
 nil_is_nil : (texts : List (List ℕ)) (v : Kept) → is_nil (value texts v) ≡ is_nil_kept v
 nil_is_nil texts Nil = refl
-nil_is_nil texts (Boolean b) = refl
-nil_is_nil texts (Int n) = refl
-nil_is_nil texts (Str id) = refl
-nil_is_nil texts (Prim n) = refl
-nil_is_nil texts (Table id) = refl
-nil_is_nil texts (Func id) = refl
-nil_is_nil texts (Coro id) = refl
+nil_is_nil texts _ = refl
 
 true_is : {b : Bool} → IsTrue b → b ≡ true
 true_is {b = true} h = refl
@@ -144,13 +138,7 @@ set_is H n key v t e = rw (raw_set, e) refl
 -- a key that is not nil
 set_named : (H : Heap) (n : ℕ) (texts : List (List ℕ)) (key : Kept) (v : Value) → is_nil_kept key ≡ false → set_raw H (object a_table n) (value texts key) v ≡ found (raw_set H n (value texts key) v) []
 set_named H n texts Nil v e = absurd (cc)
-set_named H n texts (Boolean b) v e = refl
-set_named H n texts (Int k) v e = refl
-set_named H n texts (Str id) v e = refl
-set_named H n texts (Prim k) v e = refl
-set_named H n texts (Table id) v e = refl
-set_named H n texts (Func id) v e = refl
-set_named H n texts (Coro id) v e = refl
+set_named H n texts _ v e = refl
 
 module _ (texts : List (List ℕ)) (meta : Option ℕ) (tables : List Contents) (n : ℕ) (t : Contents) (there : slice_get tables n ≡ Some t) (law : TablesAreRead) (apart : AreApart texts) (short : AreShort texts) (key v : Kept) where
   written_is : raw_set (heap texts tables meta) n (value texts key) (value texts v) ≡ heap texts (slice_set tables n (with_field t key v)) meta

@@ -7,7 +7,7 @@ use Rattle.int_core.specs.Operations.{Callee, callee, not_callable, callee_of, g
 use Rattle.int_core.specs.Value.{Value, known, nil, primitive, object, a_function, nth, bind, last}
 use Rattle.machine_core.specs.World.{Function, leaving, LuaFrame, Frame, lua, lua_frame, in_progress, World, Stack, Place, place_of, stack_of, push, put_top, put_frames}
 use Rattle.machine_core.specs.Text.{close_cells, keep_pending}
-use Rattle.machine_core.specs.Moves.{Made, made, CallShape, is_entered, enters, enters_paid, has_room, push_all, new_frame, with_own, TopShape, lua_top, pcall_top, xpcall_top, handler_top, closing_top, no_top, blamed, top_now, see_top, take_moving, go, calls_primitive, raised, unwinding, spent, Ending, stop, act, Outcome, trapped, ends, run, move}
+use Rattle.machine_core.specs.Moves.{Made, made, CallShape, is_entered, enters, enters_paid, has_room, push_all, new_frame, with_own, TopShape, lua_top, handler_top, blamed, top_now, see_top, take_moving, go, calls_primitive, raised, unwinding, spent, Ending, stop, act, Outcome, trapped, ends, run, move}
 use Rattle.machine_core.specs.FrameRows.{asked_row, blames, gives_up, raises, refused_under}
 use Rattle.machine_core.specs.MachineStep.{from_world}
 use Rattle.machine_sound.proofs.Lists.{bind_some, get_map}
@@ -106,11 +106,8 @@ is_blamed s = Unit {0}
 
 under_other : (shape : TopShape) (text : List ℕ) → is_blamed shape → refused_under shape text ≡ blames text
 under_other lua_top text b = absurd b
-under_other pcall_top text b = refl
-under_other xpcall_top text b = refl
 under_other handler_top text b = absurd b
-under_other closing_top text b = refl
-under_other (no_top main) text b = refl
+under_other _ text b = refl
 
 pub refused_other : (old new : Memory) (text : List ℕ) (shape : TopShape) → is_blamed shape → Makes old old see_top [] [] shape → ((env : List Value) → Leads (blames text) env old new raised) → RefusesAsked old new text raised
 refused_other old new text shape b m l = record {

@@ -6,7 +6,7 @@ use Rattle.std.proofs.lemmas.List.{reverse-append}
 use Rattle.code_core.specs.Prototype.{Prototype}
 use Rattle.int_core.specs.Limits.{greatest_depth, limited, position}
 use Rattle.int_core.specs.Value.{Value, known, string, bind, last, without_last}
-use Rattle.machine_core.specs.World.{Cell, Function, Wait, LuaFrame, Frame, lua, pcall, xpcall, handler, closing, World, Stack, Place, place_of, stack_of, put_top, put_frames}
+use Rattle.machine_core.specs.World.{Cell, Function, Wait, LuaFrame, Frame, lua, World, Stack, Place, place_of, stack_of, put_top, put_frames}
 use Rattle.machine_core.specs.Text.{Arg, read, Own, done}
 use Rattle.machine_core.specs.Moves.{cells_done, blamed, frame_place, has_room, line_of, where_text, with_own, raised, run}
 use Rattle.machine_core.specs.FrameRows.{raises}
@@ -14,7 +14,7 @@ use Rattle.machine_sound.proofs.Lists.{get_front, last_splits}
 use Rattle.table_core.specs.declared.value.Value.{Value as Kept}
 use Rattle.table_core.specs.declared.value.Value.TheVariants.{Nil, Bool as Boolean, Int, Str, Prim, Table, Func, Coro}
 use Rattle.lua_stack.specs.declared.frame.Wait.{Wait as KeptWait}
-use Rattle.lua_stack.specs.declared.frame.Wait.TheVariants.{Running, ForCall, ForIterator, ForValue, ForTruth, Dropped, ForConcat, ForClose, Returning, Leaving}
+use Rattle.lua_stack.specs.declared.frame.Wait.TheVariants.{Leaving}
 use Rattle.lua_stack.specs.Frames.{wait_of}
 use Rattle.lua_heap.specs.declared.world.World.{World as Memory}
 use Rattle.lua_heap.specs.Adding.{Begins}
@@ -43,24 +43,12 @@ value_stays (Func id) b h = refl
 value_stays (Coro id) b h = refl
 
 wait_stays : {old new : List (List ℕ)} (wait : KeptWait) → Begins (List ℕ) old new → IsHeldWait old wait → wait_of (value new) wait ≡ wait_of (value old) wait
-wait_stays Running b h = refl
-wait_stays ForCall b h = refl
-wait_stays ForIterator b h = refl
-wait_stays ForValue b h = refl
-wait_stays ForTruth b h = refl
-wait_stays Dropped b h = refl
-wait_stays (ForConcat left) b h = refl
-wait_stays ForClose b h = refl
-wait_stays (Returning count) b h = refl
 wait_stays (Leaving error) b h = ap Rattle.machine_core.specs.World.leaving (value_stays error b h)
+wait_stays _ b h = refl
 
 copy_stays : {old new : List (List ℕ)} (prepared : Prepared) (env : List Value) (x : Arg) → Begins (List ℕ) old new → IsHeld old prepared → IsCopy (value old) env x prepared → IsCopy (value new) env x prepared
-copy_stays Nothing env x b h i = tt
 copy_stays (Copied register v) env x b h i = i ∙ sym (value_stays v b h)
-copy_stays (GivenUp register) env x b h i = tt
-copy_stays LeftSo env x b h i = tt
-copy_stays (ReturnedSo from count) env x b h i = tt
-copy_stays (Closed register) env x b h i = tt
+copy_stays _ env x b h i = tt
 
 -- a frame can be made ready after strings were added
 
@@ -92,10 +80,7 @@ place_at W function pc = bind (slice_get W.functions function) (λ g. bind g.cod
 same_place : (W : World) (s : Stack) (f g : Frame) → frame_place (put_top W s f) g ≡ frame_place W g
 unfolding put_top put_frames
 same_place W s f (lua t) = refl
-same_place W s f pcall = refl
-same_place W s f (xpcall h) = refl
-same_place W s f handler = refl
-same_place W s f (closing e left) = refl
+same_place W s f _ = refl
 
 same_places : (W : World) (s : Stack) (f : Frame) (fs : List Frame) → filter_map (frame_place (put_top W s f)) fs ≡ filter_map (frame_place W) fs
 same_places W s f [] = refl
@@ -132,11 +117,7 @@ own_is V at w ms env = refl
 
 pc_stays : (x : Arg) (prepared : Prepared) (p : Prototype) (env : List Value) (t : LuaFrame) → (done (prepared_of x prepared) p env t.own).pc ≡ t.own.pc
 pc_stays x Nothing p env t = refl
-pc_stays x (Copied register v) p env t = refl
-pc_stays x (GivenUp register) p env t = refl
-pc_stays x LeftSo p env t = refl
-pc_stays x (ReturnedSo from count) p env t = refl
-pc_stays x (Closed register) p env t = refl
+pc_stays x _ p env t = refl
 
 pub blamed_own : (V : World) (at : Place) (w : Wait Value) (x : Arg) (prepared : Prepared) (env : List Value) (text : List ℕ) → place_of V ≡ Some at
     → blamed (with_own V at w (prepared_of x prepared) env) text ≡ blamed V text
@@ -203,9 +184,5 @@ copy_env f (ReturnedSo from count) = []
 copy_env f (Closed register) = []
 
 pub some_copy : (f : Kept → Value) (prepared : Prepared) → IsCopy f (copy_env f prepared) (read 0) prepared
-some_copy f Nothing = tt
 some_copy f (Copied register v) = refl
-some_copy f (GivenUp register) = tt
-some_copy f LeftSo = tt
-some_copy f (ReturnedSo from count) = tt
-some_copy f (Closed register) = tt
+some_copy f _ = tt

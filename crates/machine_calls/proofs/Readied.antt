@@ -56,11 +56,7 @@ none_further {s} m n l k = record { below = all_below_more (top_number s) m n s.
 
 pub same_function : (f : Kept → Value) (prepared : Prepared) (stack : ℕ) (t : LuaFrame) → (changed f prepared stack t).function ≡ t.function
 same_function f Nothing stack t = refl
-same_function f (Copied register v) stack t = refl
-same_function f (GivenUp register) stack t = refl
-same_function f LeftSo stack t = refl
-same_function f (ReturnedSo from count) stack t = refl
-same_function f (Closed register) stack t = refl
+same_function f _ stack t = refl
 
 pub still_room : (f : Kept → Value) (prepared : Prepared) (stack : ℕ) (t : LuaFrame) → stack ≤ length t.own.registers → stack ≤ length (changed f prepared stack t).own.registers
 still_room f Nothing stack t l = l
@@ -74,12 +70,8 @@ still_room f (Closed register) stack t l = l
 -- the change in the words of moves
 changed_as : (f : Kept → Value) (prepared : Prepared) (p : Prototype) (t : LuaFrame) (w : Wait Value) (env : List Value) (x : Arg) → IsCopy f env x prepared
     → record t { wait = w; own = done (prepared_of x prepared) p env t.own } ≡ with_wait w (changed f prepared p.own.stack t)
-changed_as f Nothing p t w env x c = refl
 changed_as f (Copied register v) p t w env x c = ap (λ u. with_wait w (with_registers (write register u t.own.registers) t)) c
-changed_as f (GivenUp register) p t w env x c = refl
-changed_as f LeftSo p t w env x c = refl
-changed_as f (ReturnedSo from count) p t w env x c = refl
-changed_as f (Closed register) p t w env x c = refl
+changed_as f _ p t w env x c = refl
 
 -- what a change supposes
 

@@ -2,7 +2,7 @@
 use Rattle.std.proofs.Common.{◌≡◌, ℕ, zero, suc, ◌+◌, ◌*◌, ◌==◌, Bool, true, false, cond, List, [], ◌∷◌, Option, Some, None, refl}
 use Rattle.std.specs.Prelude.{ℤ, pos, negsuc}
 use Rattle.code_core.specs.declared.opcode.Opcode.{Opcode}
-use Rattle.code_core.specs.declared.opcode.Opcode.TheVariants.{Move, LoadI, LoadF, LoadK, LoadKx, LoadFalse, LFalseSkip, LoadTrue, LoadNil, GetUpval, SetUpval, GetTabUp, GetTable, GetI, GetField, SetTabUp, SetTable, SetI, SetField, NewTable, OpSelf, AddI, AddK, SubK, MulK, ModK, PowK, DivK, IDivK, BAndK, BOrK, BXorK, ShrI, ShlI, Add, Sub, Mul, Mod, Pow, Div, IDiv, BAnd, BOr, BXor, Shl, Shr, MmBin, MmBinI, MmBinK, Unm, BNot, Not, Len, Concat, Close, Tbc, Jmp, Eq, Lt, Le, EqK, EqI, LtI, LeI, GtI, GeI, Test, TestSet, Call, TailCall, Return, Return0, Return1, ForLoop, ForPrep, TForPrep, TForCall, TForLoop, SetList, Closure, VarArg, VarArgPrep, ExtraArg}
+use Rattle.code_core.specs.declared.opcode.Opcode.TheVariants.{Move, LoadI, LoadF, LoadK, LoadKx, LoadFalse, LFalseSkip, LoadTrue, LoadNil, GetUpval, SetUpval, GetTabUp, GetTable, GetField, SetTabUp, SetTable, SetI, SetField, NewTable, OpSelf, AddI, AddK, SubK, MulK, ModK, PowK, DivK, IDivK, BAndK, BOrK, BXorK, ShrI, ShlI, Add, Sub, Mul, Mod, Pow, Div, IDiv, BAnd, BOr, BXor, Shl, Shr, MmBin, MmBinI, MmBinK, Not, Concat, Close, Tbc, Jmp, Eq, Lt, Le, EqK, Test, TestSet, Call, TailCall, Return, Return0, Return1, ForLoop, ForPrep, TForPrep, TForCall, TForLoop, SetList, Closure, VarArg, VarArgPrep, ExtraArg}
 use Rattle.code_core.specs.declared.instruction.Instruction.{Instruction}
 use Rattle.code_core.specs.declared.proto.UpDesc.{UpDesc}
 use Rattle.code_core.specs.Prototype.{Prototype}
@@ -159,7 +159,6 @@ row_fits p pc GetUpval w = λ _ _ _. tt
 row_fits p pc SetUpval w = λ _ _ _. tt
 row_fits p pc GetTabUp w = λ _ _ _. (refl, λ _ _. tt)
 row_fits p pc GetTable w = λ _ _ _ _. (refl, λ _ _. tt)
-row_fits p pc GetI w = λ _ _. (refl, λ _ _. tt)
 row_fits p pc GetField w = λ _ _ _ _. (refl, λ _ _. tt)
 row_fits p pc SetTabUp w = λ _ _ _. by_rk p pc SetTabUp w _ (λ _ _. (refl, tt))
 row_fits p pc SetTable w = λ _ _ _ _. by_rk p pc SetTable w _ (λ _ _. (refl, tt))
@@ -191,10 +190,7 @@ row_fits p pc Shr w = register_fits p pc Shr w of_shr
 row_fits p pc MmBin w = λ _ _ _ _. handled_fits p pc MmBin w (event_numbered (c_of w)) _ refl
 row_fits p pc MmBinI w = λ _ _. handled_fits p pc MmBinI w (event_numbered (c_of w)) _ refl
 row_fits p pc MmBinK w = λ _ _ _ _. handled_fits p pc MmBinK w (event_numbered (c_of w)) _ refl
-row_fits p pc Unm w = λ _ _. (refl, λ _ _. tt)
-row_fits p pc BNot w = λ _ _. (refl, λ _ _. tt)
 row_fits p pc Not w = λ _ _ _ _. tt
-row_fits p pc Len w = λ _ _. (refl, λ _ _. tt)
 row_fits p pc Concat w = concat_fits p pc w (b_of w)
 row_fits p pc Close w = closes_fit p pc Close w (a_of w)
 row_fits p pc Tbc w = marks_fit p pc Tbc w (a_of w) next tt
@@ -203,11 +199,6 @@ row_fits p pc Eq w = λ _ _ _ _. (refl, λ _ _. tt)
 row_fits p pc Lt w = λ _ _ _ _. (refl, λ _ _. tt)
 row_fits p pc Le w = λ _ _ _ _. (refl, λ _ _. tt)
 row_fits p pc EqK w = λ _ _ _ _. (refl, λ _ _. tt)
-row_fits p pc EqI w = λ _ _. (refl, λ _ _. tt)
-row_fits p pc LtI w = λ _ _. (refl, λ _ _. tt)
-row_fits p pc LeI w = λ _ _. (refl, λ _ _. tt)
-row_fits p pc GtI w = λ _ _. (refl, λ _ _. tt)
-row_fits p pc GeI w = λ _ _. (refl, λ _ _. tt)
 row_fits p pc Test w = λ _ _. tt
 row_fits p pc TestSet w = λ v s. by_cond p pc TestSet w (same_truth (holds s) (k_of w)) _ _ (λ _ _. tt) tt
 row_fits p pc Call w = λ _ _. read_fits p pc Call w (a_of w + 1) (b_of w) _ (λ _ _. tt)
@@ -230,3 +221,4 @@ row_fits p pc DivK w = tt
 row_fits p pc Pow w = tt
 row_fits p pc Div w = tt
 row_fits p pc ExtraArg w = tt
+row_fits p pc _ w = λ _ _. (refl, λ _ _. tt)

@@ -14,7 +14,7 @@ use Rattle.code_core.specs.Check.{in_front, extra_at}
 use Rattle.int_core.specs.Value.{a_table, a_function, a_coroutine, Shape, is_known, is_object, holds, same_truth, same_plain, same_integer, nil, integer}
 use Rattle.machine_core.specs.World.{Wait, running, for_call, for_iterator, for_value, for_truth, dropped, for_concat, for_close, returning, leaving}
 use Rattle.int_core.specs.Operations.{Event, of_add, of_sub, of_mul, of_mod, of_idiv, of_band, of_bor, of_bxor, of_shl, of_shr, computed, by_zero}
-use Rattle.machine_core.specs.Text.{Arg, read, written, Text, write_register, read_register, trap, raise, own, open_cell, quick, read_upvalue, write_upvalue, make_table, make_function, fill_table, pay, go_by, operate, call, tail_call, close, closable, leave}
+use Rattle.machine_core.specs.Text.{Arg, read, written, Text, write_register, read_register, trap, raise, own, open_cell, quick, read_upvalue, write_upvalue, make_function, fill_table, pay, go_by}
 use Rattle.machine_core.specs.InstructionRows.{row_of, value_comes, rest, with_register, with_constant, counted, return_count, then, back, is_true, integer_of_shape, fast, event_numbered, handled, joins, starts, prepares, goes_round, runs, jumps, marks, opens, upvalues_of_inner, fills_by, register_or_constant, read_values, write_values, to_register, to_register_before, closes, returns, fails, next, skip}
 use Rattle.machine_core.specs.RowFits.{MakesNone, AreOpened, OpensFirst}
 
@@ -61,23 +61,12 @@ opens_first p (u ∷ us) opened t h = by u.in_stack h (opens_first p us (u.index
 
 -- a text that makes no function
 none_first : (p : Prototype) (opened : List ℕ) (t : Text) → MakesNone t → OpensFirst p opened t
-none_first p opened (go_by z) h = h
-none_first p opened (own m k) h = h
 none_first p opened (open_cell r t) h = none_first p (r ∷ opened) t h
 none_first p opened (quick (read_upvalue u) k) h = h
 none_first p opened (quick (write_upvalue u x) k) h = h
-none_first p opened (quick make_table k) h = h
 none_first p opened (quick (make_function n) k) h = absurd h
 none_first p opened (quick (fill_table t last slot) k) h = h
-none_first p opened (quick pay k) h = h
-none_first p opened (operate operation xs wait prepared t) h = h
-none_first p opened (call f slot wait prepared) h = h
-none_first p opened (tail_call f slot) h = h
-none_first p opened (close v e wait prepared) h = h
-none_first p opened (closable v name t) h = h
-none_first p opened (raise text) h = h
-none_first p opened (leave given) h = h
-none_first p opened trap h = h
+none_first p opened _ h = h
 
 module _ (p : Prototype) (pc : ℕ) (w : Instruction) where
   by_cond : (b : Bool) (t u : Text) → MakesNone t → MakesNone u → MakesNone (cond b t u)

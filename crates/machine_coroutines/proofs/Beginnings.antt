@@ -84,20 +84,12 @@ closes_by texts V k n (Failed e pending) error values h =
     ap (λ e. closes_in V D k (error_of (value texts) e) (map (value texts) pending.items)) (sym h.0) ∙ ap (λ vs. closes_in V D k (error_of (value texts) error) (map (value texts) vs)) (sym h.1)
 
 running_told : (texts : List (List ℕ)) (V : World) (k : Stack) (n : ℕ) (c : Coro) → IsRunning c → closes_coroutine V k n (coroutine texts c) ≡ made V [] (refused (codes "cannot close a running coroutine"))
-running_told texts V k n (Fresh body) h = absurd h
-running_told texts V k n (Suspended s) h = absurd h
 running_told texts V k n (Running s) h = refl
-running_told texts V k n (Normal s) h = absurd h
-running_told texts V k n Dead h = absurd h
-running_told texts V k n (Failed e pending) h = absurd h
+running_told texts V k n _ h = absurd h
 
 normal_told : (texts : List (List ℕ)) (V : World) (k : Stack) (n : ℕ) (c : Coro) → HasResumed c → closes_coroutine V k n (coroutine texts c) ≡ made V [] (refused (codes "cannot close a normal coroutine"))
-normal_told texts V k n (Fresh body) h = absurd h
-normal_told texts V k n (Suspended s) h = absurd h
-normal_told texts V k n (Running s) h = absurd h
 normal_told texts V k n (Normal s) h = refl
-normal_told texts V k n Dead h = absurd h
-normal_told texts V k n (Failed e pending) h = absurd h
+normal_told texts V k n _ h = absurd h
 
 module _ (old : Memory) (co : CoroId) (c : Coro) (there : slice_get old.coros.objects co.0 ≡ Some c) where
   abbrev f : Kept → Value

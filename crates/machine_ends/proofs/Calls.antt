@@ -2,7 +2,7 @@
 use Rattle.std.proofs.Common.{ℕ, zero, suc, ◌+◌, ◌*◌, ◌-◌, ◌≤◌, ◌≡◌, inl, inr, List, [], ◌∷◌, ◌++◌, Option, Some, None, refl, subst, sym, ap, ◌∙◌, arith, Bool, true, false, cond, drop}
 use Rattle.std.specs.Prelude.{slice_get, IsTrue}
 use Rattle.std.specs.List.{list_all}
-use Rattle.int_core.specs.Value.{nil, boolean, integer, string, primitive, a_table, a_function, a_coroutine, Value, known, object, bind, last, without_last}
+use Rattle.int_core.specs.Value.{primitive, a_function, Value, known, object, bind, last, without_last}
 use Rattle.int_core.specs.Operations.{Callee, callee, not_callable, callee_of, greatest_chain}
 use Rattle.code_core.specs.Prototype.{instruction_count}
 use Rattle.machine_core.specs.World.{Function, Wait, running, leaving, LuaFrame, Frame, lua, World, Stack, stack_of, Place, put_frames, put_top, push, pop, for_concat}
@@ -55,12 +55,7 @@ enters_so most P (object a_function n) vs = through (λ (d : Made CallShape). En
     by : (f : Function) (b : Bool) → (d : Made CallShape) → cond b (made (push_all P (new_frame n f.code vs ∷ [])) [] is_entered) (made P [] (not_entered stack_overflow)) ≡ Some d → EnteredSo most P d.told d.world
     by f true = here (λ (d : Made CallShape). EnteredSo most P d.told d.world) _ (let k = push_one most P (new_frame n f.code vs) in (k.0, omega arith))
     by f false = here (λ (d : Made CallShape). EnteredSo most P d.told d.world) _ refl
-enters_so most P (known nil) vs = λ d e. absurd (cc)
-enters_so most P (known (boolean b)) vs = λ d e. absurd (cc)
-enters_so most P (known (integer n)) vs = λ d e. absurd (cc)
-enters_so most P (known (string s)) vs = λ d e. absurd (cc)
-enters_so most P (object a_table n) vs = λ d e. absurd (cc)
-enters_so most P (object a_coroutine n) vs = λ d e. absurd (cc)
+enters_so most P _ vs = λ d e. absurd (cc)
 
 -- the same frames, and no greater weight
 pub record NoMore (most : ℕ) (P V : World) : Type 0 where

@@ -23,11 +23,7 @@ use Rattle.machine_ends.proofs.Others.{push_runs}
 
 awake_weight : (most : ℕ) (c : Coroutine) → frames_weight most (awake (Some c)) ≤ coroutine_weight most c
 awake_weight most (fresh b) = omega arith
-awake_weight most (suspended fs) = omega arith
-awake_weight most (in_progress fs) = omega arith
-awake_weight most (normal fs) = omega arith
-awake_weight most dead = omega arith
-awake_weight most (failed e vs) = omega arith
+awake_weight most _ = omega arith
 
 cos_awake : (most : ℕ) (cs : List Coroutine) (i : ℕ) → coroutines_weight most (slice_set cs i (in_progress (awake (slice_get cs i)))) ≤ coroutines_weight most cs
 cos_awake most [] i = omega arith

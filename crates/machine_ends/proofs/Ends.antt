@@ -4,7 +4,7 @@ use Rattle.std.specs.Prelude.{option_map}
 use Rattle.int_core.specs.Value.{greatest_string}
 use Rattle.code_core.specs.Prototype.{instruction_count}
 use Rattle.machine_core.specs.World.{Function, World}
-use Rattle.machine_core.specs.Moves.{Ending, go, returned, asks, calls_primitive, raised, unwinding, spent, main_yielded, main_returned, main_failed, Row, Outcome, trapped, ends}
+use Rattle.machine_core.specs.Moves.{Ending, calls_primitive, spent, main_yielded, main_returned, main_failed, Row, Outcome, trapped, ends}
 use Rattle.machine_core.specs.MachineStep.{step, and_then, steps}
 use Rattle.machine_core.specs.PrimitiveRows.{row_numbered}
 use Rattle.machine_sound.specs.Sound.{Each, idle, Sound}
@@ -85,17 +85,12 @@ module _ (build : Row) (least : ℕ) (b : FallsFrom least build) (primitives : �
 
     -- what a turn that ended gives
     given_by : (o : Outcome) (goes : World → Option Run) → has_ended o ≡ true → ((V : World) → o ≡ ends main_yielded V → (r : Run) × (goes V ≡ Some r)) → (r : Run) × (at_end o goes ≡ Some r)
-    given_by trapped goes h f = absurd (cc)
     given_by (ends main_yielded V) goes h f = let k = f V refl in (behind (turn_text main_yielded V) k.0, ap (option_map (behind (turn_text main_yielded V))) k.1)
     given_by (ends main_returned V) goes h f = (_, refl)
     given_by (ends main_failed V) goes h f = (_, refl)
     given_by (ends spent V) goes h f = (_, refl)
-    given_by (ends go V) goes h f = absurd (cc)
-    given_by (ends returned V) goes h f = absurd (cc)
-    given_by (ends asks V) goes h f = absurd (cc)
     given_by (ends (calls_primitive k) V) goes h f = absurd (cc)
-    given_by (ends raised V) goes h f = absurd (cc)
-    given_by (ends unwinding V) goes h f = absurd (cc)
+    given_by _ goes h f = absurd (cc)
 
     -- with at least so many steps
     runs_from : (W : World) (input : List (List ℕ)) (budget : ℕ) → Sound primitives W → MayTurn W → Each (λ (line : List ℕ). length line ≤ greatest_string) input → (n : ℕ) × ((m : ℕ) → n ≤ m → (r : Run) × (run_from (row_numbered build) m W input budget ≡ Some r))

@@ -28,11 +28,7 @@ GoesOn a r = elim a [ not_made ↦ ⊥ | not_told ↦ Unit {0} | stands y ↦ Fa
 
 handed_falls : (rich : Bool) (c : ℕ) (t : TopShape) → 1 < c → Falls (anywhere rich c (Some t)) (handed t)
 handed_falls rich c lua_top l = omega arith
-handed_falls rich c pcall_top l = l
-handed_falls rich c xpcall_top l = l
-handed_falls rich c handler_top l = l
-handed_falls rich c closing_top l = l
-handed_falls rich c (no_top b) l = l
+handed_falls rich c _ l = l
 
 pub hand_over_falls : (rich : Bool) (c : ℕ) (top : Option TopShape) → 1 < c → Falls (anywhere rich c top) hand_over
 hand_over_falls rich c top l = (tt, λ n t. by (may_be top t) t)
@@ -114,11 +110,7 @@ raised_to_falls xpcall_top h = (tt, λ e u. (refl, λ n room. by e room))
     by e true = (tt, λ n t. (let l : 3 < 4 = omega arith in l))
     by e false = gives_up_falls false 7 None (omega arith)
 raised_to_falls (no_top false) h = coroutine_fails_falls false 7 None
-raised_to_falls (no_top true) h = omega arith
-raised_to_falls lua_top h = omega arith
-raised_to_falls pcall_top h = omega arith
-raised_to_falls handler_top h = omega arith
-raised_to_falls closing_top h = omega arith
+raised_to_falls _ h = omega arith
 
 pub raised_falls : At 7 None raised_row
 raised_falls = (tt, λ h t. raised_to_falls t h)
@@ -145,11 +137,7 @@ asked_falls = (tt, λ f t. (tt, λ n s. after_asked_falls s))
 -- and over a message handler's frame
 handler_refused : (text : List ℕ) (t : TopShape) → GoesOn (cond (may_be (Some handler_top) t) (stands (anywhere false 3 (Some t))) not_told) (refused_under t text)
 handler_refused text handler_top = gives_up_falls false 3 (Some handler_top) (omega arith)
-handler_refused text lua_top = tt
-handler_refused text pcall_top = tt
-handler_refused text xpcall_top = tt
-handler_refused text closing_top = tt
-handler_refused text (no_top b) = tt
+handler_refused text _ = tt
 
 handler_asked : (s : CallShape) → Falls (after_enter s (anywhere false 3 (Some handler_top))) (after_asked s)
 handler_asked is_entered = omega arith

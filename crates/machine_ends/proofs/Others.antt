@@ -6,7 +6,7 @@ use Rattle.int_core.specs.Operations.{callee_of, greatest_chain}
 use Rattle.library_rows.specs.Look.{Look, Done, done as came, refused as was_refused, raised as was_raised, looked}
 use Rattle.machine_core.specs.World.{Frame, lua, pcall, xpcall, handler, closing, World, Stack, stack_of, place_of, put_frames, push, pop, put_top, Function}
 use Rattle.machine_core.specs.Text.{Arg, arg, Own, Given}
-use Rattle.machine_core.specs.Moves.{Over, over_pcall, over_xpcall, over_handler, on_own, take_moving, look, give, give_with, blame, place_text, find_close, see_status, see_running, print, consult, push_frame, call_value, see_top, see_catcher, pop_frame, take_closing, set_error, begin_leaving, leave_frame, Made, made, frame_over, CallShape, is_entered, is_primitive, not_paid, not_entered, TopShape, lua_top, pcall_top, xpcall_top, handler_top, closing_top, no_top, top_shape, top_now, ClosingShape, one_left, LookShape, next_closing, with_error, consulted, add_printed, bytes_in, coroutine_number, move, Status}
+use Rattle.machine_core.specs.Moves.{Over, over_pcall, over_xpcall, over_handler, on_own, take_moving, look, give, give_with, blame, place_text, find_close, see_status, see_running, print, consult, push_frame, call_value, see_top, see_catcher, pop_frame, take_closing, set_error, begin_leaving, leave_frame, Made, made, frame_over, CallShape, is_entered, is_primitive, not_paid, not_entered, TopShape, lua_top, closing_top, no_top, top_shape, top_now, ClosingShape, one_left, LookShape, next_closing, with_error, consulted, add_printed, bytes_in, coroutine_number, move, Status}
 use Rattle.machine_sound.specs.Sound.{Each}
 use Rattle.machine_sound.proofs.Lists.{bind_some, last_push}
 use Rattle.machine_sound.proofs.Values.{le_of}
@@ -33,10 +33,7 @@ over_shape W over_handler env = refl
 
 pub frame_least : (most : ℕ) (f : Frame) → 3 ≤ frame_weight most f
 frame_least most (lua f) = omega arith
-frame_least most pcall = omega arith
-frame_least most (xpcall v) = omega arith
-frame_least most handler = omega arith
-frame_least most (closing e left) = omega arith
+frame_least most _ = omega arith
 
 pub push_runs : (P : World) (s : Stack) (x : Frame) → Runs P s → Runs (push P s x) (record { coroutine = s.coroutine; frames = s.frames ++ x ∷ [] })
 unfolding push put_frames
@@ -52,11 +49,7 @@ printed_is W bytes = refl
 
 shape_self : (t : TopShape) → is_shape t t ≡ true
 shape_self lua_top = refl
-shape_self pcall_top = refl
-shape_self xpcall_top = refl
-shape_self handler_top = refl
-shape_self closing_top = refl
-shape_self (no_top b) = refl
+shape_self _ = refl
 
 some_top : (t u : TopShape) → Some t ≡ Some u → t ≡ u
 some_top t u e = cc
@@ -212,12 +205,8 @@ module _ (most bound : ℕ) (rich : Bool) (c : ℕ) (top : Option TopShape) (env
 
   is_closing : (o : Option TopShape) → IsClosing o → Known o W → top_now W ≡ Some closing_top
   is_closing (Some closing_top) n k = k
-  is_closing None n k = absurd n
-  is_closing (Some lua_top) n k = absurd n
-  is_closing (Some pcall_top) n k = absurd n
-  is_closing (Some xpcall_top) n k = absurd n
-  is_closing (Some handler_top) n k = absurd n
   is_closing (Some (no_top b)) n k = absurd n
+  is_closing _ n k = absurd n
 
   -- another closing frame on top
   closing_so : (s : Stack) (e d : Option Value) (left more : List Value) (k m : ℕ) → Runs W s → last s.frames ≡ Some (closing e left) → length more + k ≤ length left → m ≤ c + 20 * k
@@ -258,10 +247,7 @@ module _ (most bound : ℕ) (rich : Bool) (c : ℕ) (top : Option TopShape) (env
 
   error_so : IsClosing top → (s : Stack) (f : Frame) (v : Value) → Runs W s → last s.frames ≡ Some f → (d : Made (Unit {0})) → with_error W s f v ≡ Some d → Holds most bound (anywhere rich c (Some closing_top)) d.world
   error_so n s (closing e left) v r l = here (λ (d : Made (Unit {0})). Holds most bound (anywhere rich c (Some closing_top)) d.world) _ (closing_so s e (Some v) left left 0 c r l (omega arith) (omega arith))
-  error_so n s (lua f) v r l = λ d e. absurd (cc)
-  error_so n s pcall v r l = λ d e. absurd (cc)
-  error_so n s (xpcall x) v r l = λ d e. absurd (cc)
-  error_so n s handler v r l = λ d e. absurd (cc)
+  error_so n s _ v r l = λ d e. absurd (cc)
 
   pub error_set : IsClosing top → (x : Arg) (d : Made (Unit {0})) → move (set_error x) env W ≡ Some d → Holds most bound (anywhere rich c (Some closing_top)) d.world
   error_set n x = through (λ (d : Made (Unit {0})). Holds most bound (anywhere rich c (Some closing_top)) d.world) (stack_of W) _ (λ s e. through (λ (d : Made (Unit {0})). Holds most bound (anywhere rich c (Some closing_top)) d.world) (last s.frames) _ (λ f l. error_so n s f (arg env x) (stack_runs W s e) l))

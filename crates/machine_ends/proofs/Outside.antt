@@ -6,7 +6,7 @@ use Rattle.int_core.specs.Value.{Value, bind, last, write}
 use Rattle.int_core.specs.Heap.{Heap, filled_table, add_table}
 use Rattle.int_core.specs.Operations.{Operation, Settled, found, ask, fault, cannot_arise, does}
 use Rattle.code_core.specs.Prototype.{Prototypes, none, more, Prototype, list_of, instruction_count, inner_instructions}
-use Rattle.machine_core.specs.World.{Function, Cell, closed, open_at, LuaFrame, Frame, lua, pcall, xpcall, handler, closing, Coroutine, fresh, suspended, in_progress, normal, dead, failed, World, write_in_frame, write_in_coroutine, write_cell, read_cell, find_open, Place, place_of, Wait}
+use Rattle.machine_core.specs.World.{Function, Cell, closed, open_at, LuaFrame, Frame, lua, Coroutine, fresh, suspended, in_progress, normal, dead, failed, World, write_in_frame, write_in_coroutine, write_cell, read_cell, find_open, Place, place_of, Wait}
 use Rattle.machine_core.specs.Text.{Arg, arg, args_of, read_upvalue, write_upvalue, make_table, make_function, fill_table}
 use Rattle.machine_core.specs.Moves.{Made, open_register, outside, settle, find_close, is_closable, take_moving, SettledShape, own_cell, captured, opened_cells, settled, move}
 use Rattle.machine_sound.proofs.Lists.{get_set_same, get_set_other, each_push}
@@ -33,10 +33,7 @@ if_so P false o f d e = absurd (cc)
 
 frame_write : (most register : ℕ) (v : Value) (f : Frame) → frame_weight most (write_in_frame register v f) ≡ frame_weight most f
 frame_write most register v (lua f) = refl
-frame_write most register v pcall = refl
-frame_write most register v (xpcall h) = refl
-frame_write most register v handler = refl
-frame_write most register v (closing e left) = refl
+frame_write most register v _ = refl
 
 frames_write : (most register : ℕ) (v : Value) (fs : List Frame) (i : ℕ) (f : Frame) → slice_get fs i ≡ Some f → frames_weight most (slice_set fs i (write_in_frame register v f)) ≡ frames_weight most fs
 frames_write most register v [] i f e = refl

@@ -5,7 +5,7 @@ use Rattle.std.specs.List.{list_all}
 use Rattle.std.proofs.lemmas.Bool.Decides.{nat_tests}
 use Rattle.int_core.specs.Value.{Value, boolean, is_known}
 use Rattle.code_core.specs.Prototype.{Prototype}
-use Rattle.machine_core.specs.World.{Wait, running, for_call, for_iterator, for_value, for_truth, dropped, for_concat, for_close, returning, leaving, Activation, LuaFrame}
+use Rattle.machine_core.specs.World.{Wait, running, Activation, LuaFrame}
 use Rattle.machine_core.specs.Text.{Arg, Own, write_register, write_registers, write_list, write_nils, end_list, cut_from, close_cells, mark_pending, take_pending, drop_pending, keep_results, keep_pending, last_pending, without_pending, is_there, effect, done}
 use Rattle.machine_core.specs.Moves.{named}
 use Rattle.machine_sound.proofs.Values.{both_of}
@@ -112,15 +112,7 @@ done_saved (Some r) ms p env own s n = let k = done_pending ms p env own n in om
 
 pub named_weight : (env : List Value) (w : Wait Arg) → wait_weight (named env w) ≡ wait_weight w
 named_weight env running = refl
-named_weight env for_call = refl
-named_weight env for_iterator = refl
-named_weight env for_value = refl
-named_weight env for_truth = refl
-named_weight env dropped = refl
-named_weight env (for_concat left) = refl
-named_weight env for_close = refl
-named_weight env (returning count) = refl
-named_weight env (leaving e) = refl
+named_weight env _ = refl
 
 -- what weighs a frame at the same place
 pub own_below : (most : ℕ) (f : LuaFrame) (w : Wait Value) (own : Activation) → own.pc ≡ f.own.pc → (n m : ℕ) → 20 * length own.pending + n ≤ 20 * length f.own.pending + m

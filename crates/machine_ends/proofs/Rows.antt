@@ -4,7 +4,7 @@ use Rattle.std.specs.Prelude.{IsTrue, nat_le, ℤ}
 use Rattle.int_core.specs.Value.{Value}
 use Rattle.machine_core.specs.World.{World}
 use Rattle.machine_core.specs.Text.{read_upvalue, write_upvalue, make_table, make_function, fill_table, pay}
-use Rattle.machine_core.specs.Moves.{Move, on_own, move_pc, open_register, outside, settle, enter, enter_tail, await, find_close, is_closable, begin_leaving, leave_frame, take_moving, look, give, give_with, blame, place_text, push_frame, call_value, see_top, see_catcher, pop_frame, take_closing, set_error, end_coroutine, fail_coroutine, suspend, resume, begin_closing, consult, create, see_status, see_running, print, Made, Told, TopShape, lua_top, pcall_top, xpcall_top, handler_top, closing_top, no_top, top_now, Ending, go, returned, asks, calls_primitive, raised, unwinding, spent, main_yielded, main_returned, main_failed, Row, traps, stop, only, act, Outcome, trapped, ends, move, run}
+use Rattle.machine_core.specs.Moves.{Move, on_own, move_pc, open_register, outside, settle, enter, enter_tail, await, find_close, is_closable, begin_leaving, leave_frame, take_moving, look, give, give_with, blame, place_text, push_frame, call_value, see_top, see_catcher, pop_frame, take_closing, set_error, end_coroutine, fail_coroutine, suspend, resume, begin_closing, consult, create, see_status, see_running, print, Made, Told, TopShape, lua_top, no_top, top_now, Ending, go, returned, asks, calls_primitive, raised, unwinding, spent, main_yielded, main_returned, main_failed, Row, traps, stop, only, act, Outcome, trapped, ends, move, run}
 use Rattle.machine_runs.specs.Runs.{is_end}
 use Rattle.machine_sound.proofs.Values.{le_of}
 use Rattle.machine_ends.specs.Measure.{Within, wait_weight, asks_weight, world_weight, measure}
@@ -44,13 +44,9 @@ module _ (most bound : ℕ) where
   lua_moves _ rich c seen runs env W w h n d e = tt
 
   if_holds : (top : Option TopShape) (x : After) (W : World) → HoldsAfter most bound x W → HoldsAfter most bound (if_lua top x) W
-  if_holds None x W h = tt
   if_holds (Some lua_top) x W h = h
-  if_holds (Some pcall_top) x W h = tt
-  if_holds (Some xpcall_top) x W h = tt
-  if_holds (Some handler_top) x W h = tt
-  if_holds (Some closing_top) x W h = tt
   if_holds (Some (no_top b)) x W h = tt
+  if_holds _ x W h = tt
 
   other_moves : (m : Move) (rich : Bool) (c : ℕ) (top : Option TopShape) (env : List Value) (W : World) → Within most W → HeldOther most bound rich c top W → other_needs rich c top m → (d : Made (Told m)) → move m env W ≡ Some d
       → HoldsAfter most bound (other_next rich c top m d.told) d.world
@@ -107,13 +103,8 @@ module _ (most bound : ℕ) where
   plain false c W l = omega arith
 
   asks_most : (o : Option TopShape) → asks_weight o ≤ 8
-  asks_most None = omega arith
-  asks_most (Some lua_top) = omega arith
-  asks_most (Some pcall_top) = omega arith
-  asks_most (Some xpcall_top) = omega arith
-  asks_most (Some handler_top) = omega arith
-  asks_most (Some closing_top) = omega arith
   asks_most (Some (no_top b)) = omega arith
+  asks_most _ = omega arith
 
   asks_known : (top : Option TopShape) (W : World) → Known top W → asks_weight (top_now W) ≤ asks_weight top
   asks_known None W k = asks_most (top_now W)

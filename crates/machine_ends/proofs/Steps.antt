@@ -6,9 +6,9 @@ use Rattle.int_core.specs.Ask.{values}
 use Rattle.library_rows.specs.Look.{Look}
 use Rattle.library_rows.specs.Library.{Primitive, prelude_build, Entry, all_entries, row_of}
 use Rattle.code_core.specs.Prototype.{Prototype, instruction_count}
-use Rattle.machine_core.specs.World.{Function, Wait, running, for_call, for_iterator, for_value, for_truth, dropped, for_concat, for_close, returning, leaving, LuaFrame, Frame, lua, pcall, xpcall, handler, closing, World, Stack, stack_of, put_top}
+use Rattle.machine_core.specs.World.{Function, Wait, running, for_call, for_iterator, for_value, for_truth, dropped, for_concat, for_close, returning, leaving, LuaFrame, Frame, lua, World, Stack, stack_of, put_top}
 use Rattle.machine_core.specs.InstructionRows.{text_at, told_values, rest_at}
-use Rattle.machine_core.specs.Moves.{see_top, TopShape, lua_top, pcall_top, xpcall_top, handler_top, closing_top, no_top, top_now, Ending, go, returned, asks, calls_primitive, raised, unwinding, spent, main_yielded, main_returned, main_failed, Row, traps, act, Outcome, trapped, ends, run}
+use Rattle.machine_core.specs.Moves.{see_top, TopShape, handler_top, no_top, top_now, Ending, go, returned, asks, calls_primitive, raised, unwinding, spent, main_yielded, main_returned, main_failed, Row, traps, act, Outcome, trapped, ends, run}
 use Rattle.machine_core.specs.FrameRows.{goes_on_by, expand, asked_row, raised_row, unwound, handed_to}
 use Rattle.machine_core.specs.MachineStep.{woken, lua_step, frame_step, top_step, look_row, from_world, step}
 use Rattle.machine_core.specs.PrimitiveRows.{own_row, primitive_row, row_numbered}
@@ -37,29 +37,17 @@ module _ (most : ℕ) where
       IsEndIn (ends e V) = is_end e ≡ true
 
   from_low : (W : World) (bound : ℕ) (o : Outcome) → Low W bound o → Low W bound (from_world W o)
-  from_low W bound trapped l e V h = l e V h
   from_low W bound (ends spent X) l e V h = inl (ended_in spent e W V h refl)
-  from_low W bound (ends go X) l e V h = l e V h
-  from_low W bound (ends returned X) l e V h = l e V h
-  from_low W bound (ends asks X) l e V h = l e V h
   from_low W bound (ends (calls_primitive n) X) l e V h = l e V h
-  from_low W bound (ends raised X) l e V h = l e V h
-  from_low W bound (ends unwinding X) l e V h = l e V h
-  from_low W bound (ends main_yielded X) l e V h = l e V h
-  from_low W bound (ends main_returned X) l e V h = l e V h
-  from_low W bound (ends main_failed X) l e V h = l e V h
+  from_low W bound _ l e V h = l e V h
 
   anywhere_low : (W : World) (c : ℕ) (r : Row) → Within most W → Falls (anywhere false c None) r → Low W (world_weight most W + c) (run r [] W)
   anywhere_low W c r w f = run_falls most (world_weight most W + c) r (anywhere false c None) [] W (record { within = w; held = record { low = omega arith; known = tt } }) f
 
   asked_low : (W : World) (t : Option TopShape) → top_now W ≡ t → Within most W → Low W (world_weight most W + asks_weight t) (run asked_row [] W)
   asked_low W (Some handler_top) e w = run_falls most (world_weight most W + 3) asked_row (anywhere false 3 (Some handler_top)) [] W (record { within = w; held = record { low = omega arith; known = e } }) asked_over_handler
-  asked_low W None e w = anywhere_low W 8 asked_row w asked_falls
-  asked_low W (Some lua_top) e w = anywhere_low W 8 asked_row w asked_falls
-  asked_low W (Some pcall_top) e w = anywhere_low W 8 asked_row w asked_falls
-  asked_low W (Some xpcall_top) e w = anywhere_low W 8 asked_row w asked_falls
-  asked_low W (Some closing_top) e w = anywhere_low W 8 asked_row w asked_falls
   asked_low W (Some (no_top b)) e w = anywhere_low W 8 asked_row w asked_falls
+  asked_low W _ e w = anywhere_low W 8 asked_row w asked_falls
 
   -- a Lua frame on top
 
@@ -116,10 +104,7 @@ module _ (most : ℕ) where
       by : (o : Option Function) → Low W (world_weight most W + 0) (stepped (bind o (λ g. Some (lua_step W s f g.code f.wait))))
       by None e V h = absurd (cc)
       by (Some g) e V h = lua_low W s f r l w g.code e V h
-  frame_low W s pcall r l w = λ e V h. absurd (cc)
-  frame_low W s (xpcall v) r l w = λ e V h. absurd (cc)
-  frame_low W s handler r l w = λ e V h. absurd (cc)
-  frame_low W s (closing v left) r l w = λ e V h. absurd (cc)
+  frame_low W s _ r l w = λ e V h. absurd (cc)
 
   top_low : (W : World) → Within most W → Low W (world_weight most W + 0) (stepped (top_step W))
   top_low W w = by (stack_of W) refl

@@ -8,7 +8,7 @@ use Rattle.int_core.specs.Operations.{Event, Operation, computed, by_zero}
 use Rattle.machine_core.specs.World.{Wait, for_close, returning, leaving}
 use Rattle.machine_core.specs.Text.{Arg, read, written, Own, write_register, close_cells, take_pending, keep_pending, keep_results, results, thrown, Text, go_by, own, operate, close, raise, leave, read_registers}
 use Rattle.machine_core.specs.InstructionRows.{next, skip, to_register, is_true, left_so, returned_so, fails, returns, closes, read_values, write_values, fast, then}
-use Rattle.machine_core.specs.Moves.{SettledShape, is_found, is_asked, is_fault, CallShape, is_entered, is_primitive, not_paid, not_entered, TopShape, lua_top, pcall_top, xpcall_top, handler_top, closing_top, no_top, Row, only}
+use Rattle.machine_core.specs.Moves.{SettledShape, is_found, is_asked, is_fault, CallShape, is_entered, is_primitive, not_paid, not_entered, TopShape, lua_top, Row, only}
 use Rattle.machine_core.specs.FrameRows.{handed, raises, after_call, call_row, ask_row, When, at_once, by_asking, calls_row, prepares, leave_row, expand_by}
 use Rattle.machine_ends.specs.Measure.{wait_weight}
 use Rattle.machine_ends.specs.Falls.{on_lua, anywhere, no_mark, saved, is_small, IsForward, seen_by, Falls, after_enter}
@@ -100,11 +100,7 @@ read_falls w c r (suc n) k f = (tt, f)
 
 handed_falls : (rich : Bool) (c : ℕ) (t : TopShape) → 1 < c → Falls (anywhere rich c (Some t)) (handed t)
 handed_falls rich c lua_top l = omega arith
-handed_falls rich c pcall_top l = l
-handed_falls rich c xpcall_top l = l
-handed_falls rich c handler_top l = l
-handed_falls rich c closing_top l = l
-handed_falls rich c (no_top b) l = l
+handed_falls rich c _ l = l
 
 pub results_fall : (c : ℕ) (seen : Option ℕ) (runs : Bool) (slot : ℕ) → Falls (on_lua false c seen runs) (leave_row (results slot))
 results_fall c seen runs slot = (tt, λ n t. handed_falls false (c + 3) t (omega arith))
@@ -128,12 +124,7 @@ failing v s = cond (is_true s) (close (read v) (read 0) (leaving (read 0)) left_
 
 pub failing_falls : (c : ℕ) (runs : Bool) (v : ℕ) (s : Shape) → Falls (on_lua false c (seen_by 0 s) runs) (expand_by by_asking (failing v s))
 failing_falls c runs v (is_known (boolean true)) = close_asks c 0 runs (read v) (read 0) (leaving (read 0)) (keep_pending ∷ []) refl (omega arith)
-failing_falls c runs v (is_known (boolean false)) = thrown_falls c None runs (read 0)
-failing_falls c runs v (is_known nil) = thrown_falls c None runs (read 0)
-failing_falls c runs v (is_known (integer n)) = thrown_falls c None runs (read 0)
-failing_falls c runs v (is_known (string b)) = thrown_falls c None runs (read 0)
-failing_falls c runs v (is_known (primitive n)) = thrown_falls c None runs (read 0)
-failing_falls c runs v (is_object k) = thrown_falls c None runs (read 0)
+failing_falls c runs v _ = thrown_falls c None runs (read 0)
 
 pub fails_falls : (c : ℕ) (runs : Bool) → Falls (on_lua false c None runs) (expand_by by_asking fails)
 fails_falls c runs = (tt, λ v s. failing_falls c runs v s)

@@ -2,7 +2,7 @@
 use Rattle.std.proofs.Common.{ℕ, zero, suc, ◌+◌, ◌*◌, ◌≤◌, ◌≡◌, List, [], ◌∷◌, ◌++◌, Option, Some, None, refl, subst, ap, ◌∙◌, length, map, arith, length-append}
 use Rattle.std.specs.Prelude.{slice_get, slice_set, flat_map}
 use Rattle.int_core.specs.Value.{nth, bind, last, without_last}
-use Rattle.machine_core.specs.World.{Frame, lua, pcall, xpcall, handler, closing, Coroutine, fresh, suspended, in_progress, normal, dead, failed, World, Stack, stack_of, running_frames}
+use Rattle.machine_core.specs.World.{Frame, lua, Coroutine, in_progress, World, Stack, stack_of, running_frames}
 use Rattle.machine_core.specs.Moves.{pending_values}
 use Rattle.machine_sound.proofs.Lists.{get_set_same, bind_some, last_splits}
 use Rattle.machine_ends.specs.Measure.{frame_weight, frames_weight, coroutine_weight, coroutines_weight}
@@ -50,10 +50,7 @@ module _ (most : ℕ) where
       count : (ps : List ℕ) → length (map (nth f.own.registers) ps) ≡ length ps
       count [] = refl
       count (p ∷ ps) = ap suc (count ps)
-  pending_weight pcall = omega arith
-  pending_weight (xpcall v) = omega arith
-  pending_weight handler = omega arith
-  pending_weight (closing e vs) = omega arith
+  pending_weight _ = omega arith
 
   pub pendings_weight : (fs : List Frame) → 20 * length (flat_map pending_values fs) ≤ frames_weight most fs
   pendings_weight [] = omega arith
@@ -67,11 +64,7 @@ pub record Runs (W : World) (s : Stack) : Type 0 where
 
 running_is : (c : Coroutine) (fs : List Frame) → running_frames c ≡ Some fs → c ≡ in_progress fs
 running_is (in_progress gs) fs e = let k : Some gs ≡ Some fs = e in let q : gs ≡ fs = cc in ap in_progress q
-running_is (fresh v) fs e = absurd (cc)
-running_is (suspended gs) fs e = absurd (cc)
-running_is (normal gs) fs e = absurd (cc)
-running_is dead fs e = absurd (cc)
-running_is (failed v vs) fs e = absurd (cc)
+running_is _ fs e = absurd (cc)
 
 pub stack_runs : (W : World) (s : Stack) → stack_of W ≡ Some s → Runs W s
 stack_runs W s e =

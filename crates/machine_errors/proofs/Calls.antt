@@ -4,7 +4,7 @@ use Rattle.std.specs.Prelude.{drop, map, reverse, filter_map, slice_get}
 use Rattle.std.specs.List.{cons_option}
 use Rattle.int_core.specs.Limits.{limited, stack_overflow}
 use Rattle.int_core.specs.Value.{Value, known, nil, nth, bind}
-use Rattle.machine_core.specs.World.{Frame, lua, pcall, xpcall, handler, closing, World, Stack, stack_of}
+use Rattle.machine_core.specs.World.{Frame, lua, xpcall, World, Stack, stack_of}
 use Rattle.machine_core.specs.Text.{read}
 use Rattle.machine_core.specs.FrameRows.{then, blames, over_frame}
 use Rattle.machine_core.specs.Moves.{frame_place, where_text, blamed, Over, frame_over, over_pcall, over_xpcall, Row, stop, Ending, asks, raised, run, ends, give_with}
@@ -26,10 +26,7 @@ use Rattle.machine_errors.proofs.Handled.{takes_first}
 
 place_same : (W : World) (vs : List Value) (f : Frame) → frame_place (with_moving W vs) f ≡ frame_place W f
 place_same W vs (lua f) = refl
-place_same W vs pcall = refl
-place_same W vs (xpcall h) = refl
-place_same W vs handler = refl
-place_same W vs (closing e left) = refl
+place_same W vs _ = refl
 
 places_same : (W : World) (vs : List Value) (fs : List Frame) → filter_map (frame_place (with_moving W vs)) fs ≡ filter_map (frame_place W) fs
 places_same W vs [] = refl

@@ -2,7 +2,7 @@
 use Rattle.std.proofs.Common.{◌≡◌, ◌++◌, ℕ, zero, suc, List, [], ◌∷◌, length, Option, Some, None, refl, ap, sym, ◌∙◌, append-nil}
 use Rattle.std.specs.Prelude.{drop, map, ℤ, pos, negsuc, codes}
 use Rattle.int_core.specs.Limits.{limited}
-use Rattle.int_core.specs.Value.{nil, boolean, integer, string, primitive, Value, known, object, Shape, shape, nth}
+use Rattle.int_core.specs.Value.{string, Value, known, Shape, shape, nth}
 use Rattle.machine_core.specs.World.{World}
 use Rattle.machine_core.specs.Text.{Arg, read, args_of}
 use Rattle.machine_core.specs.FrameRows.{then, blames}
@@ -33,12 +33,8 @@ second_valid z texts (v ∷ vs) e = first_valid z texts vs (λ i x h. e (suc i) 
 
 -- a place in front does not hang on what moves
 placed_same : (W : World) (vs : List Value) (level : ℕ) (v : Value) → placed (with_moving W vs) level v ≡ placed W level v
-placed_same W vs level (known nil) = refl
-placed_same W vs level (known (boolean b)) = refl
-placed_same W vs level (known (integer n)) = refl
 placed_same W vs level (known (string text)) = ap (λ place. limited (place ++ text)) (where_same W vs level)
-placed_same W vs level (known (primitive n)) = refl
-placed_same W vs level (object k n) = refl
+placed_same W vs level _ = refl
 
 -- levels
 

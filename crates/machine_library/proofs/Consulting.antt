@@ -8,7 +8,7 @@ use Rattle.machine_core.specs.World.{World, stack_of}
 use Rattle.machine_core.specs.Text.{Arg, read, args_of}
 use Rattle.machine_core.specs.FrameRows.{hand_over, handed, blames}
 use Rattle.machine_core.specs.MachineStep.{look_row, after_look}
-use Rattle.machine_core.specs.Moves.{LookShape, is_given, is_refused, is_raised, TopShape, lua_top, pcall_top, xpcall_top, handler_top, closing_top, no_top, see_top, take_moving, give, give_with, consult, consulted, Made, made, move, Ending, go, returned, stop, Outcome, trapped, ends, run}
+use Rattle.machine_core.specs.Moves.{LookShape, is_given, is_refused, is_raised, TopShape, lua_top, see_top, take_moving, give, give_with, consult, consulted, Made, made, move, Ending, go, returned, stop, Outcome, trapped, ends, run}
 use Rattle.machine_core.specs.Moves.{raised as ends_raised}
 use Rattle.table_core.specs.declared.value.Value.{Value as Kept}
 use Rattle.lua_heap.specs.declared.world.World.{World as Memory}
@@ -24,7 +24,7 @@ use Rattle.move_laws.proofs.Rows.{first, ended}
 use Rattle.move_laws.proofs.Running.{nth_is}
 use Rattle.machine_moves.specs.Ending.{ending_of}
 use Rattle.machine_moves.specs.declared.ending.Ending.{Ending as KeptEnding}
-use Rattle.machine_moves.specs.declared.ending.Ending.TheVariants.{Go, Returned, Asks, CallsPrimitive, Raised, Unwinding, Spent, MainYielded, MainReturned, MainFailed}
+use Rattle.machine_moves.specs.declared.ending.Ending.TheVariants.{Go, Returned, Raised}
 use Rattle.machine_library.specs.Answers.{Goes, shape_told, values_told, Tells}
 use Rattle.machine_library.proofs.Moving.{Taken}
 
@@ -38,34 +38,18 @@ goes_go : (e : KeptEnding) → go ≡ ending_of e → Goes e
 goes_go Go h = tt
 goes_go Returned h = tt
 goes_go Raised h = tt
-goes_go Asks h = absurd (cc)
-goes_go (CallsPrimitive n) h = absurd (cc)
-goes_go Unwinding h = absurd (cc)
-goes_go Spent h = absurd (cc)
-goes_go MainYielded h = absurd (cc)
-goes_go MainReturned h = absurd (cc)
-goes_go MainFailed h = absurd (cc)
+goes_go _ h = absurd (cc)
 
 goes_returned : (e : KeptEnding) → returned ≡ ending_of e → Goes e
 goes_returned Go h = tt
 goes_returned Returned h = tt
 goes_returned Raised h = tt
-goes_returned Asks h = absurd (cc)
-goes_returned (CallsPrimitive n) h = absurd (cc)
-goes_returned Unwinding h = absurd (cc)
-goes_returned Spent h = absurd (cc)
-goes_returned MainYielded h = absurd (cc)
-goes_returned MainReturned h = absurd (cc)
-goes_returned MainFailed h = absurd (cc)
+goes_returned _ h = absurd (cc)
 
 handed_goes : (t : TopShape) (env : List Value) (X V : World) (e : KeptEnding) → run (handed t) env X ≡ ends (ending_of e) V → Goes e
 unfolding ending_in
 handed_goes lua_top env X V e h = goes_go e (ap ending_in h)
-handed_goes pcall_top env X V e h = goes_returned e (ap ending_in h)
-handed_goes xpcall_top env X V e h = goes_returned e (ap ending_in h)
-handed_goes handler_top env X V e h = goes_returned e (ap ending_in h)
-handed_goes closing_top env X V e h = goes_returned e (ap ending_in h)
-handed_goes (no_top b) env X V e h = goes_returned e (ap ending_in h)
+handed_goes _ env X V e h = goes_returned e (ap ending_in h)
 
 pub hands_on : (W : Memory) (e : KeptEnding) → Leads hand_over [] W W (ending_of e) → Goes e
 hands_on W e l = by (move see_top [] (plain W 0)) (l.is 0)

@@ -6,7 +6,7 @@ use Rattle.machine_core.specs.Text.{read, Text, quick, pay, write_register}
 use Rattle.machine_core.specs.InstructionRows.{back, next, then}
 use Rattle.table_core.specs.Value.{is_nil}
 use Rattle.table_core.specs.declared.value.Value.{Value as Kept}
-use Rattle.table_core.specs.declared.value.Value.TheVariants.{Nil, Bool as Boolean, Int, Str, Prim, Table, Func, Coro}
+use Rattle.table_core.specs.declared.value.Value.TheVariants.{Nil}
 use Rattle.lua_heap.specs.Reading.{value}
 
 abbrev pub again : ℕ → ℕ → ℕ → Text
@@ -17,20 +17,8 @@ over base by v s = elim s [ is_known k ↦ cond (same_plain k nil) next (again b
 
 pub over_nil : (texts : List (List ℕ)) (base by : ℕ) (v : Kept) → is_nil v ≡ true → over base by 0 (shape (value texts v)) ≡ next
 over_nil texts base by Nil e = refl
-over_nil texts base by (Boolean b) e = absurd (cc)
-over_nil texts base by (Int n) e = absurd (cc)
-over_nil texts base by (Str id) e = absurd (cc)
-over_nil texts base by (Prim n) e = absurd (cc)
-over_nil texts base by (Table id) e = absurd (cc)
-over_nil texts base by (Func id) e = absurd (cc)
-over_nil texts base by (Coro id) e = absurd (cc)
+over_nil texts base by _ e = absurd (cc)
 
 pub over_more : (texts : List (List ℕ)) (base by : ℕ) (v : Kept) → is_nil v ≡ false → over base by 0 (shape (value texts v)) ≡ again base by 0
 over_more texts base by Nil e = absurd (cc)
-over_more texts base by (Boolean b) e = refl
-over_more texts base by (Int n) e = refl
-over_more texts base by (Str id) e = refl
-over_more texts base by (Prim n) e = refl
-over_more texts base by (Table id) e = refl
-over_more texts base by (Func id) e = refl
-over_more texts base by (Coro id) e = refl
+over_more texts base by _ e = refl

@@ -11,7 +11,7 @@ use Rattle.machine_core.specs.InstructionRows.{integer_of_shape, writes_integer,
 use Rattle.machine_core.specs.FrameRows.{expand, raises}
 use Rattle.machine_core.specs.Moves.{on_own, run, Row}
 use Rattle.table_core.specs.declared.value.Value.{Value as Kept}
-use Rattle.table_core.specs.declared.value.Value.TheVariants.{Nil, Bool as Boolean, Int, Str, Prim, Table, Func, Coro}
+use Rattle.table_core.specs.declared.value.Value.TheVariants.{Nil}
 use Rattle.lua_heap.specs.declared.world.World.{World as Memory}
 use Rattle.lua_heap.specs.Reading.{value}
 use Rattle.lua_heap.specs.Plain.{plain}
@@ -26,13 +26,7 @@ use Rattle.machine_loops.specs.Loops.{ReadsLoop}
 
 pub integer_is : (texts : List (List ℕ)) (v : Kept) → integer_of_shape (shape (value texts v)) ≡ integer_in v
 integer_is texts Nil = refl
-integer_is texts (Boolean b) = refl
-integer_is texts (Int n) = refl
-integer_is texts (Str id) = refl
-integer_is texts (Prim n) = refl
-integer_is texts (Table id) = refl
-integer_is texts (Func id) = refl
-integer_is texts (Coro id) = refl
+integer_is texts _ = refl
 
 -- an integer that is put into a value
 pub kept_integer : (n : ℤ) → FitsSigned w64 n → known (integer n) ≡ known (integer (to_z w64 (of_z w64 n)))

@@ -3,7 +3,7 @@ use Rattle.std.proofs.Common.{ℕ, ◌+◌, ◌≡◌, ◌≢◌, ⊎_elim, List
 use Rattle.std.specs.Prelude.{slice_get, slice_set, nat_le, nat_lt, codes}
 use Rattle.std.proofs.lemmas.Bool.{cases_eq, cond-true, cond-false}
 use Rattle.std.proofs.lemmas.List.{length-reverse}
-use Rattle.int_core.specs.Value.{Value, known, object, nil, boolean, integer, string, primitive, a_table, a_function, a_coroutine, bind}
+use Rattle.int_core.specs.Value.{Value, known, object, primitive, a_function, a_coroutine, bind}
 use Rattle.int_core.specs.Limits.{greatest_depth, greatest_resumes, stack_overflow}
 use Rattle.list_laws.proofs.Ends.{last_is}
 use Rattle.list_laws.proofs.Items.{append_nil, get_set_same, get_set_other}
@@ -160,12 +160,7 @@ module _ (primitives : ℕ) (M : machine.World) (T : TalkWorld) (k : AtRest prim
     entered_by (known (primitive n)) ok =
         record { ending = calls_primitive n; world = gone vs; is = refl; stands = primitive_called n (gone vs) (now_in U (talk.calls_primitive n vs)) refl (told_now false (gone vs) U (talk.calls_primitive n vs) (joined vs)) }
     entered_by (object a_function n) ok = function_begins n (slice_get M.functions n) refl ok
-    entered_by (known nil) ok = absurd (ok refl)
-    entered_by (known (boolean b)) ok = absurd (ok refl)
-    entered_by (known (integer i)) ok = absurd (ok refl)
-    entered_by (known (string t)) ok = absurd (ok refl)
-    entered_by (object a_table n) ok = absurd (ok refl)
-    entered_by (object a_coroutine n) ok = absurd (ok refl)
+    entered_by _ ok = absurd (ok refl)
 
     talk_begins : nat_lt greatest_resumes (length T.chain) ≡ false → resumed_there ≡ calls.enters codes_run U body vs (λ why V. raises_text V why)
     talk_begins l =

@@ -1,7 +1,7 @@
 -- What is asked for is called, in a step of its own: a function is entered, a primitive is called, nothing is left to pay with, or the call is refused.
 use Rattle.std.proofs.Common.{ℕ, zero, suc, ◌+◌, ◌<◌, ◌≡◌, List, [], ◌∷◌, ◌++◌, length, Option, Some, None, refl, sym, ap, subst, ◌∙◌, arith, Bool, true, false, cond}
 use Rattle.std.specs.Prelude.{slice_get, nat_le}
-use Rattle.int_core.specs.Value.{Value, known, object, nil, boolean, integer, string, primitive, a_table, a_function, a_coroutine, bind, last}
+use Rattle.int_core.specs.Value.{Value, known, object, primitive, a_function, bind, last}
 use Rattle.int_core.specs.Operations.{Callee, callee, not_callable, callee_of, greatest_chain}
 use Rattle.int_core.specs.Limits.{greatest_depth, stack_overflow}
 use Rattle.list_laws.specs.Held.{Held}
@@ -172,12 +172,7 @@ module _ (primitives : ℕ) (M : machine.World) (U : TalkWorld) (k : AtRest prim
       let W : machine.World = after fuel vs in
       record { ending = calls_primitive n; world = W; is = refl; stands = primitive_called n W (now_in (told fuel) (talk.calls_primitive n vs)) refl (told_now false W (told fuel) (talk.calls_primitive n vs) (paid M U false fuel vs k.joined)) }
   entered_by (object a_function n) vs fuel env ok = function_called n vs fuel env (slice_get M.functions n) refl ok
-  entered_by (known nil) vs fuel env ok = absurd (ok refl)
-  entered_by (known (boolean b)) vs fuel env ok = absurd (ok refl)
-  entered_by (known (integer i)) vs fuel env ok = absurd (ok refl)
-  entered_by (known (string t)) vs fuel env ok = absurd (ok refl)
-  entered_by (object a_table n) vs fuel env ok = absurd (ok refl)
-  entered_by (object a_coroutine n) vs fuel env ok = absurd (ok refl)
+  entered_by _ vs fuel env ok = absurd (ok refl)
 
   -- a callee that can be called is paid for, by what is left
   abbrev machine_pays : Value → List Value → List Value → ℕ → Outcome

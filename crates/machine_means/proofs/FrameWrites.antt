@@ -98,10 +98,7 @@ pair_write lax fs vs _ _ h r c v u w lc i n k = absurd k
 
 under_write : (r : ℕ) (v : Value) (m : machine.Frame) → under (write_in_frame r v m) ≡ under m
 under_write r v (lua fr) = refl
-under_write r v pcall = refl
-under_write r v (xpcall h) = refl
-under_write r v handler = refl
-under_write r v (machine.closing e l) = refl
+under_write r v _ = refl
 
 pub below_write : (lax : Bool) (fs : List machine.Function) (vs : List Value) (ms : List machine.Frame) (ts : List TalkFrame) (hs : List Held) (f r c : ℕ) (v u : Value) → value_in (slice_get (upward ms) f) r ≡ Some u → c < length vs → Apart hs → Holds f r c hs → Below lax fs vs ms ts hs → Below lax fs (slice_set vs c v) (put_frame f r v ms) ts hs
 below_write lax fs vs [] [] [] f r c v u w lc a m k = tt

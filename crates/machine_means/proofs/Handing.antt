@@ -2,7 +2,7 @@
 use Rattle.std.proofs.Common.{◌≡◌, List, [], ◌++◌, Some, None, refl, ap, ◌∙◌, Bool, false}
 use Rattle.int_core.specs.Value.{Value, bind, last}
 use Rattle.machine_core.specs.World.{World, Stack, stack_of}
-use Rattle.machine_core.specs.Moves.{TopShape, lua_top, pcall_top, xpcall_top, handler_top, closing_top, no_top, top_shape, Ending, go, returned, made, Outcome, trapped, ends, run}
+use Rattle.machine_core.specs.Moves.{TopShape, lua_top, top_shape, Ending, go, returned, made, Outcome, trapped, ends, run}
 use Rattle.machine_core.specs.FrameRows.{handed, hand_over}
 use Rattle.lua_meaning.specs.World.{Now, gives_back, now_in}
 use Rattle.machine_means.specs.Joined.{TalkWorld, Joined}
@@ -14,11 +14,7 @@ ending_of _ = returned
 
 pub handed_is : (top : TopShape) (env : List Value) (W : World) → run (handed top) env W ≡ ends (ending_of top) W
 handed_is lua_top env W = refl
-handed_is pcall_top env W = refl
-handed_is xpcall_top env W = refl
-handed_is handler_top env W = refl
-handed_is closing_top env W = refl
-handed_is (no_top in_main) env W = refl
+handed_is _ env W = refl
 
 pub hand_over_is : (W : World) (s : Stack) (env : List Value) → stack_of W ≡ Some s → run hand_over env W ≡ ends (ending_of (top_shape W (last s.frames))) W
 hand_over_is W s env e =

@@ -41,10 +41,7 @@ Bounded fs _ = Unit {0}
 
 pub bounded_ok : (z : Sizes) (m : machine.Frame) → FrameOk z m → Bounded z.functions m
 bounded_ok z (lua fr) k = λ g e. subst (λ (h : machine.Function). Each (λ r. r < h.code.own.stack) fr.own.pending) (some_is k.there e) k.pending
-bounded_ok z pcall k = tt
-bounded_ok z (xpcall h) k = tt
-bounded_ok z handler k = tt
-bounded_ok z (machine.closing e us) k = tt
+bounded_ok z _ k = tt
 
 module _ (fs : List machine.Function) (T : TalkWorld) (dressed : FunctionsPair fs T.functions) where
   heard : (lo : Bool) → IsHeard lo (left (known nil))

@@ -6,7 +6,7 @@ use Rattle.int_core.specs.Value.{last}
 use Rattle.list_laws.proofs.Ends.{upward, last_is}
 use Rattle.list_laws.proofs.Items.{get_old, get_new, length_more}
 use Rattle.machine_core.specs.World as machine
-use Rattle.machine_core.specs.World.{Frame, Coroutine, fresh, suspended, in_progress, normal, dead, failed}
+use Rattle.machine_core.specs.World.{Frame, Coroutine, in_progress, normal}
 use Rattle.machine_core.specs.Moves.{runs_main}
 use Rattle.machine_sound.specs.Sound.{runs, resumed_another, standing, Solid, StackWaits}
 use Rattle.machine_sound.proofs.Lists.{get_map, map_get, get_within, some_is}
@@ -17,11 +17,7 @@ use Rattle.machine_means.proofs.Switches.{OnlyRuns}
 
 is_normal : (c : Coroutine) → standing c ≡ resumed_another → (frames : List Frame) × (c ≡ normal frames)
 is_normal (normal frames) e = (frames, refl)
-is_normal (fresh v) e = absurd (cc)
-is_normal (suspended frames) e = absurd (cc)
-is_normal (in_progress frames) e = absurd (cc)
-is_normal dead e = absurd (cc)
-is_normal (failed v vs) e = absurd (cc)
+is_normal _ e = absurd (cc)
 
 -- the coroutine that resumed the running one
 pub record Resumer (M : machine.World) (T : TalkWorld) (co : ℕ) : Type 0 where

@@ -36,19 +36,11 @@ ending_in (ends ending W) = Some ending
 -- results that are handed over end no row by an error
 pub not_raised : (top : TopShape) → Some (ending_of top) ≡ Some raised → ⊥
 not_raised lua_top e = cc
-not_raised pcall_top e = cc
-not_raised xpcall_top e = cc
-not_raised handler_top e = cc
-not_raised closing_top e = cc
-not_raised (no_top b) e = cc
+not_raised _ e = cc
 
 pub not_unwinding : (top : TopShape) → Some (ending_of top) ≡ Some unwinding → ⊥
 not_unwinding lua_top e = cc
-not_unwinding pcall_top e = cc
-not_unwinding xpcall_top e = cc
-not_unwinding handler_top e = cc
-not_unwinding closing_top e = cc
-not_unwinding (no_top b) e = cc
+not_unwinding _ e = cc
 
 module _ (primitives : ℕ) (M : machine.World) (T : TalkWorld) (solid : Solid primitives M) (waits : StackWaits primitives M) where
   -- a stack without frames is one in the other world

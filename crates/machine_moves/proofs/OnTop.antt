@@ -12,7 +12,7 @@ use Rattle.machine_sound.proofs.Frames.{stack_is}
 use Rattle.table_core.specs.declared.value.CoroId.{CoroId}
 use Rattle.table_core.specs.declared.value.Value.{Value as Kept}
 use Rattle.lua_stack.specs.declared.frame.Top.{Top}
-use Rattle.lua_stack.specs.Frames.{KeptFrame, kept_lua, kept_pcall, kept_xpcall, kept_handler, kept_closing, KeptStack, frame_of, frames, top_is}
+use Rattle.lua_stack.specs.Frames.{KeptFrame, kept_closing, KeptStack, frame_of, frames, top_is}
 use Rattle.lua_heap.specs.declared.world.Coro.TheVariants.{Running}
 use Rattle.lua_heap.specs.declared.world.World.{World as Memory}
 use Rattle.lua_heap.specs.Reading.{value}
@@ -64,12 +64,8 @@ same_stack W co d s t r q = running_same (some_is r.there (ap (λ (co : CoroId).
 -- what is seen there
 
 top_is_shape : (W : Memory) (fuel : ℕ) (o : Option KeptFrame) → top_shape (plain W fuel) (option_map (frame_of (value W.strings)) o) ≡ shape_of (runs_main (plain W 0)) (top_is o)
-top_is_shape W fuel None = refl
-top_is_shape W fuel (Some (kept_lua t)) = refl
-top_is_shape W fuel (Some kept_pcall) = refl
-top_is_shape W fuel (Some (kept_xpcall h)) = refl
-top_is_shape W fuel (Some kept_handler) = refl
 top_is_shape W fuel (Some (kept_closing e left)) = refl
+top_is_shape W fuel _ = refl
 
 pub top_seen : (W : Memory) (co : CoroId) (s : KeptStack) (top : Top) (env : List Value) → Runs W co s → top ≡ top_is (last s.frames) → Makes W W see_top env [] (shape_of (runs_main (plain W 0)) top)
 top_seen W co s top env r e = record {
@@ -85,12 +81,8 @@ top_seen W co s top env r e = record {
 -- a frame that is no Lua function's
 
 no_lua_at : (f : Kept → Value) (o : Option KeptFrame) (t : LuaFrame) → is_other (top_is o) ≡ true → option_map (frame_of f) o ≡ Some (lua t) → ⊥
-no_lua_at f None t e h = absurd (cc)
-no_lua_at f (Some (kept_lua u)) t e h = absurd (cc)
-no_lua_at f (Some kept_pcall) t e h = absurd (cc)
-no_lua_at f (Some (kept_xpcall v)) t e h = absurd (cc)
-no_lua_at f (Some kept_handler) t e h = absurd (cc)
 no_lua_at f (Some (kept_closing v left)) t e h = absurd (cc)
+no_lua_at f _ t e h = absurd (cc)
 
 pub no_lua : (s : KeptStack) (top : Top) → top ≡ top_is (last s.frames) → is_other top ≡ true → (f : Kept → Value) (below : List Frame) (t : LuaFrame) → frames f s ≡ below ++ lua t ∷ [] → ⊥
 no_lua s top e o f below t h =

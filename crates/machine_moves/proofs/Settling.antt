@@ -11,7 +11,7 @@ use Rattle.table_core.specs.Table.{Contents}
 use Rattle.lua_heap.specs.declared.world.World.{World as Memory}
 use Rattle.lua_heap.specs.Plain.{plain}
 use Rattle.meta_ops.specs.declared.operation.Operation.{Operation}
-use Rattle.meta_ops.specs.declared.operation.Operation.TheVariants.{Index, Store, Arithmetic, Concat, Length, Equal, Less, LessEqual}
+use Rattle.meta_ops.specs.declared.operation.Operation.TheVariants.{Concat}
 use Rattle.meta_ops.specs.declared.outcome.Outcome.{Outcome}
 use Rattle.meta_ops.specs.declared.outcome.Outcome.TheVariants.{Found, Done, Ask, Fault}
 use Rattle.meta_ops.specs.Heap.{heap_in}
@@ -21,14 +21,8 @@ use Rattle.move_laws.specs.Memory.{HasFrame}
 use Rattle.machine_moves.specs.Operations.{joins, values_of, told_of, Settles}
 
 strings_stay : (texts : List (List ℕ)) (operation : Operation) → joins operation ≡ false → strings_after texts operation ≡ texts
-strings_stay texts (Index o key) e = refl
-strings_stay texts (Store o key v) e = refl
-strings_stay texts (Arithmetic event left right) e = refl
 strings_stay texts (Concat left right) e = absurd (cc)
-strings_stay texts (Length v) e = refl
-strings_stay texts (Equal left right) e = refl
-strings_stay texts (Less left right) e = refl
-strings_stay texts (LessEqual left right) e = refl
+strings_stay texts _ e = refl
 
 pub strings_same : {B E : Type 0} (P : Type 0) (r : Result B E) (texts texts' : List (List ℕ)) (operation : Operation) → joins operation ≡ false → OnOk r (texts' ≡ strings_after texts operation)
     → OnErr r ((texts' ≡ texts) × P) → texts' ≡ texts

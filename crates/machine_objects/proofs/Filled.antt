@@ -25,7 +25,7 @@ use Rattle.table_core.specs.Table.{Contents}
 use Rattle.table_core.specs.Value.{lua_values}
 use Rattle.table_core.specs.declared.value.TableId.{TableId}
 use Rattle.table_core.specs.declared.value.Value.{Value as Kept}
-use Rattle.table_core.specs.declared.value.Value.TheVariants.{Nil, Bool as Boolean, Int, Str, Prim, Table, Func, Coro}
+use Rattle.table_core.specs.declared.value.Value.TheVariants.{Int, Table}
 use Rattle.lua_stack.specs.Frames.{NoneFrom}
 use Rattle.lua_heap.specs.declared.codes.Code.{Code}
 use Rattle.lua_heap.specs.declared.world.World.{World as Memory}
@@ -128,24 +128,12 @@ filled_one last index vs i v key rows more all n g k m e =
 -- what is no table, and what is one
 
 pub no_table : (texts : List (List ℕ)) (v : Kept) (table count last : ℕ) (behind : ℤ) → as_table v ≡ None → fills_registers (shape (value texts v)) 0 table count last behind ≡ raise (of_type (codes "index") (value texts v))
-no_table texts Nil table count last behind e = refl
-no_table texts (Boolean b) table count last behind e = refl
-no_table texts (Int n) table count last behind e = refl
-no_table texts (Str s) table count last behind e = refl
-no_table texts (Prim n) table count last behind e = refl
 no_table texts (Table t) table count last behind e = absurd (cc)
-no_table texts (Func f) table count last behind e = refl
-no_table texts (Coro co) table count last behind e = refl
+no_table texts _ table count last behind e = refl
 
 pub is_table : (v : Kept) (id : TableId) → as_table v ≡ Some id → v ≡ Table id
-is_table Nil id e = absurd (cc)
-is_table (Boolean b) id e = absurd (cc)
-is_table (Int n) id e = absurd (cc)
-is_table (Str s) id e = absurd (cc)
-is_table (Prim n) id e = absurd (cc)
 is_table (Table t) id e = ap (λ t. Table t) (some_is {o = Some t} refl e)
-is_table (Func f) id e = absurd (cc)
-is_table (Coro co) id e = absurd (cc)
+is_table _ id e = absurd (cc)
 
 -- the table is there where a safe row fills it
 

@@ -8,7 +8,7 @@ use Rattle.machine_core.specs.Moves.{create, Told, Made, move, CallShape, is_ent
 use Rattle.machine_core.specs.Text.{Arg, read}
 use Rattle.machine_core.specs.FrameRows.{hand_over, blames, over_frame, closing_row}
 use Rattle.machine_core.specs.MachineStep.{gives_back, look_row, after_look, pcall_row, xpcall_row, error_row, level_in, errs_at, after_entry, after_resume, resume_row, yield_row, after_closing, close_row, can_call, wrong_type, create_row, sees_status, status_row, running_row, print_row}
-use Rattle.machine_core.specs.Moves.{Over, over_pcall, over_xpcall, LookShape, is_given, is_refused, is_raised, lua_top, pcall_top, xpcall_top, handler_top, closing_top, no_top, one_left, all_closed, closed_with_error}
+use Rattle.machine_core.specs.Moves.{Over, over_pcall, over_xpcall, LookShape, is_given, is_refused, is_raised, lua_top, one_left, all_closed, closed_with_error}
 use Rattle.machine_core.specs.PrimitiveRows.{environment_at, loaded_row, load_row}
 use Rattle.code_core.specs.Prototype.{Prototype}
 use Rattle.tree_core.specs.Tree.{Body}
@@ -53,11 +53,7 @@ unspent_ends (act m k) env W V e u h s =
 
 hands_over : Unspent hand_over
 hands_over n lua_top c = λ h. h
-hands_over n pcall_top c = λ h. h
-hands_over n xpcall_top c = λ h. h
-hands_over n handler_top c = λ h. h
-hands_over n closing_top c = λ h. h
-hands_over n (no_top b) c = λ h. h
+hands_over n _ c = λ h. h
 
 blames_so : (text : List ℕ) → Unspent (blames text)
 blames_so text n t c = λ h. h

@@ -19,7 +19,7 @@ use Rattle.move_laws.proofs.Rows.{act_is, first, safe_after}
 use Rattle.move_laws.proofs.Order.{is_spent}
 use Rattle.machine_moves.specs.Ending.{ending_of}
 use Rattle.machine_moves.specs.declared.ending.Ending.{Ending as KeptEnding}
-use Rattle.machine_moves.specs.declared.ending.Ending.TheVariants.{Go, Returned, Asks, CallsPrimitive, Raised, Unwinding, Spent, MainYielded, MainReturned, MainFailed}
+use Rattle.machine_moves.specs.declared.ending.Ending.TheVariants.{Spent}
 use Rattle.machine_moves.specs.Moves.{value_seen}
 use Rattle.machine_calls.specs.declared.preparing.Prepared.{Prepared}
 use Rattle.machine_calls.specs.Preparing.{IsCopy, prepared_of}
@@ -120,15 +120,7 @@ closes_at_once W V fuel left v error method arguments wait prepared ending env x
 -- an ending that is not that of a spent budget
 pub not_spent : (ending : KeptEnding) → (ending ≡ Spent → ⊥) → is_spent (ending_of ending) → ⊥
 not_spent Spent n s = n refl
-not_spent Go n s = s
-not_spent Returned n s = s
-not_spent Asks n s = s
-not_spent (CallsPrimitive k) n s = s
-not_spent Raised n s = s
-not_spent Unwinding n s = s
-not_spent MainYielded n s = s
-not_spent MainReturned n s = s
-not_spent MainFailed n s = s
+not_spent _ n s = s
 
 pub where_ok : {B E : Type 0} {P Q : B → Type 0} (o : Result B E) → IfOk o P → ((b : B) → P b → Q b) → IfOk o Q
 where_ok (Ok b) p f = f b p

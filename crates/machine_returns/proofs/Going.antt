@@ -9,7 +9,7 @@ use Rattle.machine_core.specs.InstructionRows.{closes, fails, returns, write_val
 use Rattle.machine_core.specs.FrameRows.{When, by_asking, expand_by, goes_on_by}
 use Rattle.table_core.specs.declared.value.Value.{Value as Kept}
 use Rattle.lua_stack.specs.declared.frame.Wait.{Wait}
-use Rattle.lua_stack.specs.declared.frame.Wait.TheVariants.{Running, ForCall, ForIterator, ForValue, ForTruth, Dropped, ForConcat, ForClose, Returning, Leaving}
+use Rattle.lua_stack.specs.declared.frame.Wait.TheVariants.{ForCall, ForIterator, ForClose, Returning, Leaving}
 use Rattle.lua_heap.specs.declared.world.World.{World as Memory}
 use Rattle.lua_heap.specs.Reading.{value}
 use Rattle.move_laws.specs.Memory.{IsSafe, Leads}
@@ -21,16 +21,12 @@ use Rattle.machine_returns.specs.GoingOn.{GoesOn, MayGoOn, left_row, told_so, wa
 
 -- no wait but these is one for results or for an error
 pub none_else : (wait : Wait) → waits_for_call wait ≡ true → (wait ≡ ForCall → ⊥) → (wait ≡ ForIterator → ⊥) → (wait ≡ ForClose → ⊥) → ((count : ℕ) → wait ≡ Returning count → ⊥) → ((error : Kept) → wait ≡ Leaving error → ⊥) → ⊥
-none_else Running t a b c d e = absurd (cc)
 none_else ForCall t a b c d e = a refl
 none_else ForIterator t a b c d e = b refl
-none_else ForValue t a b c d e = absurd (cc)
-none_else ForTruth t a b c d e = absurd (cc)
-none_else Dropped t a b c d e = absurd (cc)
-none_else (ForConcat left) t a b c d e = absurd (cc)
 none_else ForClose t a b c d e = c refl
 none_else (Returning count) t a b c d e = d count refl
 none_else (Leaving error) t a b c d e = e error refl
+none_else _ t a b c d e = absurd (cc)
 
 module _ (W : Memory) (word : Instruction) (wait : Wait) (came : List Kept) where
   may_so : (other : Wait) → wait ≡ other → (m : MayGoOn W word wait came) → IsSafe (left_row W other m.code m.pc m.opcode word) (told_so W other came) W

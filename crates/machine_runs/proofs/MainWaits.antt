@@ -7,7 +7,7 @@ use Rattle.int_core.specs.Ask.{values}
 use Rattle.code_core.specs.Prototype.{Prototype}
 use Rattle.library_rows.specs.Look.{Look}
 use Rattle.library_rows.specs.Library.{Primitive, coroutine_yield, prelude_build, Entry, all_entries, row_of}
-use Rattle.machine_core.specs.World.{Function, Wait, running, for_call, for_iterator, for_value, for_truth, dropped, for_concat, for_close, returning, leaving, LuaFrame, Frame, lua, pcall, xpcall, handler, closing, suspended, in_progress, World, Stack, stack_of}
+use Rattle.machine_core.specs.World.{Function, Wait, running, for_call, for_iterator, for_value, for_truth, dropped, for_concat, for_close, returning, leaving, LuaFrame, Frame, lua, suspended, in_progress, World, Stack, stack_of}
 use Rattle.machine_core.specs.Text.{written, Text}
 use Rattle.machine_core.specs.InstructionRows.{text_at, after, told_values}
 use Rattle.machine_core.specs.Moves.{Made, made, ResumeShape, take_moving, give_with, see_top, runs_main, put_coroutine, back_to_resumer, suspend_running, Ending, go, returned, asks, calls_primitive, raised, unwinding, spent, main_yielded, main_returned, main_failed, Row, traps, stop, act, Outcome, trapped, ends, run}
@@ -33,17 +33,9 @@ quiet_of : (r : Row) (env : List Value) (W : World) → Silent r → Quiet (run 
 quiet_of r env W s V h = silent_run r env W main_yielded V s h
 
 from_quiet : (W : World) (o : Outcome) → Quiet o → Quiet (from_world W o)
-from_quiet W trapped q V h = q V h
 from_quiet W (ends spent X) q V h = absurd (ends_so spent main_yielded W V tt h)
-from_quiet W (ends go X) q V h = q V h
-from_quiet W (ends returned X) q V h = q V h
-from_quiet W (ends asks X) q V h = q V h
 from_quiet W (ends (calls_primitive n) X) q V h = q V h
-from_quiet W (ends raised X) q V h = q V h
-from_quiet W (ends unwinding X) q V h = q V h
-from_quiet W (ends main_yielded X) q V h = q V h
-from_quiet W (ends main_returned X) q V h = q V h
-from_quiet W (ends main_failed X) q V h = q V h
+from_quiet W _ q V h = q V h
 
 -- steps of Lua frames
 
@@ -71,10 +63,7 @@ quiet_some (Some g) f q V h = q g V h
 
 frame_quiet : (W : World) (s : Stack) (f : Frame) → Quiet (stepped (frame_step W s f))
 frame_quiet W s (lua f) = quiet_some (slice_get W.functions f.function) (λ g. lua_step W s f g.code f.wait) (λ g. lua_quiet W s f g.code f.wait)
-frame_quiet W s pcall = λ V h. absurd (cc)
-frame_quiet W s (xpcall v) = λ V h. absurd (cc)
-frame_quiet W s handler = λ V h. absurd (cc)
-frame_quiet W s (closing e left) = λ V h. absurd (cc)
+frame_quiet W s _ = λ V h. absurd (cc)
 
 quiet_bind : {A : Type 0} (o : Option A) (f : A → Option Outcome) → ((a : A) → Quiet (stepped (f a))) → Quiet (stepped (bind o f))
 quiet_bind None f q V h = absurd (cc)
@@ -194,15 +183,7 @@ module _ (build : Row) (b : NeverYields build) where
 
   yields_or_not : (e : Ending) → (e ≡ main_yielded) ⊎ IsNoYield e
   yields_or_not main_yielded = inl refl
-  yields_or_not go = inr tt
-  yields_or_not returned = inr tt
-  yields_or_not asks = inr tt
-  yields_or_not (calls_primitive k) = inr tt
-  yields_or_not raised = inr tt
-  yields_or_not unwinding = inr tt
-  yields_or_not spent = inr tt
-  yields_or_not main_returned = inr tt
-  yields_or_not main_failed = inr tt
+  yields_or_not _ = inr tt
 
   module _ (n : ℕ) (p : PrimitivesSafe n (row_numbered build)) (V : World) where
     -- from a step's outcome on

@@ -38,17 +38,12 @@ module _ (rows : ℕ → Row) where
 
   -- a turn that gives a run has ended
   gives_ended : (o : Outcome) (goes : World → Option Run) (x : Run) → at_end o goes ≡ Some x → has_ended o ≡ true
-  gives_ended trapped goes x given = absurd (cc)
   gives_ended (ends spent W) goes x given = refl
   gives_ended (ends main_yielded W) goes x given = refl
   gives_ended (ends main_returned W) goes x given = refl
   gives_ended (ends main_failed W) goes x given = refl
-  gives_ended (ends go W) goes x given = absurd (cc)
-  gives_ended (ends returned W) goes x given = absurd (cc)
-  gives_ended (ends asks W) goes x given = absurd (cc)
   gives_ended (ends (calls_primitive k) W) goes x given = absurd (cc)
-  gives_ended (ends raised W) goes x given = absurd (cc)
-  gives_ended (ends unwinding W) goes x given = absurd (cc)
+  gives_ended _ goes x given = absurd (cc)
 
   -- what follows a yield may be replaced
   map_given : (text : List ℕ) (o p : Option Run) (x : Run) → option_map (behind text) o ≡ Some x → ((y : Run) → o ≡ Some y → p ≡ Some y) → option_map (behind text) p ≡ Some x
@@ -56,17 +51,9 @@ module _ (rows : ℕ → Row) where
   map_given text (Some y) p x given more = rw (more y refl) given
 
   at_end_given : (o : Outcome) (goes on : World → Option Run) (x : Run) → at_end o goes ≡ Some x → ((W : World) (y : Run) → goes W ≡ Some y → on W ≡ Some y) → at_end o on ≡ Some x
-  at_end_given trapped goes on x given more = given
   at_end_given (ends main_yielded W) goes on x given more = map_given (turn_text main_yielded W) (goes W) (on W) x given (more W)
-  at_end_given (ends main_returned W) goes on x given more = given
-  at_end_given (ends main_failed W) goes on x given more = given
-  at_end_given (ends spent W) goes on x given more = given
-  at_end_given (ends go W) goes on x given more = given
-  at_end_given (ends returned W) goes on x given more = given
-  at_end_given (ends asks W) goes on x given more = given
   at_end_given (ends (calls_primitive k) W) goes on x given more = given
-  at_end_given (ends raised W) goes on x given more = given
-  at_end_given (ends unwinding W) goes on x given more = given
+  at_end_given _ goes on x given more = given
 
   -- more steps a turn give the same run
   pub given_within : (m n : ℕ) (W : World) (input : List (List ℕ)) (budget : ℕ) (x : Run) → run_from rows m W input budget ≡ Some x → m ≤ n → run_from rows n W input budget ≡ Some x
@@ -112,17 +99,12 @@ module _ (rows : ℕ → Row) where
 
   at_end_cut : (o : Outcome) (goes on : World → Option Run) (x y : Run) → at_end o goes ≡ Some x → x.close ≡ is_suspended
       → ((V : World) (z : Run) → goes V ≡ Some z → z.close ≡ is_suspended → z.last ≡ x.last → on V ≡ Some (behind z.printed y)) → at_end o on ≡ Some (behind x.printed y)
-  at_end_cut trapped goes on x y given suspended more = absurd (cc)
   at_end_cut (ends main_yielded V) goes on x y given suspended more = map_cut (turn_text main_yielded V) (goes V) (on V) x y given suspended (more V)
   at_end_cut (ends main_returned V) goes on x y given suspended more = absurd (not_suspended _ x refl given suspended)
   at_end_cut (ends main_failed V) goes on x y given suspended more = absurd (not_suspended _ x refl given suspended)
   at_end_cut (ends spent V) goes on x y given suspended more = absurd (not_suspended _ x refl given suspended)
-  at_end_cut (ends go V) goes on x y given suspended more = absurd (cc)
-  at_end_cut (ends returned V) goes on x y given suspended more = absurd (cc)
-  at_end_cut (ends asks V) goes on x y given suspended more = absurd (cc)
   at_end_cut (ends (calls_primitive k) V) goes on x y given suspended more = absurd (cc)
-  at_end_cut (ends raised V) goes on x y given suspended more = absurd (cc)
-  at_end_cut (ends unwinding V) goes on x y given suspended more = absurd (cc)
+  at_end_cut _ goes on x y given suspended more = absurd (cc)
 
   -- where the lines have run out, it is the further lines that count
   suspended_here : (n : ℕ) (V L : World) (more : List (List ℕ)) (budget : ℕ) (z y : Run) → suspends V ≡ Some z → z.last ≡ L → onward rows n L more budget ≡ Some y → onward rows n V more budget ≡ Some (behind z.printed y)

@@ -5,8 +5,8 @@ use Rattle.std.proofs.lemmas.Bool.{cases_eq}
 use Rattle.std.proofs.lemmas.List.{map-set}
 use Rattle.int_core.specs.Value.{Value, bind, last}
 use Rattle.int_core.specs.Limits.{greatest_depth}
-use Rattle.machine_core.specs.World.{closed, open_at, Frame, lua, Coroutine, fresh, suspended, in_progress, normal, dead, failed, World, Stack, stack_of}
-use Rattle.machine_core.specs.Moves.{made, Made, CallShape, is_entered, is_primitive, not_paid, not_entered, TopShape, lua_top, pcall_top, xpcall_top, handler_top, closing_top, no_top, top_shape, top_now, resumed, starts_in, can_start, enters, put_coroutine, go_into, Ending, Row, Outcome, trapped, ends, run}
+use Rattle.machine_core.specs.World.{closed, open_at, Frame, lua, Coroutine, fresh, suspended, in_progress, World, Stack, stack_of}
+use Rattle.machine_core.specs.Moves.{made, Made, CallShape, is_entered, is_primitive, not_paid, not_entered, TopShape, lua_top, top_shape, top_now, resumed, starts_in, can_start, enters, put_coroutine, go_into, Ending, Row, Outcome, trapped, ends, run}
 use Rattle.machine_core.specs.MachineStep.{after_resume, and_then, steps}
 use Rattle.machine_core.specs.FrameRows.{handed, hand_over}
 use Rattle.machine_sound.specs.Sound.{Each, sizes, Valid, FrameOk, FrameWaits, AllWait, CoroutineOk, Standing, runs, resumed_another, standing, ChainOk, registers_in, registers_of, CellOk, Solid, Settled, StackWaits, idle, on_top, all_wait, Sound}
@@ -103,11 +103,7 @@ module _ (n : ℕ) (W : World) (s : Solid n W) (idle : W.chain ≡ []) (co : ℕ
 
 handed_good : (n : ℕ) (V : World) (k : TopShape) → Solid n V → StackWaits n V → (k ≡ lua_top → Settled n V) → StepGood n (run (handed k) [] V)
 handed_good n V lua_top s h f = record { sound = record { solid = s; rests = on_top (f refl) }; ready = f refl }
-handed_good n V pcall_top s h f = record { sound = record { solid = s; rests = all_wait h }; ready = h }
-handed_good n V xpcall_top s h f = record { sound = record { solid = s; rests = all_wait h }; ready = h }
-handed_good n V handler_top s h f = record { sound = record { solid = s; rests = all_wait h }; ready = h }
-handed_good n V closing_top s h f = record { sound = record { solid = s; rests = all_wait h }; ready = h }
-handed_good n V (no_top b) s h f = record { sound = record { solid = s; rests = all_wait h }; ready = h }
+handed_good n V _ s h f = record { sound = record { solid = s; rests = all_wait h }; ready = h }
 
 hand_over_is : (V : World) (k : TopShape) → top_now V ≡ Some k → run hand_over [] V ≡ run (handed k) [] V
 hand_over_is V k e = ap (λ o. elim (bind {A = TopShape} o (λ top. made V [] top)) as (λ _. Outcome) [ None ↦ trapped | Some d ↦ run (handed d.told) ([] ++ d.values) d.world ]) e
@@ -172,10 +168,7 @@ module _ (n : ℕ) (W : World) (s : Solid n W) (idle : W.chain ≡ []) (co : ℕ
       let valid = values_on z (sizes n P) g W.moving (values_on (sizes n W) z (moving_grows n W [] W.fuel) W.moving s.moving) in
       subst (λ o. StepGood n (after_waking o)) (sym (fresh_is (with_moving W [] W.fuel) co body W.moving))
       (called_good n P (enters P body W.moving) (enters_good n P ps pw W.moving valid body (valid_on z (sizes n P) g body ok.0) ok.1))
-  starts_good (in_progress gs) e t = absurd (cc)
-  starts_good (normal gs) e t = absurd (cc)
-  starts_good dead e t = absurd (cc)
-  starts_good (failed v vs) e t = absurd (cc)
+  starts_good _ e t = absurd (cc)
 
 pub wakes_good : (n : ℕ) (W : World) → Sound n W → MayTurn W → StepGood n (wakes W)
 unfolding wakes

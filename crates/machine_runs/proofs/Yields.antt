@@ -49,11 +49,7 @@ silent_run (act m k) env W e V s h = from (move m env W) (λ n t env W. silent_r
 
 silent_handed : (t : TopShape) → Silent (handed t)
 silent_handed lua_top = tt
-silent_handed pcall_top = tt
-silent_handed xpcall_top = tt
-silent_handed handler_top = tt
-silent_handed closing_top = tt
-silent_handed (no_top b) = tt
+silent_handed _ = tt
 
 pub silent_hand_over : Silent hand_over
 silent_hand_over = λ n t. silent_handed t
@@ -119,11 +115,7 @@ silent_coroutine_fails = λ n t. λ n t. λ n t. silent_hand_over
 pub silent_raised_to : (t : TopShape) (h : ℕ) → Silent (raised_to t h)
 silent_raised_to xpcall_top h = λ n t. λ n room. silent_cond room _ gives_up (λ n t. tt) silent_gives_up
 silent_raised_to (no_top false) h = silent_coroutine_fails
-silent_raised_to (no_top true) h = tt
-silent_raised_to lua_top h = tt
-silent_raised_to pcall_top h = tt
-silent_raised_to handler_top h = tt
-silent_raised_to closing_top h = tt
+silent_raised_to _ h = tt
 
 silent_caught : Silent caught
 silent_caught = λ n t. λ n t. λ n t. silent_hand_over
@@ -131,10 +123,7 @@ silent_caught = λ n t. λ n t. λ n t. silent_hand_over
 silent_refused : (t : TopShape) (text : List ℕ) → Silent (refused_under t text)
 silent_refused lua_top text = silent_raises text
 silent_refused handler_top text = silent_gives_up
-silent_refused pcall_top text = silent_blames text
-silent_refused xpcall_top text = silent_blames text
-silent_refused closing_top text = silent_blames text
-silent_refused (no_top b) text = silent_blames text
+silent_refused _ text = silent_blames text
 
 silent_after_asked : (s : CallShape) → Silent (after_asked s)
 silent_after_asked is_entered = tt

@@ -1,14 +1,14 @@
 -- The moves by which a Lua frame on top waits for a call, is replaced by one, is left, or begins to be left.
 use Rattle.std.proofs.Common.{ℕ, zero, suc, ◌<◌, ◌≤◌, ◌≡◌, List, [], ◌∷◌, ◌++◌, Option, Some, None, refl, subst, sym, ap, ◌∙◌, length, drop, arith, Bool, true, false, cond, length-append}
 use Rattle.std.specs.Prelude.{slice_get, IsTrue, codes}
-use Rattle.int_core.specs.Value.{nil, boolean, integer, string, primitive, Value, known, object, bind, last, greatest_string}
+use Rattle.int_core.specs.Value.{string, Value, known, bind, last, greatest_string}
 use Rattle.int_core.specs.Operations.{Callee, callee, not_callable, callee_of, greatest_chain}
 use Rattle.code_core.specs.declared.opcode.Opcode.{Opcode}
 use Rattle.code_core.specs.declared.instruction.Instruction.{Instruction}
 use Rattle.code_core.specs.Prototype.{Prototype}
 use Rattle.code_core.specs.Check.{at}
 use Rattle.int_core.specs.Limits.{greatest_depth, string_fits}
-use Rattle.machine_core.specs.World.{Cell, closed, open_at, Wait, running, for_call, for_iterator, for_value, for_truth, dropped, for_concat, for_close, returning, leaving, Activation, Frame, lua, World, Stack, place_of, put_frames, pop, close_from}
+use Rattle.machine_core.specs.World.{Cell, closed, open_at, Wait, running, leaving, Activation, Frame, lua, World, Stack, place_of, put_frames, pop, close_from}
 use Rattle.machine_core.specs.Text.{Arg, arg, Own, close_cells, keep_pending, done, Given, results, thrown, given_values}
 use Rattle.machine_core.specs.Moves.{enter, enter_tail, await, begin_leaving, leave_frame, CallShape, is_entered, is_primitive, not_paid, not_entered, top_shape, top_now, Made, made, move, named, cells_done, with_own, enters, enters_paid, called, popped, called_tail, placed, blamed, where_text}
 use Rattle.machine_sound.specs.Sound.{Each, Sizes, sizes, Valid, WaitOk, waits_at, waiting_size, kept_below, FrameOk, LuaWaits, FrameWaits, registers_in, registers_of, Solid, Top, RunsOrWaits, TopIs, StackWaits}
@@ -27,51 +27,19 @@ use Rattle.machine_sound.proofs.Waits.{with_moving, moving_grows, moving_solid, 
 
 waits_named : (env : List Value) (w : Wait Arg) (op : Opcode) (i : Instruction) → waits_at (named env w) op i ≡ waits_at w op i
 waits_named env running op i = refl
-waits_named env for_call op i = refl
-waits_named env for_iterator op i = refl
-waits_named env for_value op i = refl
-waits_named env for_truth op i = refl
-waits_named env dropped op i = refl
-waits_named env (for_concat k) op i = refl
-waits_named env for_close op i = refl
-waits_named env (returning k) op i = refl
-waits_named env (leaving e) op i = refl
+waits_named env _ op i = refl
 
 size_named : (env : List Value) (w : Wait Arg) (i : Instruction) (k : ℕ) → waiting_size (named env w) i k ≡ waiting_size w i k
 size_named env running i k = refl
-size_named env for_call i k = refl
-size_named env for_iterator i k = refl
-size_named env for_value i k = refl
-size_named env for_truth i k = refl
-size_named env dropped i k = refl
-size_named env (for_concat c) i k = refl
-size_named env for_close i k = refl
-size_named env (returning c) i k = refl
-size_named env (leaving e) i k = refl
+size_named env _ i k = refl
 
 kept_named : (env : List Value) (w : Wait Arg) (i : Instruction) (k : ℕ) → kept_below (named env w) i k ≡ kept_below w i k
 kept_named env running i k = refl
-kept_named env for_call i k = refl
-kept_named env for_iterator i k = refl
-kept_named env for_value i k = refl
-kept_named env for_truth i k = refl
-kept_named env dropped i k = refl
-kept_named env (for_concat c) i k = refl
-kept_named env for_close i k = refl
-kept_named env (returning c) i k = refl
-kept_named env (leaving e) i k = refl
+kept_named env _ i k = refl
 
 error_named : (z : Sizes) (env : List Value) (w : Wait Arg) → Each (Valid z) env → WaitArgOk w → WaitOk z (named env w)
 error_named z env (leaving x) h k = arg_valid z env x h k
-error_named z env running h k = tt
-error_named z env for_call h k = tt
-error_named z env for_iterator h k = tt
-error_named z env for_value h k = tt
-error_named z env for_truth h k = tt
-error_named z env dropped h k = tt
-error_named z env (for_concat c) h k = tt
-error_named z env for_close h k = tt
-error_named z env (returning c) h k = tt
+error_named z env _ h k = tt
 
 -- an activation that is known, of a frame that waits now
 own_waits : (z : Sizes) (old : List Cell) (p : Prototype) (co k : ℕ) (t : Top) (own : Activation) (cells : List Cell) → OwnIs z old p co k t own cells → OwnIs z old p co k (record t { runs = false }) own cells
@@ -367,11 +335,7 @@ blamed_valid z W text = short_enough (where_text W 0 ++ text)
 
 pub placed_valid : (z : Sizes) (W : World) (level : ℕ) (v : Value) → Valid z v → Valid z (placed W level v)
 placed_valid z W level (known (string text)) h = short_enough (where_text W level ++ text)
-placed_valid z W level (known nil) h = h
-placed_valid z W level (known (boolean b)) h = h
-placed_valid z W level (known (integer m)) h = h
-placed_valid z W level (known (primitive m)) h = h
-placed_valid z W level (object kind m) h = h
+placed_valid z W level _ h = h
 
 pub begin_leaving_move : (n : ℕ) (text : List ℕ) (t : Top) (env : List Value) (W : World) → Is n (on_lua t) env W → TopReady t env (begin_leaving text) → MoveGood n (on_lua t) env (begin_leaving text) W
 begin_leaving_move n text t env W i r =

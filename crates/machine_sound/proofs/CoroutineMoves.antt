@@ -6,9 +6,9 @@ use Rattle.std.proofs.lemmas.Bool.Decides.{nat_tests}
 use Rattle.std.proofs.lemmas.List.{map-set}
 use Rattle.int_core.specs.Value.{Value, known, object, a_table, a_function, a_coroutine, is_object, shape, bind, last, greatest_string}
 use Rattle.int_core.specs.Limits.{greatest_resumes}
-use Rattle.machine_core.specs.World.{closed, open_at, Frame, lua, pcall, xpcall, handler, closing, Coroutine, fresh, suspended, in_progress, normal, dead, failed, World, Stack, stack_of}
+use Rattle.machine_core.specs.World.{closed, open_at, Frame, lua, closing, Coroutine, fresh, suspended, in_progress, normal, dead, failed, World, Stack, stack_of}
 use Rattle.machine_core.specs.Text.{Arg, read, written, arg}
-use Rattle.machine_core.specs.Moves.{take_moving, see_top, end_coroutine, fail_coroutine, suspend, resume, CallShape, is_entered, is_primitive, not_paid, not_entered, TopShape, lua_top, no_top, closing_top, top_shape, top_now, runs_main, resumed, refused, pending_values, all_closed_from, put_coroutine, back_to_resumer, bury, suspend_running, wait_for_another, go_into, ends_as, starts_in, can_start, resumes, coroutine_number, enters, made, move, pcall_top, xpcall_top, handler_top}
+use Rattle.machine_core.specs.Moves.{take_moving, see_top, end_coroutine, fail_coroutine, suspend, resume, CallShape, is_entered, is_primitive, not_paid, not_entered, TopShape, lua_top, no_top, top_shape, top_now, runs_main, resumed, refused, pending_values, all_closed_from, put_coroutine, back_to_resumer, bury, suspend_running, wait_for_another, go_into, ends_as, starts_in, can_start, resumes, coroutine_number, enters, made, move}
 use Rattle.machine_sound.specs.Sound.{Each, sizes, Valid, FrameOk, FrameWaits, AllWait, CoroutineOk, runs, resumed_another, apart, standing, ChainOk, registers_in, registers_of, CellOk, Solid, Settled, StackWaits}
 use Rattle.machine_sound.specs.Safe.{waiting, in_resumed, between, handing, Is, IsPhase, after_end, after_resuming, after_handing, Ready, MoveGood}
 use Rattle.machine_sound.proofs.Lists.{each_none, each_set, bind_at, get_set_same, get_set_other, length_set, get_map, get_there, last_push, some_is, each_drop}
@@ -33,11 +33,8 @@ ends_is n W h c = bind_at _ (stack_of W) (record { coroutine = h.coroutine; fram
 
 main_of : (W : World) (o : Option Frame) (b : Bool) → top_shape W o ≡ no_top b → runs_main W ≡ b
 main_of W None b e = cc
-main_of W (Some (lua f)) b e = absurd (cc)
-main_of W (Some pcall) b e = absurd (cc)
-main_of W (Some (xpcall v)) b e = absurd (cc)
-main_of W (Some handler) b e = absurd (cc)
 main_of W (Some (closing v vs)) b e = absurd (cc)
+main_of W _ b e = absurd (cc)
 
 pub end_coroutine_waits : (n : ℕ) → WaitingGood n end_coroutine
 end_coroutine_waits n (Some (no_top b)) env W i r =
@@ -119,11 +116,7 @@ take_moving_resumed n env W i =
 
 handed_phase : (n : ℕ) (W : World) → Solid n W → (h : StackWaits n W) (k : TopShape) → top_shape W (last h.frames) ≡ k → IsPhase n (after_handing k) W
 handed_phase n W s h lua_top e = lua_settles n W s (record { all = h; top = e })
-handed_phase n W s h pcall_top e = record { all = h; top = e }
-handed_phase n W s h xpcall_top e = record { all = h; top = e }
-handed_phase n W s h handler_top e = record { all = h; top = e }
-handed_phase n W s h closing_top e = record { all = h; top = e }
-handed_phase n W s h (no_top b) e = record { all = h; top = e }
+handed_phase n W s h _ e = record { all = h; top = e }
 
 pub see_top_handing : (n : ℕ) (env : List Value) (W : World) → Is n handing env W → MoveGood n handing env see_top W
 see_top_handing n env W i = ⊎_elim

@@ -5,7 +5,7 @@ use Rattle.std.proofs.lemmas.Bool.{cases_eq}
 use Rattle.std.proofs.lemmas.Bool.Decides.{nat_tests}
 use Rattle.std.proofs.lemmas.List.{map-set}
 use Rattle.int_core.specs.Value.{Value, nth, last, without_last}
-use Rattle.machine_core.specs.World.{Cell, closed, open_at, Frame, lua, pcall, xpcall, handler, closing, Coroutine, fresh, suspended, in_progress, normal, dead, failed, World, frames_of, close_from, OneEach}
+use Rattle.machine_core.specs.World.{Cell, closed, open_at, Frame, lua, pcall, xpcall, handler, closing, Coroutine, in_progress, normal, World, frames_of, close_from, OneEach}
 use Rattle.machine_core.specs.Moves.{pending_values, all_closed_from, put_coroutine, awake, back_to_resumer, runs_main}
 use Rattle.machine_sound.specs.Sound.{Each, Sizes, sizes, Valid, TableOk, FunctionOk, FrameOk, FramesOk, AllWait, CoroutineOk, runs, resumed_another, apart, standing, ChainOk, registers_in, registers_of, CellOk, Solid, StackWaits}
 use Rattle.machine_sound.specs.Safe.{IsPhase, after_end}
@@ -124,10 +124,7 @@ pending_valid z (lua f) h = go f.own.pending
     go : (ps : List ℕ) → Each (Valid z) (map (nth f.own.registers) ps)
     go [] = each_none (Valid z)
     go (p ∷ ps) = each_cons (Valid z) (nth f.own.registers p) (map (nth f.own.registers) ps) (nth_ok (Valid z) tt f.own.registers p h.registers) (go ps)
-pending_valid z pcall h = each_none (Valid z)
-pending_valid z (xpcall v) h = each_none (Valid z)
-pending_valid z handler h = each_none (Valid z)
-pending_valid z (closing e vs) h = each_none (Valid z)
+pending_valid z _ h = each_none (Valid z)
 
 pub pendings_valid : (z : Sizes) (fs : List Frame) → Each (FrameOk z) fs → Each (Valid z) (flat_map pending_values fs)
 pendings_valid z [] h = each_none (Valid z)
@@ -137,11 +134,7 @@ pendings_valid z (f ∷ fs) h = each_append (Valid z) (pending_values f) (flat_m
 
 normal_is : (c : Coroutine) → standing c ≡ resumed_another → (fs : List Frame) × (c ≡ normal fs)
 normal_is (normal fs) e = (fs, refl)
-normal_is (fresh v) e = absurd (cc)
-normal_is (suspended fs) e = absurd (cc)
-normal_is (in_progress fs) e = absurd (cc)
-normal_is dead e = absurd (cc)
-normal_is (failed v vs) e = absurd (cc)
+normal_is _ e = absurd (cc)
 
 none_last : (ch : List ℕ) → last ch ≡ None → ch ≡ []
 none_last [] e = refl

@@ -24,11 +24,7 @@ held_ends false t e = tt
 
 other_handed : (s : TopShape) (env : List Value) → Safe (waiting (Some s)) env (handed s)
 other_handed lua_top env = tt
-other_handed pcall_top env = tt
-other_handed xpcall_top env = tt
-other_handed handler_top env = tt
-other_handed closing_top env = tt
-other_handed (no_top b) env = tt
+other_handed _ env = tt
 
 pub hand_over_safe : (s : Option TopShape) (env : List Value) → Safe (waiting s) env hand_over
 hand_over_safe s env = (tt, λ e. from e)

@@ -95,10 +95,7 @@ module _ (z y : Sizes) (g : Grows z y) where
 
   pub waits_on : (f : Frame) → FrameWaits z f → FrameWaits y f
   waits_on (lua f) h = lua_waits_on f h
-  waits_on pcall h = tt
-  waits_on (xpcall v) h = tt
-  waits_on handler h = tt
-  waits_on (closing e left) h = tt
+  waits_on _ h = tt
 
   pub each_waits_on : (fs : List Frame) → Each (FrameWaits z) fs → Each (FrameWaits y) fs
   each_waits_on fs h = each_on (FrameWaits z) (FrameWaits y) waits_on fs h

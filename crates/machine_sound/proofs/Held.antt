@@ -1,8 +1,8 @@
 -- A Lua frame on top that waits, as all frames do.
-use Rattle.std.proofs.Common.{ℕ, ◌<◌, ◌≡◌, [], ◌∷◌, ◌++◌, Option, Some, None, refl, subst, ap, ◌∙◌, length, false}
+use Rattle.std.proofs.Common.{ℕ, ◌<◌, ◌≡◌, [], ◌∷◌, ◌++◌, Option, Some, refl, subst, ap, ◌∙◌, length, false}
 use Rattle.std.specs.Prelude.{slice_get, IsSome}
 use Rattle.int_core.specs.Value.{last, without_last}
-use Rattle.machine_core.specs.World.{Function, LuaFrame, Frame, lua, pcall, xpcall, handler, closing, in_progress, World, find_open}
+use Rattle.machine_core.specs.World.{Function, LuaFrame, Frame, lua, in_progress, World, find_open}
 use Rattle.machine_core.specs.Moves.{lua_top, top_shape}
 use Rattle.machine_sound.specs.Sound.{Each, sizes, LuaOk, FrameOk, LuaWaits, FrameWaits, Solid, Top, TopIs, Settled, StackWaits}
 use Rattle.machine_sound.specs.Safe.{HasPlace, WaitsUnder}
@@ -58,12 +58,8 @@ module _ (n : ℕ) (W : World) (s : Solid n W) (h : StackWaits n W) (f : LuaFram
 
 -- what is on top is a Lua frame
 pub lua_is_top : (W : World) (o : Option Frame) → top_shape W o ≡ lua_top → (f : LuaFrame) × (o ≡ Some (lua f))
-lua_is_top W None h = absurd (cc)
 lua_is_top W (Some (lua f)) h = (f, refl)
-lua_is_top W (Some pcall) h = absurd (cc)
-lua_is_top W (Some (xpcall v)) h = absurd (cc)
-lua_is_top W (Some handler) h = absurd (cc)
-lua_is_top W (Some (closing v vs)) h = absurd (cc)
+lua_is_top W _ h = absurd (cc)
 
 pub lua_settles : (n : ℕ) (W : World) → Solid n W → WaitsUnder n (Some lua_top) W → Settled n W
 lua_settles n W s h =

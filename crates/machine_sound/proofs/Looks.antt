@@ -3,7 +3,7 @@ use Rattle.std.proofs.Common.{ℕ, ◌+◌, ◌<◌, ◌≡◌, List, [], ◌∷
 use Rattle.std.specs.Prelude.{slice_get, slice_set, find, position, option_map}
 use Rattle.std.specs.Map.{keys_of}
 use Rattle.int_core.specs.Rows.{next, rows_after, is_filled}
-use Rattle.int_core.specs.Value.{nil, boolean, integer, string, primitive, a_table, a_function, a_coroutine, Value, known, object, same, table_values, nth, bind}
+use Rattle.int_core.specs.Value.{nil, string, a_table, a_function, a_coroutine, Value, known, object, same, table_values, nth, bind}
 use Rattle.int_core.specs.Heap.{Table, Heap, raw_get, metatable_of, add_table}
 use Rattle.library_rows.specs.Look.{HeapOp, look, compare, read_field, write_field, read_metatable, write_metatable, border_of, row_after, make_table, or_nil, table_or_nil, put_field, put_metatable, put_meta, row_step, row_in, does_op, Look, gives, gives_all, refuses, raises, count, does, Done, done as came, refused as was_refused, raised as was_raised, looked, arg, args_of}
 use Rattle.machine_core.specs.World.{World}
@@ -60,18 +60,13 @@ module _ (z : Sizes) where
 
   module _ (H : Heap) (h : HeapOk z H) where
     metatable_ok : (v : Value) → OptionOk (λ m. m < z.tables) (metatable_of H v)
-    metatable_ok (known nil) = tt
-    metatable_ok (known (boolean b)) = tt
-    metatable_ok (known (integer n)) = tt
     metatable_ok (known (string s)) = h.metatable
-    metatable_ok (known (primitive n)) = tt
-    metatable_ok (object a_function n) = tt
-    metatable_ok (object a_coroutine n) = tt
     metatable_ok (object a_table n) = from (slice_get H.tables n) refl
       where
         from : (o : Option Table) → slice_get H.tables n ≡ o → OptionOk (λ m. m < z.tables) (bind o (λ t. t.metatable))
         from None e = tt
         from (Some t) e = (h.tables n t e).metatable
+    metatable_ok _ = tt
 
     write_ok : (o k v : Value) → Valid z k → Valid z v → HeapStays z H (put_field H o k v)
     write_ok (object a_table n) k v a b = raw_set_ok z H h n k v a b

@@ -1,5 +1,5 @@
 -- A step of a Lua frame on top does not trap: it runs its instruction, or what is left of one for which the answer came.
-use Rattle.std.proofs.Common.{ℕ, zero, suc, ◌-◌, ◌≡◌, ◌<◌, ◌≤◌, [], ◌∷◌, ◌++◌, Option, Some, None, refl, subst, sym, ap, ◌∙◌, length, Bool, true, false, arith}
+use Rattle.std.proofs.Common.{ℕ, suc, ◌-◌, ◌≡◌, ◌<◌, ◌≤◌, [], ◌∷◌, ◌++◌, Option, Some, None, refl, subst, sym, ap, ◌∙◌, length, Bool, true, false, arith}
 use Rattle.std.specs.Prelude.{slice_get, IsTrue, IsSome}
 use Rattle.int_core.specs.Value.{Value, nth, bind, last}
 use Rattle.code_core.specs.declared.opcode.Opcode.{Opcode}
@@ -10,7 +10,7 @@ use Rattle.machine_core.specs.World.{Function, Wait, running, for_call, for_iter
 use Rattle.machine_core.specs.Text.{read}
 use Rattle.machine_core.specs.InstructionRows.{text_at, rest_at, told_values}
 use Rattle.int_core.specs.Ask.{values}
-use Rattle.machine_core.specs.Moves.{lua_top, top_shape, go, returned, asks, calls_primitive, raised, unwinding, spent, main_yielded, main_returned, main_failed, Row, Outcome, trapped, ends, run}
+use Rattle.machine_core.specs.Moves.{lua_top, top_shape, go, calls_primitive, spent, main_yielded, main_returned, main_failed, Row, Outcome, trapped, ends, run}
 use Rattle.machine_core.specs.FrameRows.{expand, goes_on_by}
 use Rattle.machine_core.specs.MachineStep.{woken, lua_step, top_step, from_world, step_by, step}
 use Rattle.machine_sound.specs.Sound.{Each, sizes, Valid, WaitOk, waits_at, waiting_size, LuaWaits, Solid, Top, RunsOrWaits, TopIs, Fits, FitsIfRuns, Settled, StackWaits, Rests, idle, on_top, all_wait, Sound}
@@ -34,14 +34,11 @@ pub from_world_good : (n : ℕ) (W : World) (o : Outcome) → Sound n W → Good
 from_world_good n W trapped s g = absurd g
 from_world_good n W (ends spent V) s g = record { sound = s; ready = tt }
 from_world_good n W (ends go V) s g = record { sound = record { solid = g.0; rests = on_top g.1 }; ready = g.1 }
-from_world_good n W (ends returned V) s g = record { sound = record { solid = g.0; rests = all_wait g.1 }; ready = g.1 }
 from_world_good n W (ends (calls_primitive k) V) s g = record { sound = record { solid = g.0; rests = all_wait g.1.all }; ready = g.1 }
-from_world_good n W (ends asks V) s g = record { sound = record { solid = g.0; rests = all_wait g.1 }; ready = g.1 }
-from_world_good n W (ends raised V) s g = record { sound = record { solid = g.0; rests = all_wait g.1 }; ready = g.1 }
-from_world_good n W (ends unwinding V) s g = record { sound = record { solid = g.0; rests = all_wait g.1 }; ready = g.1 }
 from_world_good n W (ends main_yielded V) s g = record { sound = record { solid = g.0; rests = idle g.1 }; ready = g.1 }
 from_world_good n W (ends main_returned V) s g = record { sound = record { solid = g.0; rests = idle g.1 }; ready = g.1 }
 from_world_good n W (ends main_failed V) s g = record { sound = record { solid = g.0; rests = idle g.1 }; ready = g.1 }
+from_world_good n W _ s g = record { sound = record { solid = g.0; rests = all_wait g.1 }; ready = g.1 }
 
 -- a Lua frame on top of a sound world fits its place or its wait
 pub settles : (n : ℕ) (W : World) (p : Place) → Sound n W → place_of W ≡ Some p → Settled n W
@@ -157,28 +154,12 @@ module _ (n : ℕ) (t : Top) (W : World) (h : TopIs n t W) (s : Solid n W) where
   module _ (w : LuaWaits (sizes n W) h.top) where
     told_ok : (wait : Wait Value) → WaitOk (sizes n W) wait → Each (Valid (sizes n W)) (told_values wait (values W.moving))
     told_ok (leaving e) k = each_one (Valid (sizes n W)) e k
-    told_ok running k = s.moving
-    told_ok for_call k = s.moving
-    told_ok for_iterator k = s.moving
-    told_ok for_value k = s.moving
-    told_ok for_truth k = s.moving
-    told_ok dropped k = s.moving
-    told_ok (for_concat zero) k = s.moving
     told_ok (for_concat (suc c)) k = each_one (Valid (sizes n W)) (nth W.moving 0) (arg_valid (sizes n W) W.moving (read 0) s.moving tt)
-    told_ok for_close k = s.moving
-    told_ok (returning c) k = s.moving
+    told_ok _ k = s.moving
 
     step_is : (wait : Wait Value) (op : Opcode) (i : Instruction) → IsTrue (waits_at wait op i) → lua_step W (record { coroutine = h.coroutine; frames = h.base ++ lua h.top ∷ [] }) h.top h.function.code wait ≡ run (goes_on_by (rest_at wait h.function.code h.top.own.pc)) (told_values wait (values W.moving)) (woken W (record { coroutine = h.coroutine; frames = h.base ++ lua h.top ∷ [] }) h.top)
     step_is running op i f = absurd (cc)
-    step_is (leaving e) op i f = refl
-    step_is for_call op i f = refl
-    step_is for_iterator op i f = refl
-    step_is for_value op i f = refl
-    step_is for_truth op i f = refl
-    step_is dropped op i f = refl
-    step_is (for_concat c) op i f = refl
-    step_is for_close op i f = refl
-    step_is (returning c) op i f = refl
+    step_is _ op i f = refl
 
     pub waited_good : Good n (lua_step W (record { coroutine = h.coroutine; frames = h.base ++ lua h.top ∷ [] }) h.top h.function.code h.top.wait)
     waited_good =

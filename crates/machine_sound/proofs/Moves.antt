@@ -4,12 +4,12 @@ use Rattle.std.specs.Prelude.{pos, IsTrue, IsSome, ℤ}
 use Rattle.std.specs.List.{list_all}
 use Rattle.int_core.specs.Value.{Value, known, greatest_string}
 use Rattle.code_core.specs.declared.proto.Const.{Const}
-use Rattle.code_core.specs.declared.proto.Const.TheVariants.{Nil, False, True, Int, Str}
+use Rattle.code_core.specs.declared.proto.Const.TheVariants.{Str}
 use Rattle.code_core.specs.Prototype.{Parts, Prototype}
 use Rattle.code_core.specs.Check.{IsChecked, at, none_or_one_per, is_line, lines_from}
 use Rattle.code_core.specs.Writable.{is_writable, parts_fit, entries_fit, lists_fit, constant_fits, word_fits, name_fits, number_fits, byte_fits}
 use Rattle.machine_core.specs.World.{Activation, LuaFrame, lua, World, place_of, put_top}
-use Rattle.machine_core.specs.Text.{constant, Own, read_register, read_registers, read_list, read_constant, read_varargs, see, write_register, write_registers, write_list, write_nils, end_list, cut_from, close_cells, mark_pending, see_pending, take_pending, drop_pending, keep_results, keep_pending, reads, tells, effect}
+use Rattle.machine_core.specs.Text.{constant, Own, read_register, read_registers, read_list, read_constant, read_varargs, see, see_pending, reads, tells, effect}
 use Rattle.machine_core.specs.Moves.{cells_after, with_own, do_own, place_from, moved_pc, on_own, move_pc, made}
 use Rattle.machine_sound.specs.Sound.{Each, Sizes, sizes, Valid, Solid, Top, RunsOrWaits, TopIs}
 use Rattle.machine_sound.specs.Safe.{Phase, on_lua, IsPhase, Is, TopReady, IfChanged, after_own, own_values, MoveGood}
@@ -27,11 +27,8 @@ made_so n x q env vs W V i g s h v = record { solid = s; phase = h; valid = each
 -- constants of checked code are values
 
 constant_valid : (z : Sizes) (c : Const) → IsTrue (constant_fits c) → Valid z (known (constant c))
-constant_valid z Nil h = tt
-constant_valid z False h = tt
-constant_valid z True h = tt
-constant_valid z (Int k) h = tt
 constant_valid z (Str s) h = le_of (length s) greatest_string h
+constant_valid z _ h = tt
 
 entries_of : (p : Parts) → IsTrue (parts_fit p) → IsTrue (entries_fit p)
 entries_of p h =
@@ -56,24 +53,7 @@ constants_ok z p h =
 
 runs_after : (m : Own) (env : List Value) (t : Top) → (after_own m env t).runs ≡ t.runs
 runs_after (read_register r) env t = refl
-runs_after (read_registers from count) env t = refl
-runs_after (read_list from) env t = refl
-runs_after (read_constant n) env t = refl
-runs_after read_varargs env t = refl
-runs_after (see x) env t = refl
-runs_after (write_register r x) env t = refl
-runs_after (write_registers at count slot) env t = refl
-runs_after (write_list at slot) env t = refl
-runs_after (write_nils at count) env t = refl
-runs_after end_list env t = refl
-runs_after (cut_from r) env t = refl
-runs_after (close_cells r) env t = refl
-runs_after (mark_pending r) env t = refl
-runs_after (see_pending r) env t = refl
-runs_after (take_pending r) env t = refl
-runs_after (drop_pending r) env t = refl
-runs_after (keep_results from count) env t = refl
-runs_after keep_pending env t = refl
+runs_after _ env t = refl
 
 -- a frame that waits, where it is not changed
 still_waits : (z y : Sizes) → Grows z y → (m : Own) (p : Prototype) (env : List Value) (f : LuaFrame) (b : Bool) → IfChanged m b → RunsOrWaits b z f → RunsOrWaits b y (record f { own = effect m p env f.own })

@@ -2,7 +2,7 @@
 use Rattle.std.proofs.Common.{ℕ, ◌<◌, ◌≤◌, ◌≡◌, List, [], ◌∷◌, ◌++◌, Option, Some, None, refl, subst, sym, ap, ◌∙◌, length, arith, Bool, true, false, cond, length-append}
 use Rattle.std.specs.Prelude.{slice_get, IsTrue}
 use Rattle.std.proofs.lemmas.List.{map-append}
-use Rattle.int_core.specs.Value.{Value, known, nil, boolean, integer, string, primitive, object, a_table, a_function, a_coroutine, shape, bind, last}
+use Rattle.int_core.specs.Value.{Value, known, primitive, object, a_function, a_coroutine, shape, bind, last}
 use Rattle.int_core.specs.Operations.{is_function}
 use Rattle.machine_core.specs.World.{Cell, closed, open_at, Frame, lua, pcall, xpcall, handler, closing, Coroutine, fresh, in_progress, World, frames_of}
 use Rattle.machine_core.specs.Text.{Arg, arg}
@@ -79,12 +79,7 @@ module _ (n : ℕ) (W : World) (s : Solid n W) (v : Value) (ok : Valid (sizes n 
 callable : (v : Value) → IsTrue (can_call (shape v)) → IsTrue (is_function v)
 callable (object a_function m) h = refl
 callable (known (primitive m)) h = refl
-callable (object a_table m) h = absurd (cc)
-callable (object a_coroutine m) h = absurd (cc)
-callable (known nil) h = absurd (cc)
-callable (known (boolean b)) h = absurd (cc)
-callable (known (integer k)) h = absurd (cc)
-callable (known (string b)) h = absurd (cc)
+callable _ h = absurd (cc)
 
 create_is : (x : Arg) (env : List Value) (W : World) → is_function (arg env x) ≡ true → move (create x) env W ≡ made (record W { coroutines = W.coroutines ++ fresh (arg env x) ∷ [] }) (object a_coroutine (length W.coroutines) ∷ []) tt
 unfolding add_coroutine

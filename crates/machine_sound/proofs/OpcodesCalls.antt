@@ -12,7 +12,7 @@ use Rattle.code_core.specs.Check.{opened}
 use Rattle.machine_core.specs.World.{for_call, for_iterator, returning}
 use Rattle.machine_core.specs.Text.{Arg, read, written, behind, drop_pending, cut_from, read_registers, results, Text, own, call, tail_call, close, leave, is_there, arg}
 use Rattle.machine_core.specs.InstructionRows.{row_of, read_values, returns, returned_so, counted, return_count}
-use Rattle.machine_core.specs.Moves.{TopShape, lua_top, pcall_top, xpcall_top, handler_top, closing_top, no_top, CallShape, is_entered, is_primitive, not_paid, not_entered}
+use Rattle.machine_core.specs.Moves.{TopShape, lua_top, CallShape, is_entered, is_primitive, not_paid, not_entered}
 use Rattle.machine_core.specs.FrameRows.{expand, after_call, after_leaving}
 use Rattle.machine_sound.specs.Sound.{Top, waits_at}
 use Rattle.machine_sound.specs.Safe.{on_lua, waiting, HasPlace, MayEnter, list_of_option, end_of, end_by, list_length, Safe, after_tail}
@@ -124,11 +124,7 @@ t_for_call_safe t w h = (
 
 left_ends : (slot : ℕ) (env : List Value) (s : TopShape) → Safe (waiting (Some s)) env (after_leaving (results slot) s)
 left_ends slot env lua_top = tt
-left_ends slot env pcall_top = tt
-left_ends slot env xpcall_top = tt
-left_ends slot env handler_top = tt
-left_ends slot env closing_top = tt
-left_ends slot env (no_top b) = tt
+left_ends slot env _ = tt
 
 -- some registers are returned; the pending variables are closed first
 pub returns_safe : (t : Top) (env : List Value) (count : ℕ) (p : HasPlace t) → IsTrue t.runs → behind (a_of p.instruction) count ≤ t.size → t.pending ≤ t.code.own.stack → IsTrue (waits_at {V = Arg} (returning count) p.opcode p.instruction) → Safe (on_lua t) env (expand (returns (a_of p.instruction) count))

@@ -5,7 +5,7 @@ use Rattle.std.proofs.lemmas.Bool.Decides.{nat_tests}
 use Rattle.int_core.specs.Value.{Value, known, nil, nth, range, write, write_all}
 use Rattle.code_core.specs.Prototype.{Prototype}
 use Rattle.machine_core.specs.World.{Cell, closed, open_at, Activation, close_from, find_open}
-use Rattle.machine_core.specs.Text.{arg, behind, Own, read_register, read_registers, read_list, read_constant, read_varargs, see, write_register, write_registers, write_list, write_nils, end_list, cut_from, close_cells, mark_pending, see_pending, take_pending, drop_pending, keep_results, keep_pending, effect, done, nils, blanked, last_pending, without_pending, is_there, is_pending}
+use Rattle.machine_core.specs.Text.{arg, behind, Own, write_register, write_registers, write_list, write_nils, end_list, cut_from, close_cells, mark_pending, take_pending, drop_pending, keep_results, keep_pending, effect, done, nils, blanked, last_pending, without_pending, is_there, is_pending}
 use Rattle.machine_core.specs.Moves.{cells_after, cells_done}
 use Rattle.machine_sound.specs.Sound.{Each, Sizes, Valid, Top}
 use Rattle.machine_sound.specs.Safe.{stack_of, OwnReady, after_own, AllReady, after_all}
@@ -173,13 +173,6 @@ module _ (z : Sizes) (old : List Cell) (p : Prototype) (co k : ℕ) (env : List 
   low t own cells h size c s i r e = let l = h.cells_below i r e in omega arith
 
   pub own_good : (m : Own) (t : Top) (own : Activation) (cells : List Cell) → OwnReady t m → Known t own cells → Known (after_own m env t) (effect m p env own) (cells_after m co k own cells)
-  own_good (read_register r) t own cells c h = h
-  own_good (read_registers from count) t own cells c h = h
-  own_good (read_list from) t own cells c h = h
-  own_good (read_constant n) t own cells c h = h
-  own_good read_varargs t own cells c h = h
-  own_good (see x) t own cells c h = h
-  own_good (see_pending r) t own cells c h = h
   own_good (write_register r x) t own cells c h =
       let l = length_write r (arg env x) own.registers in
       let s = h.size in
@@ -230,6 +223,7 @@ module _ (z : Sizes) (old : List Cell) (p : Prototype) (co k : ℕ) (env : List 
       let q = ap (λ (p : Prototype). p.own.stack) h.code in
       other t own cells h (stack_of t) 0 (blanked (is_pending own.pending) 0 p.own.stack own.registers) (length_blanked (is_pending own.pending) 0 p.own.stack own.registers ∙ sym q) (omega arith)
       (each_blanked (Valid z) tt (is_pending own.pending) 0 p.own.stack own.registers h.registers) (low t own cells h (stack_of t) c (omega arith))
+  own_good _ t own cells c h = h
 
   pub all_good : (ms : List Own) (t : Top) (own : Activation) (cells : List Cell) → AllReady ms env t → Known t own cells → Known (after_all ms env t) (done ms p env own) (cells_done ms p co k env own cells)
   all_good [] t own cells c h = h

@@ -5,7 +5,7 @@ use Rattle.int_core.specs.Value.{Value, known, nth, range}
 use Rattle.code_core.specs.Prototype.{Prototype}
 use Rattle.code_core.specs.Check.{Mark, fixed, open_from, mark}
 use Rattle.machine_core.specs.World.{Cell, Activation}
-use Rattle.machine_core.specs.Text.{behind, constant, is_there, list_end, list_values, last_pending, Own, read_register, read_registers, read_list, read_constant, read_varargs, see, write_register, write_registers, write_list, write_nils, end_list, cut_from, close_cells, mark_pending, see_pending, take_pending, drop_pending, keep_results, keep_pending, reads, tells, fits}
+use Rattle.machine_core.specs.Text.{behind, constant, is_there, list_end, list_values, last_pending, Own, read_register, read_registers, read_list, read_constant, read_varargs, write_register, write_registers, write_list, write_nils, mark_pending, see_pending, reads, tells, fits}
 use Rattle.machine_sound.specs.Sound.{Each, Sizes, Valid, Top}
 use Rattle.machine_sound.specs.Safe.{end_by, end_of, list_length, OwnReady, OwnEvent, own_values, own_told}
 use Rattle.machine_sound.proofs.Lists.{get_there, each_none, each_one}
@@ -64,7 +64,6 @@ module _ (z : Sizes) (old : List Cell) (p : Prototype) (co k : ℕ) (env : List 
         fits_so = lt_true n (length p.own.constants) b;
       }
   own_read read_varargs t own cells c h = record { event = own.varargs; values = refl; told = refl; valid = h.varargs; fits_so = refl }
-  own_read (see x) t own cells c h = record { event = tt; values = refl; told = refl; valid = each_none (Valid z); fits_so = refl }
   own_read (see_pending r) t own cells c h = from (last_pending r own.pending) refl
     where
       from : (o : Option ℕ) → last_pending r own.pending ≡ o → IsRead z p env t own (see_pending r)
@@ -75,10 +74,4 @@ module _ (z : Sizes) (old : List Cell) (p : Prototype) (co k : ℕ) (env : List 
   own_read (write_list at slot) t own cells c h = record { event = tt; values = refl; told = refl; valid = each_none (Valid z); fits_so = lt_true at (length own.registers) (let s = h.size in omega arith) }
   own_read (write_nils at count) t own cells c h = record { event = tt; values = refl; told = refl; valid = each_none (Valid z); fits_so = le_true (at + count) (length own.registers) (let s = h.size in omega arith) }
   own_read (mark_pending r) t own cells c h = record { event = tt; values = refl; told = refl; valid = each_none (Valid z); fits_so = lt_true r (length own.registers) (let s = h.size in let d = c.0 in omega arith) }
-  own_read end_list t own cells c h = record { event = tt; values = refl; told = refl; valid = each_none (Valid z); fits_so = refl }
-  own_read (cut_from r) t own cells c h = record { event = tt; values = refl; told = refl; valid = each_none (Valid z); fits_so = refl }
-  own_read (close_cells r) t own cells c h = record { event = tt; values = refl; told = refl; valid = each_none (Valid z); fits_so = refl }
-  own_read (take_pending r) t own cells c h = record { event = tt; values = refl; told = refl; valid = each_none (Valid z); fits_so = refl }
-  own_read (drop_pending r) t own cells c h = record { event = tt; values = refl; told = refl; valid = each_none (Valid z); fits_so = refl }
-  own_read (keep_results from count) t own cells c h = record { event = tt; values = refl; told = refl; valid = each_none (Valid z); fits_so = refl }
-  own_read keep_pending t own cells c h = record { event = tt; values = refl; told = refl; valid = each_none (Valid z); fits_so = refl }
+  own_read _ t own cells c h = record { event = tt; values = refl; told = refl; valid = each_none (Valid z); fits_so = refl }

@@ -11,7 +11,7 @@ use Rattle.code_core.specs.Check.{CodeIsChecked, at, opened}
 use Rattle.machine_core.specs.World.{Wait, for_call, for_iterator, for_value, for_truth, dropped, for_concat, for_close, returning, leaving}
 use Rattle.machine_core.specs.Text.{Arg, read, arg, behind, thrown, Text, close, leave, trap, is_there}
 use Rattle.machine_core.specs.InstructionRows.{rest, rest_at, rest_by, fails, left_so, to_register, write_values, joins}
-use Rattle.machine_core.specs.Moves.{TopShape, lua_top, pcall_top, xpcall_top, handler_top, closing_top, no_top}
+use Rattle.machine_core.specs.Moves.{TopShape, lua_top}
 use Rattle.machine_core.specs.FrameRows.{expand, after_leaving}
 use Rattle.machine_sound.specs.Sound.{Top, waits_at, waiting_size}
 use Rattle.machine_sound.specs.Safe.{on_lua, waiting, HasPlace, list_of_option, Safe}
@@ -28,11 +28,7 @@ use Rattle.machine_sound.proofs.OpcodesLists.{puts_safe}
 
 left_by_error : (env : List Value) (x : Arg) (s : TopShape) → Safe (waiting (Some s)) env (after_leaving (thrown x) s)
 left_by_error env x lua_top = tt
-left_by_error env x pcall_top = tt
-left_by_error env x xpcall_top = tt
-left_by_error env x handler_top = tt
-left_by_error env x closing_top = tt
-left_by_error env x (no_top b) = tt
+left_by_error env x _ = tt
 
 pub fails_safe : (t : Top) (env : List Value) → HasPlace t → t.pending ≤ t.code.own.stack → Safe (on_lua t) env (expand fails)
 fails_safe t env p q = ((tt, tt), λ o. from o)

@@ -1,7 +1,7 @@
 -- The row of every instruction that runs is safe in checked code.
 use Rattle.std.proofs.Common.{◌≡◌, [], Option, Some, None, subst, sym, ap, ◌∙◌, true, false}
 use Rattle.code_core.specs.declared.opcode.Opcode.{Opcode}
-use Rattle.code_core.specs.declared.opcode.Opcode.TheVariants.{Move, LoadI, LoadF, LoadK, LoadKx, LoadFalse, LFalseSkip, LoadTrue, LoadNil, GetUpval, SetUpval, GetTabUp, GetTable, GetI, GetField, SetTabUp, SetTable, SetI, SetField, NewTable, OpSelf, AddI, AddK, SubK, MulK, ModK, PowK, DivK, IDivK, BAndK, BOrK, BXorK, ShrI, ShlI, Add, Sub, Mul, Mod, Pow, Div, IDiv, BAnd, BOr, BXor, Shl, Shr, MmBin, MmBinI, MmBinK, Unm, BNot, Not, Len, Concat, Close, Tbc, Jmp, Eq, Lt, Le, EqK, EqI, LtI, LeI, GtI, GeI, Test, TestSet, Call, TailCall, Return, Return0, Return1, ForLoop, ForPrep, TForPrep, TForCall, TForLoop, SetList, Closure, VarArg, VarArgPrep, ExtraArg}
+use Rattle.code_core.specs.declared.opcode.Opcode.TheVariants.{Move, LoadI, LoadK, LoadKx, LoadFalse, LFalseSkip, LoadTrue, LoadNil, GetUpval, SetUpval, GetTabUp, GetTable, GetI, GetField, SetTabUp, SetTable, SetI, SetField, NewTable, OpSelf, AddI, AddK, SubK, MulK, ModK, IDivK, BAndK, BOrK, BXorK, ShrI, ShlI, Add, Sub, Mul, Mod, IDiv, BAnd, BOr, BXor, Shl, Shr, MmBin, MmBinI, MmBinK, Unm, BNot, Not, Len, Concat, Close, Tbc, Jmp, Eq, Lt, Le, EqK, EqI, LtI, LeI, GtI, GeI, Test, TestSet, Call, TailCall, Return, Return0, Return1, ForLoop, ForPrep, TForPrep, TForCall, TForLoop, SetList, Closure, VarArg, VarArgPrep, ExtraArg}
 use Rattle.code_core.specs.declared.instruction.Instruction.{Instruction}
 use Rattle.code_core.specs.Instruction.{opcode_of}
 use Rattle.code_core.specs.Fields.{takes_list}
@@ -23,7 +23,6 @@ use Rattle.std.specs.Prelude.{IsTrue}
 pub row_safe : (op : Opcode) (t : Top) (w : Instruction) → Here t w op → is_extra op ≡ false → (takes_list op w ≡ true → Listed t w) → Safe (on_lua t) [] (expand (row_of t.code t.pc op w))
 row_safe Move t w h x l = move_safe t w h
 row_safe LoadI t w h x l = load_i_safe t w h
-row_safe LoadF t w h x l = absurd (let e = h.rule.whole in cc)
 row_safe LoadK t w h x l = load_k_safe t w h
 row_safe LoadKx t w h x l = load_kx_safe t w h
 row_safe LoadFalse t w h x l = load_false_safe t w h
@@ -47,8 +46,6 @@ row_safe AddK t w h x l = add_k_safe t w h
 row_safe SubK t w h x l = sub_k_safe t w h
 row_safe MulK t w h x l = mul_k_safe t w h
 row_safe ModK t w h x l = mod_k_safe t w h
-row_safe PowK t w h x l = absurd (let e = h.rule.whole in cc)
-row_safe DivK t w h x l = absurd (let e = h.rule.whole in cc)
 row_safe IDivK t w h x l = idiv_k_safe t w h
 row_safe BAndK t w h x l = band_k_safe t w h
 row_safe BOrK t w h x l = bor_k_safe t w h
@@ -59,8 +56,6 @@ row_safe Add t w h x l = add_safe t w h
 row_safe Sub t w h x l = sub_safe t w h
 row_safe Mul t w h x l = mul_safe t w h
 row_safe Mod t w h x l = mod_safe t w h
-row_safe Pow t w h x l = absurd (let e = h.rule.whole in cc)
-row_safe Div t w h x l = absurd (let e = h.rule.whole in cc)
 row_safe IDiv t w h x l = idiv_safe t w h
 row_safe BAnd t w h x l = band_safe t w h
 row_safe BOr t w h x l = bor_safe t w h
@@ -104,6 +99,7 @@ row_safe Closure t w h x l = closure_safe t w h
 row_safe VarArg t w h x l = var_arg_safe t w h
 row_safe VarArgPrep t w h x l = var_arg_prep_safe t w h
 row_safe ExtraArg t w h x l = absurd (cc)
+row_safe _ t w h x l = absurd (let e = h.rule.whole in cc)
 
 -- the text of the instruction at hand
 pub text_safe : (t : Top) → CodeIsChecked t.code → Fits t → t.pending ≡ t.code.own.stack → t.cells ≡ t.code.own.stack → IsTrue t.runs → Safe (on_lua t) [] (expand (text_at t.code t.pc))

@@ -1,7 +1,7 @@
 -- No step of a sound world traps.
 use Rattle.std.proofs.Common.{ℕ, zero, suc, [], None}
 use Rattle.machine_core.specs.World.{World}
-use Rattle.machine_core.specs.Moves.{Ending, go, returned, asks, calls_primitive, raised, unwinding, spent, main_yielded, main_returned, main_failed, Row, Outcome, trapped, ends, act, see_top, run}
+use Rattle.machine_core.specs.Moves.{Ending, go, returned, asks, calls_primitive, raised, unwinding, Row, Outcome, trapped, ends, act, see_top, run}
 use Rattle.machine_core.specs.FrameRows.{asked_row, raised_row, unwound, handed_to}
 use Rattle.machine_core.specs.MachineStep.{step_by, step, steps, and_then}
 use Rattle.machine_sound.specs.Sound.{sizes, Valid, Solid, StackWaits}
@@ -23,10 +23,7 @@ steps_good n rows p (calls_primitive k) W s = from_world_good n W (step_by rows 
 steps_good n rows p asks W s = from_world_good n W (step_by rows asks W) s.sound (from_waiting n asked_row W s.sound.solid s.ready asked_safe)
 steps_good n rows p raised W s = from_world_good n W (step_by rows raised W) s.sound (from_waiting n raised_row W s.sound.solid s.ready raised_safe)
 steps_good n rows p unwinding W s = from_world_good n W (step_by rows unwinding W) s.sound (from_waiting n (act see_top (λ _ top. unwound top)) W s.sound.solid s.ready unwinding_safe)
-steps_good n rows p spent W s = s
-steps_good n rows p main_yielded W s = s
-steps_good n rows p main_returned W s = s
-steps_good n rows p main_failed W s = s
+steps_good n rows p _ W s = s
 
 then_good : (n : ℕ) (o : Outcome) (f : Ending → World → Outcome) → StepGood n o → ((e : Ending) (W : World) → SoundAfter n e W → StepGood n (f e W)) → StepGood n (and_then o f)
 then_good n trapped f g k = absurd g

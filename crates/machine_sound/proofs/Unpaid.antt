@@ -2,9 +2,9 @@
 use Rattle.std.proofs.Common.{◌≡◌, ℕ, List, [], ◌∷◌, Bool, true, false, Option, Some, None, length, refl, subst}
 use Rattle.std.specs.Prelude.{codes, cond, drop, slice_get, ◌&&◌, nat_lt}
 use Rattle.int_core.specs.Limits.{greatest_resumes, stack_overflow}
-use Rattle.int_core.specs.Value.{nil, boolean, integer, string, primitive, a_table, a_function, a_coroutine, Value, known, object, bind}
+use Rattle.int_core.specs.Value.{primitive, a_function, Value, known, object, bind}
 use Rattle.machine_core.specs.World.{Function, Coroutine, fresh, suspended, in_progress, normal, dead, failed, World, Stack, stack_of}
-use Rattle.machine_core.specs.Moves.{on_own, move_pc, open_register, outside, settle, enter, enter_tail, await, find_close, is_closable, begin_leaving, leave_frame, take_moving, look, give, give_with, blame, place_text, push_frame, call_value, see_top, see_catcher, pop_frame, take_closing, set_error, end_coroutine, fail_coroutine, suspend, create, consult, see_status, see_running, print, resume, begin_closing, make_loaded, Move, Told, Made, made, move, CallShape, is_entered, is_primitive, not_paid, not_entered, ResumeShape, resumed, refused, enters, has_room, push_all, new_frame, starts_in, can_start, resumes, wait_for_another, closes_in, closes_coroutine, go_into, coroutine_number}
+use Rattle.machine_core.specs.Moves.{resume, begin_closing, Move, Told, Made, made, move, CallShape, is_entered, is_primitive, not_paid, not_entered, ResumeShape, resumed, refused, enters, has_room, push_all, new_frame, starts_in, can_start, resumes, wait_for_another, closes_in, closes_coroutine, go_into, coroutine_number}
 use Rattle.machine_core.specs.World.{push, closing}
 use Rattle.machine_sound.proofs.Lists.{bind_some, some_is}
 
@@ -25,13 +25,7 @@ tells_of : {A : Type 0} (P : A → Type 0) (W : World) (vs : List Value) (t : A)
 tells_of {A} P W vs t d e p = subst (λ (d : Made A). P d.told) (some_is {o = made W vs t} refl e) p
 
 entered_unpaid : (f : Value) (arguments : List Value) (W : World) (d : Made CallShape) → enters W f arguments ≡ Some d → ResumedUnpaid (resumed d.told)
-entered_unpaid (known nil) arguments W d e = absurd (cc)
-entered_unpaid (known (boolean b)) arguments W d e = absurd (cc)
-entered_unpaid (known (integer n)) arguments W d e = absurd (cc)
-entered_unpaid (known (string s)) arguments W d e = absurd (cc)
 entered_unpaid (known (primitive n)) arguments W d e = tells_of (λ s. ResumedUnpaid (resumed s)) (record W { moving = arguments }) [] (is_primitive n) d e tt
-entered_unpaid (object a_table n) arguments W d e = absurd (cc)
-entered_unpaid (object a_coroutine n) arguments W d e = absurd (cc)
 entered_unpaid (object a_function n) arguments W d e =
     let f = bind_some (λ (f : Function). cond (has_room W 1) (made (push_all W (new_frame n f.code arguments ∷ [])) [] is_entered) (made W [] (not_entered stack_overflow))) (slice_get W.functions n) d e in
     by (push_all W (new_frame n f.0.code arguments ∷ [])) (has_room W 1) f.2
@@ -39,16 +33,14 @@ entered_unpaid (object a_function n) arguments W d e =
     by : (V : World) (room : Bool) → cond room (made V [] is_entered) (made W [] (not_entered stack_overflow)) ≡ Some d → ResumedUnpaid (resumed d.told)
     by V true e = tells_of (λ s. ResumedUnpaid (resumed s)) V [] is_entered d e tt
     by V false e = tells_of (λ s. ResumedUnpaid (resumed s)) W [] (not_entered stack_overflow) d e tt
+entered_unpaid _ arguments W d e = absurd (cc)
 
 starts_unpaid : (c : Coroutine) (W : World) (co : ℕ) (arguments : List Value) (d : Made ResumeShape) → starts_in W co c arguments ≡ Some d → ResumedUnpaid d.told
 starts_unpaid (fresh body) W co arguments d e =
     let x = bind_some (λ (x : Made CallShape). made x.world [] (resumed x.told)) (enters (go_into W co []) body arguments) d e in
     tells_of ResumedUnpaid x.0.world [] (resumed x.0.told) d x.2 (entered_unpaid body arguments (go_into W co []) x.0 x.1)
 starts_unpaid (suspended frames) W co arguments d e = tells_of ResumedUnpaid _ [] (resumed is_entered) d e tt
-starts_unpaid (in_progress frames) W co arguments d e = tells_of ResumedUnpaid W [] (refused _) d e tt
-starts_unpaid (normal frames) W co arguments d e = tells_of ResumedUnpaid W [] (refused _) d e tt
-starts_unpaid dead W co arguments d e = tells_of ResumedUnpaid W [] (refused _) d e tt
-starts_unpaid (failed v vs) W co arguments d e = tells_of ResumedUnpaid W [] (refused _) d e tt
+starts_unpaid _ W co arguments d e = tells_of ResumedUnpaid W [] (refused _) d e tt
 
 resumes_unpaid : (W : World) (s : Stack) (co : ℕ) (c : Coroutine) (arguments : List Value) (d : Made ResumeShape) → resumes W s co c arguments ≡ Some d → ResumedUnpaid d.told
 resumes_unpaid W s co c arguments d e = by (can_start c && nat_lt greatest_resumes (length W.chain)) e
@@ -83,37 +75,4 @@ tells_so (begin_closing x) env W d e =
     let co = bind_some (λ co. bind (slice_get W.coroutines co) (closes_coroutine W s.0 co)) (coroutine_number (Rattle.machine_core.specs.Text.arg env x)) d s.2 in
     let c = bind_some (closes_coroutine W s.0 co.0) (slice_get W.coroutines co.0) d co.2 in
     closes_unpaid c.0 W s.0 co.0 d c.2
-tells_so (on_own x) env W d e = tt
-tells_so (move_pc x) env W d e = tt
-tells_so (open_register x) env W d e = tt
-tells_so (outside x) env W d e = tt
-tells_so (settle x y) env W d e = tt
-tells_so (enter x y z w) env W d e = tt
-tells_so (enter_tail x y) env W d e = tt
-tells_so (await x y z w) env W d e = tt
-tells_so (find_close x y) env W d e = tt
-tells_so (is_closable x) env W d e = tt
-tells_so (begin_leaving x) env W d e = tt
-tells_so (leave_frame x) env W d e = tt
-tells_so take_moving env W d e = tt
-tells_so (look x) env W d e = tt
-tells_so (give x) env W d e = tt
-tells_so (give_with x y) env W d e = tt
-tells_so (blame x) env W d e = tt
-tells_so (place_text x y) env W d e = tt
-tells_so (push_frame x) env W d e = tt
-tells_so (call_value x y) env W d e = tt
-tells_so see_top env W d e = tt
-tells_so see_catcher env W d e = tt
-tells_so pop_frame env W d e = tt
-tells_so take_closing env W d e = tt
-tells_so (set_error x) env W d e = tt
-tells_so end_coroutine env W d e = tt
-tells_so (fail_coroutine x) env W d e = tt
-tells_so suspend env W d e = tt
-tells_so (create x) env W d e = tt
-tells_so (consult x y) env W d e = tt
-tells_so (see_status x) env W d e = tt
-tells_so see_running env W d e = tt
-tells_so (print x) env W d e = tt
-tells_so (make_loaded p x) env W d e = tt
+tells_so _ env W d e = tt

@@ -127,12 +127,8 @@ catcher_ok P (handler ∷ fs) h = h zero handler refl
 catcher_ok P (closing e left ∷ fs) h = h zero (closing e left) refl
 
 handler_valid : (z : Sizes) (o : Option Frame) → OptionOk (FrameOk z) o → Each (Valid z) (handler_value o)
-handler_valid z None h = each_none (Valid z)
-handler_valid z (Some (lua f)) h = each_none (Valid z)
-handler_valid z (Some pcall) h = each_none (Valid z)
 handler_valid z (Some (xpcall v)) h = each_one (Valid z) v h
-handler_valid z (Some handler) h = each_none (Valid z)
-handler_valid z (Some (closing e left)) h = each_none (Valid z)
+handler_valid z _ h = each_none (Valid z)
 
 caught_by : (n : ℕ) (W : World) (h : StackWaits n W) (o : Option Frame) → IsPhase n (after_catcher (top_shape W o)) W
 caught_by n W h None = from (runs_main W) refl
@@ -140,11 +136,8 @@ caught_by n W h None = from (runs_main W) refl
     from : (b : Bool) → runs_main W ≡ b → IsPhase n (after_catcher (no_top b)) W
     from true e = record { all = h; top = tt }
     from false e = record { all = h; resumed_one = e }
-caught_by n W h (Some (lua f)) = record { all = h; top = tt }
-caught_by n W h (Some pcall) = record { all = h; top = tt }
-caught_by n W h (Some (xpcall v)) = record { all = h; top = tt }
-caught_by n W h (Some handler) = record { all = h; top = tt }
 caught_by n W h (Some (closing e left)) = record { all = h; top = tt }
+caught_by n W h _ = record { all = h; top = tt }
 
 pub see_catcher_waits : (n : ℕ) → WaitingGood n see_catcher
 see_catcher_waits n s env W i r =
@@ -238,12 +231,8 @@ pop_frame_waits n (Some k) env W i r =
 -- the closing of a coroutine's variables
 
 closing_top_is : (W : World) (o : Option Frame) → top_shape W o ≡ closing_top → (e : Option Value) × (left : List Value) × (o ≡ Some (closing e left))
-closing_top_is W None h = absurd (cc)
-closing_top_is W (Some (lua f)) h = absurd (cc)
-closing_top_is W (Some pcall) h = absurd (cc)
-closing_top_is W (Some (xpcall v)) h = absurd (cc)
-closing_top_is W (Some handler) h = absurd (cc)
 closing_top_is W (Some (closing e left)) h = (e, left, refl)
+closing_top_is W _ h = absurd (cc)
 
 module _ (n : ℕ) (env : List Value) (W : World) (i : Is n (waiting (Some closing_top)) env W) (e : Option Value) (left : List Value) (x : last i.phase.all.frames ≡ Some (closing e left)) where
   abbrev h : StackWaits n W

@@ -2,7 +2,7 @@
 use Rattle.std.proofs.Common.{ℕ, zero, suc, ◌+◌, ◌<◌, ◌≤◌, ◌≡◌, List, [], ◌∷◌, ◌++◌, Option, Some, None, refl, subst, sym, ap, ◌∙◌, length, take, drop, arith, Bool, true, false, cond, length-append}
 use Rattle.std.specs.Prelude.{slice_get, nat_le, nat_lt, IsTrue, IsSome}
 use Rattle.std.proofs.lemmas.Bool.Decides.{nat_tests}
-use Rattle.int_core.specs.Value.{Value, known, nil, boolean, integer, string, primitive, object, a_table, a_function, a_coroutine, fitted}
+use Rattle.int_core.specs.Value.{Value, known, primitive, object, a_function, fitted}
 use Rattle.int_core.proofs.ValueLemmas.{length_fitted}
 use Rattle.int_core.specs.Limits.{greatest_depth, stack_overflow}
 use Rattle.int_core.specs.Operations.{is_function}
@@ -203,9 +203,4 @@ module _ (n : ℕ) (P : World) (s : Solid n P) (h : StackWaits n P) (vs : List V
     room = λ text e. absurd (cc);
   }
   enters_good (object a_function m) v t = enters_function m v
-  enters_good (known nil) v t = absurd (cc)
-  enters_good (known (boolean b)) v t = absurd (cc)
-  enters_good (known (integer b)) v t = absurd (cc)
-  enters_good (known (string b)) v t = absurd (cc)
-  enters_good (object a_table m) v t = absurd (cc)
-  enters_good (object a_coroutine m) v t = absurd (cc)
+  enters_good _ v t = absurd (cc)

@@ -3,7 +3,7 @@ use Rattle.std.proofs.Common.{ℕ, zero, suc, ◌<◌, ◌≡◌, ⊎_elim, List
 use Rattle.std.specs.Prelude.{slice_get, slice_set, IsSome}
 use Rattle.std.proofs.lemmas.Bool.{cases_eq}
 use Rattle.int_core.specs.Value.{Value, bind, write}
-use Rattle.machine_core.specs.World.{Cell, closed, open_at, LuaFrame, Frame, lua, pcall, xpcall, handler, closing, Coroutine, fresh, suspended, in_progress, normal, dead, failed, World, frames_of, lua_frame, with_frames, read_cell, write_in_frame, write_in_coroutine, write_cell, find_open}
+use Rattle.machine_core.specs.World.{Cell, closed, open_at, LuaFrame, Frame, lua, Coroutine, fresh, suspended, in_progress, normal, dead, failed, World, frames_of, lua_frame, with_frames, read_cell, write_in_frame, write_in_coroutine, write_cell, find_open}
 use Rattle.machine_core.specs.Text.{Arg, arg, write_upvalue}
 use Rattle.machine_core.specs.Moves.{outside, made, own_cell, move}
 use Rattle.machine_sound.specs.Sound.{Each, Sizes, sizes, Valid, TableOk, FunctionOk, LuaOk, FrameOk, LuaWaits, FrameWaits, FramesOk, CoroutineOk, standing, ChainOk, registers_in, registers_of, CellOk, Solid, Top, RunsOrWaits, TopIs}
@@ -82,10 +82,7 @@ written_frame l r v = record l { own = record l.own { registers = write r v l.ow
 
 pub lua_is : (f : Frame) (l : LuaFrame) → lua_frame f ≡ Some l → f ≡ lua l
 lua_is (lua g) l e = let k : g ≡ l = cc in ap lua k
-lua_is pcall l e = absurd (cc)
-lua_is (xpcall v) l e = absurd (cc)
-lua_is handler l e = absurd (cc)
-lua_is (closing v vs) l e = absurd (cc)
+lua_is _ l e = absurd (cc)
 
 written_size : (l : LuaFrame) (r : ℕ) (v : Value) → r < length l.own.registers → length (write r v l.own.registers) ≡ length l.own.registers
 written_size l r v h = let a = length_write r v l.own.registers in omega arith

@@ -4,7 +4,7 @@ use Rattle.std.specs.Prelude.{option_map}
 use Rattle.tree_core.specs.Tree.{Body}
 use Rattle.tree_activation.specs.Work.{Celling, State}
 use Rattle.tree_activation.specs.Activation.{start}
-use Rattle.lua_meaning.specs.World.{running, yielded, returned, failed_with, spent, broken, Now, talks, gives_back, raises_error, unwinds, calls_primitive, ends}
+use Rattle.lua_meaning.specs.World.{running, yielded, returned, failed_with, spent, broken, Now, ends}
 use Rattle.lua_meaning.specs.Step.{has_ended, tick, ticks}
 use Rattle.lua_meaning.specs.Meaning.{Script, Meaning, IsMeaning, behind, report, at_end, suspends, begun, handed_line, run_from}
 use Rattle.load_rows.specs.Loading.{Builds}
@@ -129,11 +129,7 @@ module _ (celling : Celling) (builds : Builds Body) where
   at_end_gives (ends (failed_with error)) V goes m e given = (_, refl)
   at_end_gives (ends spent) V goes m e given = (_, refl)
   at_end_gives (ends broken) V goes m e given = (_, refl)
-  at_end_gives talks V goes m e given = absurd (cc)
-  at_end_gives (gives_back vs) V goes m e given = absurd (cc)
-  at_end_gives (raises_error error) V goes m e given = absurd (cc)
-  at_end_gives (unwinds error) V goes m e given = absurd (cc)
-  at_end_gives (calls_primitive n vs) V goes m e given = absurd (cc)
+  at_end_gives _ V goes m e given = absurd (cc)
 
   turn_gives : (n z : ℕ) (W : Run) (goes : Run → Option (Meaning Body State)) (m : Meaning Body State) → has_ended (ticks (trees celling) (primitives builds) n W).now ≡ true → n ≤ z
       → goes (ticks (trees celling) (primitives builds) n W) ≡ Some m

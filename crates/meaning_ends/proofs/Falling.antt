@@ -11,8 +11,8 @@ use Rattle.tree_core.specs.declared.name.Place.TheVariants.{Local as LocalPlace}
 use Rattle.tree_core.specs.declared.operator.UnOp.{UnOp}
 use Rattle.tree_core.specs.declared.operator.UnOp.TheVariants.{Neg, BitNot, Not, Len}
 use Rattle.tree_core.specs.declared.operator.BinOp.{BinOp}
-use Rattle.tree_core.specs.declared.operator.BinOp.TheVariants.{Add, Sub, Mul, Mod, Idiv, Band, Bor, Bxor, Shl, Shr, Concat, Eq, Ne, Lt, Le, Gt, Ge}
-use Rattle.tree_core.specs.Tree.{Body, BodyOf, Exp, Nil, True, False, Int, Str, Vararg, Function, Var, Index, Call, Method, Unary, Binary, And, Or, Paren, Table, Fields, EndFields, MoreFields, Item, Keyed}
+use Rattle.tree_core.specs.declared.operator.BinOp.TheVariants.{Add, Sub, Mul, Mod, Idiv, Band, Bor, Bxor, Shl, Shr}
+use Rattle.tree_core.specs.Tree.{Body, BodyOf, Exp, Function, Var, Table, Fields, EndFields, MoreFields, Item, Keyed}
 use Rattle.tree_activation.specs.Work.{Control, leave_scope, Celling, when_declared, when_captured, Work, Pending, Activation, State}
 use Rattle.tree_activation.specs.Asking.{told, heard, cut, with_pending, marked, last_pending, leave_by, leaves_scope, marks_local, captures_one, captures, declared, numbers, captured_locals}
 use Rattle.tree_activation.specs.Expressions.{reads_variable, evaluates, by_integers, integer_in, arithmetic_of, binary, unary, gives_integer, makes_with, constructs, stores_item}
@@ -63,23 +63,10 @@ captured_count (u ∷ ups) = by u.in_stack (captured_count ups) where
   by false h = omega (arith, h)
 
 pub evaluates_falls : (e : Exp) (a : Activation) (k : List Work) → Below (exp_size e + works_size k + 3 * length a.pending) (evaluates e a k)
-evaluates_falls (Nil line) a k = omega arith
-evaluates_falls (True line) a k = omega arith
-evaluates_falls (False line) a k = omega arith
-evaluates_falls (Int line n) a k = omega arith
-evaluates_falls (Str line bytes) a k = omega arith
-evaluates_falls (Vararg line) a k = omega arith
 evaluates_falls (Function line (BodyOf params vararg inner ups body_line)) a k = let h = captured_count ups in omega (arith, h)
 evaluates_falls (Var line name) a k = reads_falls line name.text name.place a k
-evaluates_falls (Index line o key) a k = omega arith
-evaluates_falls (Call line f es) a k = omega arith
-evaluates_falls (Method line o name es) a k = omega arith
-evaluates_falls (Unary line op b) a k = omega arith
-evaluates_falls (Binary line op b c) a k = omega arith
-evaluates_falls (And line b c) a k = omega arith
-evaluates_falls (Or line b c) a k = omega arith
-evaluates_falls (Paren line b) a k = omega arith
 evaluates_falls (Table line fs) a k = λ x counts. omega arith
+evaluates_falls _ a k = omega arith
 
 pub gives_integer_falls : (o : Option ℤ) (event : Event) (line : ℕ) (a : Activation) (k : List Work) → Below (4 + works_size k + 3 * length a.pending) (gives_integer o event line a k)
 gives_integer_falls None event line a k = omega arith
@@ -105,13 +92,7 @@ binary_falls Bor line v w a k = arithmetic_falls of_bor line v w a k
 binary_falls Bxor line v w a k = arithmetic_falls of_bxor line v w a k
 binary_falls Shl line v w a k = arithmetic_falls of_shl line v w a k
 binary_falls Shr line v w a k = arithmetic_falls of_shr line v w a k
-binary_falls Concat line v w a k = λ x counts. answer_falls _ x _ a k _ (omega arith) (λ vs. omega arith)
-binary_falls Eq line v w a k = λ x counts. answer_falls _ x _ a k _ (omega arith) (λ vs. omega arith)
-binary_falls Ne line v w a k = λ x counts. answer_falls _ x _ a k _ (omega arith) (λ vs. omega arith)
-binary_falls Lt line v w a k = λ x counts. answer_falls _ x _ a k _ (omega arith) (λ vs. omega arith)
-binary_falls Le line v w a k = λ x counts. answer_falls _ x _ a k _ (omega arith) (λ vs. omega arith)
-binary_falls Gt line v w a k = λ x counts. answer_falls _ x _ a k _ (omega arith) (λ vs. omega arith)
-binary_falls Ge line v w a k = λ x counts. answer_falls _ x _ a k _ (omega arith) (λ vs. omega arith)
+binary_falls _ line v w a k = λ x counts. answer_falls _ x _ a k _ (omega arith) (λ vs. omega arith)
 
 pub unary_falls : (op : UnOp) (line : ℕ) (v : Value) (a : Activation) (k : List Work) → Below (4 + works_size k + 3 * length a.pending) (unary op line v a k)
 unary_falls Not line v a k = omega arith

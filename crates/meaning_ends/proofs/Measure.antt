@@ -1,7 +1,7 @@
 -- How much is left to do at most before a unit of fuel is paid: a measure of trees, of work and of states that falls at each step and
 -- across each ask. A step at fault has 3 at most still to do, so what hears of a fault measures more, and so does each local to be closed.
 use Rattle.std.proofs.Common.{ℕ, ◌+◌, ◌*◌, List, [], ◌∷◌, length, Option, Some, None}
-use Rattle.tree_core.specs.Tree.{Block, Falls, Returns, Body, BodyOf, Stats, EndStats, MoreStats, Stat, Empty, Local, LocalFunction, Assign, CallStat, Do, While, Repeat, If, IfElse, NumFor, NumForStep, GenFor, Label, Goto, Break, Arms, EndArms, MoreArms, Exp, Nil, True, False, Int, Str, Vararg, Function, Var, Index, Call, Method, Unary, Binary, And, Or, Paren, Table, Exps, EndExps, MoreExps, Fields, EndFields, MoreFields, Item, Keyed}
+use Rattle.tree_core.specs.Tree.{Block, Falls, Returns, Body, BodyOf, Stats, EndStats, MoreStats, Stat, Empty, Local, LocalFunction, Assign, CallStat, Do, While, Repeat, If, IfElse, NumFor, NumForStep, GenFor, Label, Goto, Break, Arms, EndArms, MoreArms, Exp, Function, Var, Index, Call, Method, Unary, Binary, And, Or, Paren, Table, Exps, EndExps, MoreExps, Fields, EndFields, MoreFields, Item, Keyed}
 use Rattle.tree_activation.specs.Work.{End, falls_off, returns_list, until, Point, Purpose, for_call, for_return, for_declaration, for_assignment, for_counting, for_iterating, Control, evaluate, give, collect, construct, aim, store, choose, run, complete, decide, count_round, test_round, enter_round, capture, make, mark, pay, leave_scope, raise, finish, over, Work, key_of, object_of, field_of, operand_of, right_of, left_of, and_right, or_right, first_only, callee_of, method_of, listed, item_of, keyed_value, keyed_store, aimed_key, aimed_field, function_to, dropped, if_test, while_test, until_test, in_block, looping, repeating, counting, iterating, end_of_body, State, at}
 
 abbrev pub upvalue_count : Body → ℕ
@@ -9,12 +9,6 @@ upvalue_count (BodyOf params vararg inner ups line) = length ups
 
 abbrev mutual
   pub exp_size : Exp → ℕ
-  exp_size (Nil line) = 2
-  exp_size (True line) = 2
-  exp_size (False line) = 2
-  exp_size (Int line n) = 2
-  exp_size (Str line bytes) = 2
-  exp_size (Vararg line) = 2
   exp_size (Function line (BodyOf params vararg inner ups body_line)) = length ups + 4
   exp_size (Var line name) = 5
   exp_size (Index line o key) = exp_size o + exp_size key + 4
@@ -26,6 +20,7 @@ abbrev mutual
   exp_size (Or line a b) = exp_size a + exp_size b + 2
   exp_size (Paren line a) = exp_size a + 2
   exp_size (Table line fs) = fields_size fs + 1
+  exp_size _ = 2
 
   pub exps_size : Exps → ℕ
   exps_size EndExps = 0

@@ -360,10 +360,7 @@ module _ (celling : Celling) where
       either_after b (fresh_count W.coroutines) (nat_lt greatest_resumes (length W.chain)) _ _ (settles h refl (m, p)) (begun_after b m co W body vs W.chain h p p.chained e)
   resumes_after b m x co W (suspended frames) vs h p e fit =
       either_after b (fresh_count W.coroutines) (nat_lt greatest_resumes (length W.chain)) _ _ (settles h refl (m, p)) (gone_after b _ m x co W frames vs W.chain h p fit)
-  resumes_after b m x co W running vs h p e fit = settles h refl (m, p)
-  resumes_after b m x co W (normal frames) vs h p e fit = settles h refl (m, p)
-  resumes_after b m x co W dead vs h p e fit = settles h refl (m, p)
-  resumes_after b m x co W (failed error pending) vs h p e fit = settles h refl (m, p)
+  resumes_after b m x co W _ vs h p e fit = settles h refl (m, p)
 
   closes_in_after : (b c m co : ℕ) (W : Run) (e : Option Value) (vs : List Value) → W.fuel ≤ b → Fits W.chain W.frames W.coroutines m → After b c (closes_in system W co e vs)
   closes_in_after b c m co W e vs h p =
@@ -463,8 +460,4 @@ module _ (celling : Celling) where
   pub call_after : (builds : Builds Body) (b m : ℕ) (now : Now) (W : Run) → W.fuel ≤ b → Fits W.chain W.frames W.coroutines m → is_call now ≡ true
       → After b (fresh_count W.coroutines) (tick_by system (primitives builds) now W)
   call_after builds b m (calls_primitive k vs) W h p called = called_after builds b m (primitive_at k) W vs h p
-  call_after builds b m talks W h p called = absurd (cc)
-  call_after builds b m (gives_back vs) W h p called = absurd (cc)
-  call_after builds b m (raises_error e) W h p called = absurd (cc)
-  call_after builds b m (unwinds e) W h p called = absurd (cc)
-  call_after builds b m (ends ending) W h p called = absurd (cc)
+  call_after builds b m _ W h p called = absurd (cc)

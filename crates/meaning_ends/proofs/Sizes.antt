@@ -5,7 +5,7 @@ use Rattle.int_core.specs.Value.{Value}
 use Rattle.int_core.specs.Ask.{IsLeft, Answer}
 use Rattle.tree_core.specs.Tree.{Body}
 use Rattle.tree_activation.specs.Work.{State}
-use Rattle.lua_meaning.specs.World.{Frame, talking, waiting, raising, protected, handled_by, handling, closing, Coroutine, fresh, suspended, running, normal, dead, failed, Now, talks, gives_back, raises_error, unwinds, calls_primitive, ends, World}
+use Rattle.lua_meaning.specs.World.{Frame, talking, waiting, raising, protected, handled_by, handling, closing, Coroutine, fresh, running, normal, Now, talks, gives_back, raises_error, unwinds, calls_primitive, ends, World}
 use Rattle.lua_meaning.specs.Calls.{frames_in}
 use Rattle.meaning_ends.proofs.Measure.{measure}
 
@@ -124,11 +124,7 @@ fresh_count (c ∷ cs) = fresh_one c + fresh_count cs
 
 fresh_is : (c : Coroutine State) (body : Value) → Some c ≡ Some (fresh body) → fresh_one c ≡ 1
 fresh_is (fresh other) body e = refl
-fresh_is (suspended frames) body e = absurd (cc)
-fresh_is running body e = absurd (cc)
-fresh_is (normal frames) body e = absurd (cc)
-fresh_is dead body e = absurd (cc)
-fresh_is (failed error pending) body e = absurd (cc)
+fresh_is _ body e = absurd (cc)
 
 fresh_set : (cs : List (Coroutine State)) (i : ℕ) (c : Coroutine State) → fresh_one c ≡ 0 → fresh_count (slice_set cs i c) ≤ fresh_count cs
 fresh_set [] i c e = omega arith

@@ -9,7 +9,7 @@ use Rattle.tree_core.specs.declared.name.Name.{Name}
 use Rattle.tree_core.specs.declared.name.Declared.{Declared}
 use Rattle.tree_core.specs.declared.name.Place.{Place}
 use Rattle.tree_core.specs.declared.name.Place.TheVariants.{Unset, Upvalue, GlobalIn, GlobalOf, Local as LocalPlace}
-use Rattle.tree_core.specs.Tree.{Block, Falls, Returns, Body, BodyOf, Stats, EndStats, MoreStats, Stat, Empty, Local, LocalFunction, Assign, CallStat, Do, While, Repeat, If, IfElse, NumFor, NumForStep, GenFor, Label, Goto, Break, Arms, EndArms, MoreArms, Exp, Var, Index, Call, Method, Exps, EndExps, MoreExps}
+use Rattle.tree_core.specs.Tree.{Block, Falls, Returns, Body, BodyOf, Stats, EndStats, MoreStats, Stat, Local, LocalFunction, Do, Repeat, Label, Goto, Break, Arms, EndArms, MoreArms, Exp, Var, Index, Call, Method, Exps, EndExps, MoreExps}
 use Rattle.tree_activation.specs.Work.{End, falls_off, returns_list, until, Passed, Point, Target, to_local, to_upvalue, to_field, Purpose, for_call, for_return, for_declaration, for_assignment, for_counting, for_iterating, Control, evaluate, give, collect, construct, aim, store, choose, run, complete, decide, count_round, test_round, enter_round, capture, make, mark, pay, leave_scope, raise, finish, over, Work, key_of, object_of, field_of, operand_of, right_of, left_of, and_right, or_right, first_only, callee_of, method_of, listed, item_of, keyed_value, keyed_store, aimed_key, aimed_field, function_to, dropped, if_test, while_test, until_test, in_block, looping, repeating, counting, iterating, end_of_body, Activation, State, at}
 use Rattle.tree_activation.specs.Asking.{first, told, heard, cut, raises_fault, captured_locals, cell_names, numbers}
 use Rattle.tree_terms.specs.Bodies.{upvalues_of}
@@ -184,23 +184,13 @@ breaks_falls line a (w ∷ k) = still_falls (3 + works_size k + 3 * length a.pen
 -- statements
 
 executes_falls : (s : Stat) (a : Activation) (k : List Work) → Below (stat_size s + works_size k + 3 * length a.pending) (executes s a k)
-executes_falls (Empty line) a k = omega arith
-executes_falls (Local line names es) a k = omega arith
 executes_falls (LocalFunction line name (BodyOf params vararg inner ups body_line)) a k =
     let h = declares_function_falls (BodyOf params vararg inner ups body_line) a k in omega (arith, h)
-executes_falls (Assign line ts es) a k = omega arith
-executes_falls (CallStat line e) a k = omega arith
 executes_falls (Do line b) a k = begins_falls b a k
-executes_falls (While line test b) a k = omega arith
 executes_falls (Repeat line b test) a k = let h = repeat_size b test (length a.locals) in omega (arith, h)
-executes_falls (If line some) a k = omega arith
-executes_falls (IfElse line some b) a k = omega arith
-executes_falls (NumFor line name from limit b) a k = omega arith
-executes_falls (NumForStep line name from limit step b) a k = omega arith
-executes_falls (GenFor line names es b) a k = omega arith
-executes_falls (Label line name) a k = omega arith
 executes_falls (Goto line name) a k = goes_to_falls name.text line a k
 executes_falls (Break line) a k = breaks_falls line a k
+executes_falls _ a k = omega arith
 
 returns_falls : (line : ℕ) (es : Exps) (a : Activation) (k : List Work) → Below (exps_size es + 4 + works_size k + 3 * length a.pending) (begins_return line es a k)
 returns_falls line (MoreExps (Call call_line f es) EndExps) a k = either_falls _ (has_none a.pending) _ _ (omega arith) (omega arith)

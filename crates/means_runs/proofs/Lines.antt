@@ -6,12 +6,11 @@ use Rattle.code_core.specs.Prototype.{Prototype}
 use Rattle.list_laws.proofs.Ends.{last_is}
 use Rattle.list_laws.proofs.Items.{get_set_same}
 use Rattle.machine_core.specs.World.{Frame, in_progress, suspended, World, stack_of}
-use Rattle.machine_core.specs.Moves.{Ending, go, returned, asks, calls_primitive, raised, unwinding, spent, main_yielded, main_returned, main_failed, Row, Outcome, trapped, ends, run, go_into, TopShape, lua_top, pcall_top, xpcall_top, handler_top, closing_top, no_top, top_shape, put_coroutine, starts_in}
+use Rattle.machine_core.specs.Moves.{Ending, returned, calls_primitive, spent, main_yielded, main_returned, main_failed, Row, Outcome, trapped, ends, run, go_into, TopShape, lua_top, top_shape, put_coroutine, starts_in}
 use Rattle.machine_core.specs.FrameRows.{hand_over}
 use Rattle.machine_core.specs.MachineStep.{and_then, steps}
 use Rattle.machine_core.specs.Talk.{State}
 use Rattle.lua_meaning.specs.World as talk
-use Rattle.lua_meaning.specs.World.{gives_back}
 use Rattle.lua_meaning.specs.Step.{Primitives, has_ended, ticks}
 use Rattle.lua_meaning.specs.Meaning as meaning
 use Rattle.lua_meaning.specs.Meaning.{Meaning, run_from as means_from, at_end as means_at, suspends as means_suspended, report as talk_report}
@@ -39,20 +38,11 @@ ended_so shown spent V X h k = ap has_ended k.0
 ended_so shown main_yielded V X h k = ap has_ended k.0
 ended_so shown main_returned V X h k = ap has_ended k.0
 ended_so shown main_failed V X h k = ap has_ended k.0.ended
-ended_so shown go V X h k = absurd (cc)
-ended_so shown returned V X h k = absurd (cc)
-ended_so shown asks V X h k = absurd (cc)
-ended_so shown (calls_primitive n) V X h k = absurd (cc)
-ended_so shown raised V X h k = absurd (cc)
-ended_so shown unwinding V X h k = absurd (cc)
+ended_so shown _ V X h k = absurd (cc)
 
 handed_on : (top : TopShape) → GoesOn (ending_of top)
 handed_on lua_top = tt
-handed_on pcall_top = tt
-handed_on xpcall_top = tt
-handed_on handler_top = tt
-handed_on closing_top = tt
-handed_on (no_top b) = tt
+handed_on _ = tt
 
 -- a line is handed over
 
@@ -73,21 +63,12 @@ ended_of (ends spent V) goes x g = (spent, V, refl, refl)
 ended_of (ends main_yielded V) goes x g = (main_yielded, V, refl, refl)
 ended_of (ends main_returned V) goes x g = (main_returned, V, refl, refl)
 ended_of (ends main_failed V) goes x g = (main_failed, V, refl, refl)
-ended_of trapped goes x g = absurd (cc)
-ended_of (ends go V) goes x g = absurd (cc)
-ended_of (ends returned V) goes x g = absurd (cc)
-ended_of (ends asks V) goes x g = absurd (cc)
 ended_of (ends (calls_primitive n) V) goes x g = absurd (cc)
-ended_of (ends raised V) goes x g = absurd (cc)
-ended_of (ends unwinding V) goes x g = absurd (cc)
+ended_of _ goes x g = absurd (cc)
 
 meaning_ended : (now : talk.Now) (V : TalkWorld) (goes : TalkWorld → Option (Meaning Prototype State)) (x : Meaning Prototype State) → means_at now V goes ≡ Some x → has_ended now ≡ true
 meaning_ended (talk.ends e) V goes x g = refl
-meaning_ended talk.talks V goes x g = absurd (cc)
-meaning_ended (gives_back vs) V goes x g = absurd (cc)
-meaning_ended (talk.raises_error e) V goes x g = absurd (cc)
-meaning_ended (talk.unwinds e) V goes x g = absurd (cc)
-meaning_ended (talk.calls_primitive n vs) V goes x g = absurd (cc)
+meaning_ended _ V goes x g = absurd (cc)
 
 map_some : {A B : Type 0} (f : A → B) (o : Option A) (y : B) → option_map f o ≡ Some y → (x : A) × (o ≡ Some x)
 map_some f None y g = absurd (cc)
@@ -259,12 +240,7 @@ module _ (primitives : ℕ) (rows : ℕ → Row) (library : Primitives Prototype
         for_good count main_failed V j (talk.failed_with so.0.error) input (closes main_failed has_failed V) (meaning.meant (ticks codes_run library j T) (talk.failed_with so.0.error) meaning.has_failed) is so.0.ended (λ goes. refl) (λ goes. refl)
         (record { printed = ap (λ out. out ++ report main_failed V.moving) so.1 ∙ ap (λ mv. (ticks codes_run library j T).printed ++ report main_failed mv) so.0.moves; ends = tt })
     finish count main_yielded V j input is over so on = at_yield count V j input is so (on is so.1.1)
-    finish count go V j input is over so on = absurd (cc)
-    finish count returned V j input is over so on = absurd (cc)
-    finish count asks V j input is over so on = absurd (cc)
-    finish count (calls_primitive n) V j input is over so on = absurd (cc)
-    finish count raised V j input is over so on = absurd (cc)
-    finish count unwinding V j input is over so on = absurd (cc)
+    finish count _ V j input is over so on = absurd (cc)
 
   abbrev pub Short : List (List ℕ) → Type 0
   Short input = Each (λ (line : List ℕ). length line ≤ greatest_string) input

@@ -3,12 +3,12 @@ use Rattle.code_core.specs.Prototype.{Prototype}
 use Rattle.std.proofs.Common.{ℕ, zero, suc, ◌+◌, ◌<◌, ◌≤◌, ◌≡◌, ◌⊎◌, inl, inr, List, [], ◌++◌, length, Option, Some, None, refl, sym, ap, subst, ◌∙◌, arith, Bool, true, false}
 use Rattle.int_core.specs.Value.{Value}
 use Rattle.machine_core.specs.World.{World}
-use Rattle.machine_core.specs.Moves.{Made, Told, move, TopShape, lua_top, pcall_top, xpcall_top, handler_top, closing_top, no_top, CallShape, is_entered, is_primitive, not_paid, not_entered, Ending, go, returned, asks, calls_primitive, raised, unwinding, spent, main_yielded, main_returned, main_failed, Row, traps, stop, only, act, Outcome, trapped, ends, run}
+use Rattle.machine_core.specs.Moves.{Made, Told, move, TopShape, lua_top, CallShape, is_entered, is_primitive, not_paid, not_entered, Ending, go, returned, asks, calls_primitive, raised, unwinding, spent, main_yielded, main_returned, main_failed, Row, traps, stop, only, act, Outcome, trapped, ends, run}
 use Rattle.std.specs.Prelude.{drop}
 use Rattle.machine_core.specs.FrameRows.{asked_row, after_asked, refused_under}
 use Rattle.machine_core.specs.MachineStep.{step_by, step, steps, from_world, and_then}
 use Rattle.lua_meaning.specs.World as talk
-use Rattle.lua_meaning.specs.World.{Now, talks, gives_back, raises_error, unwinds}
+use Rattle.lua_meaning.specs.World.{Now}
 use Rattle.lua_meaning.specs.Step.{Primitives, has_ended, tick, tick_by, ticks}
 use Rattle.lua_meaning.proofs.Runs.{ended_within}
 use Rattle.code_means.specs.Runs.{codes_run}
@@ -22,16 +22,11 @@ use Rattle.means_steps.specs.Steps.{EndsSo, Leads, SameLibrary, GoesOn, forward}
 use Rattle.means_steps.proofs.All.{steps_lead}
 
 goes_not_end : (e : Ending) → GoesOn e → is_end e ≡ true → ⊥
-goes_not_end go g h = cc
-goes_not_end returned g h = cc
-goes_not_end asks g h = cc
-goes_not_end (calls_primitive n) g h = cc
-goes_not_end raised g h = cc
-goes_not_end unwinding g h = cc
 goes_not_end spent g h = g
 goes_not_end main_yielded g h = g
 goes_not_end main_returned g h = g
 goes_not_end main_failed g h = g
+goes_not_end _ g h = cc
 
 abbrev ending_in : Outcome → Option Ending
 ending_in trapped = None
@@ -53,16 +48,8 @@ NoAsks (only slot r) = NoAsks r
 NoAsks (act m k) = (n : ℕ) (told : Told m) → NoAsks (k n told)
 
 not_asks : (e : Ending) → NoAsks (stop e) → Some e ≡ Some asks → ⊥
-not_asks go k e = cc
-not_asks returned k e = cc
 not_asks asks k e = k
-not_asks (calls_primitive n) k e = cc
-not_asks raised k e = cc
-not_asks unwinding k e = cc
-not_asks spent k e = cc
-not_asks main_yielded k e = cc
-not_asks main_returned k e = cc
-not_asks main_failed k e = cc
+not_asks _ k e = cc
 
 never_asks : (r : Row) → NoAsks r → (env : List Value) (W : World) → ending_in (run r env W) ≡ Some asks → ⊥
 never_asks traps k env W e = cc
@@ -76,11 +63,7 @@ never_asks (act m t) k env W e = by (move m env W) e (λ d. never_asks (t (lengt
 
 refusals : (text : List ℕ) (top : TopShape) → NoAsks (refused_under top text)
 refusals text lua_top = λ _ _. tt
-refusals text pcall_top = λ _ _. tt
-refusals text xpcall_top = λ _ _. tt
-refusals text handler_top = λ _ _. tt
-refusals text closing_top = λ _ _. tt
-refusals text (no_top b) = λ _ _. tt
+refusals text _ = λ _ _. tt
 
 after : (s : CallShape) → NoAsks (after_asked s)
 after is_entered = tt
@@ -98,11 +81,7 @@ module _ (library : Primitives Prototype) where
 
   stays : (now : Now) (T : TalkWorld) → has_ended now ≡ true → tick_by codes_run library now T ≡ T
   stays (talk.ends e) T h = refl
-  stays talks T h = absurd (cc)
-  stays (gives_back vs) T h = absurd (cc)
-  stays (raises_error e) T h = absurd (cc)
-  stays (unwinds e) T h = absurd (cc)
-  stays (talk.calls_primitive n vs) T h = absurd (cc)
+  stays _ T h = absurd (cc)
 
   at_end_so : (n : ℕ) (T : TalkWorld) → has_ended T.now ≡ true → after_ticks n T ≡ T
   at_end_so zero T h = refl
@@ -128,15 +107,7 @@ module _ (library : Primitives Prototype) where
 
   forwarded : (ending : Ending) (n : ℕ) (T : TalkWorld) → (i : ℕ) × (after_ticks n (forward library ending T) ≡ after_ticks i T)
   forwarded asks n T = (n, refl)
-  forwarded go n T = tick_first n T
-  forwarded returned n T = tick_first n T
-  forwarded (calls_primitive m) n T = tick_first n T
-  forwarded raised n T = tick_first n T
-  forwarded unwinding n T = tick_first n T
-  forwarded spent n T = tick_first n T
-  forwarded main_yielded n T = tick_first n T
-  forwarded main_returned n T = tick_first n T
-  forwarded main_failed n T = tick_first n T
+  forwarded _ n T = tick_first n T
 
   -- one that ends within j ticks ends so from further on
   later_ends : (i j : ℕ) (T : TalkWorld) → has_ended (after_ticks j T).now ≡ true → (k : ℕ) × (k ≤ j) × (has_ended (after_ticks k (after_ticks i T)).now ≡ true)
@@ -243,27 +214,11 @@ module _ (primitives : ℕ) (rows : ℕ → Row) (library : Primitives Prototype
 
   is_asks : (e : Ending) → (e ≡ asks) ⊎ (Some e ≡ Some asks → ⊥)
   is_asks asks = inl refl
-  is_asks go = inr (λ z. cc)
-  is_asks returned = inr (λ z. cc)
-  is_asks (calls_primitive n) = inr (λ z. cc)
-  is_asks raised = inr (λ z. cc)
-  is_asks unwinding = inr (λ z. cc)
-  is_asks spent = inr (λ z. cc)
-  is_asks main_yielded = inr (λ z. cc)
-  is_asks main_returned = inr (λ z. cc)
-  is_asks main_failed = inr (λ z. cc)
+  is_asks _ = inr (λ z. cc)
 
   ticked : (ending : Ending) (T : TalkWorld) → (Some ending ≡ Some asks → ⊥) → forward library ending T ≡ tick codes_run library T
   ticked asks T n = absurd (n refl)
-  ticked go T n = refl
-  ticked returned T n = refl
-  ticked (calls_primitive m) T n = refl
-  ticked raised T n = refl
-  ticked unwinding T n = refl
-  ticked spent T n = refl
-  ticked main_yielded T n = refl
-  ticked main_returned T n = refl
-  ticked main_failed T n = refl
+  ticked _ T n = refl
 
   -- where no call is asked for: each step is a tick at least
   plainly : (bound j : ℕ) (ending : Ending) (W : World) (T : TalkWorld) → j < bound → SoundAfter primitives ending W → GoesOn ending → (Some ending ≡ Some asks → ⊥) → Stands ending W T → has_ended (after_ticks library j T).now ≡ true → Over ending W

@@ -4,7 +4,7 @@ use Rattle.std.proofs.Common.{ℕ, ◌<◌, ◌≡◌, [], ◌∷◌, ◌++◌, 
 use Rattle.int_core.specs.Value.{Value, last}
 use Rattle.list_laws.proofs.Ends.{last_is}
 use Rattle.machine_core.specs.World.{Frame, lua, pcall, xpcall, handler, closing, World}
-use Rattle.machine_core.specs.Moves.{runs_main, see_top, TopShape, lua_top, pcall_top, xpcall_top, handler_top, closing_top, no_top, top_shape, Ending, go, returned, asks, calls_primitive, raised, unwinding, spent, main_yielded, main_returned, main_failed, Row, act, ends, run}
+use Rattle.machine_core.specs.Moves.{runs_main, see_top, TopShape, lua_top, no_top, top_shape, Ending, go, returned, asks, calls_primitive, raised, unwinding, Row, act, ends, run}
 use Rattle.machine_core.specs.FrameRows.{hand_over, handed_to, unwound, raised_row}
 use Rattle.machine_core.specs.MachineStep.{step_by}
 use Rattle.lua_meaning.specs.World.{breaks}
@@ -31,36 +31,21 @@ use Rattle.means_steps.proofs.Mains.{main_returns, main_fails}
 
 not_none : (W : World) (m : Frame) → top_shape W (Some m) ≡ no_top true → ⊥
 not_none W (lua f) e = cc
-not_none W pcall e = cc
-not_none W (xpcall h) e = cc
-not_none W handler e = cc
-not_none W (closing v us) e = cc
+not_none W _ e = cc
 
 not_lua : (W : World) (o : Option Frame) → (LuaIn o → ⊥) → top_shape W o ≡ lua_top → ⊥
-not_lua W None n e = cc
 not_lua W (Some (lua f)) n e = n tt
-not_lua W (Some pcall) n e = cc
-not_lua W (Some (xpcall h)) n e = cc
-not_lua W (Some handler) n e = cc
-not_lua W (Some (closing v us)) n e = cc
+not_lua W _ n e = cc
 
 -- results that are on their way to the frame on top end a row so
 
 only_go : (top : TopShape) → Some (ending_of top) ≡ Some returned → top ≡ lua_top → ⊥
 only_go lua_top e q = cc
-only_go pcall_top e q = cc
-only_go xpcall_top e q = cc
-only_go handler_top e q = cc
-only_go closing_top e q = cc
-only_go (no_top b) e q = cc
+only_go _ e q = cc
 
 not_calling : (top : TopShape) (n : ℕ) → Some (ending_of top) ≡ Some (calls_primitive n) → ⊥
 not_calling lua_top n e = cc
-not_calling pcall_top n e = cc
-not_calling xpcall_top n e = cc
-not_calling handler_top n e = cc
-not_calling closing_top n e = cc
-not_calling (no_top b) n e = cc
+not_calling _ n e = cc
 
 module _ (primitives : ℕ) (rows : ℕ → Row) (library : Primitives Prototype) (same : SameLibrary primitives rows library) (M : World) (T : TalkWorld) (solid : Solid primitives M) where
   -- a Lua frame is on top
@@ -176,7 +161,4 @@ steps_lead primitives rows library same asks g M T a s = asked_leads rows librar
 steps_lead primitives rows library same (calls_primitive n) g M T a s = calls_one primitives rows library same M T a.sound.solid a.ready.all n a.ready.there s
 steps_lead primitives rows library same raised g M T a s = raises primitives rows library same M T a.sound.solid a.ready s
 steps_lead primitives rows library same unwinding g M T a s = leaves primitives rows library same M T a.sound.solid a.ready s
-steps_lead primitives rows library same spent g M T a s = absurd g
-steps_lead primitives rows library same main_yielded g M T a s = absurd g
-steps_lead primitives rows library same main_returned g M T a s = absurd g
-steps_lead primitives rows library same main_failed g M T a s = absurd g
+steps_lead primitives rows library same _ g M T a s = absurd g

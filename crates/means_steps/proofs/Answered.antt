@@ -10,8 +10,8 @@ use Rattle.int_core.specs.Ask.{Ask, Captured, Answer, Reply, values, faulted, le
 use Rattle.list_laws.specs.Held.{Held}
 use Rattle.list_laws.proofs.Ends.{upward}
 use Rattle.list_laws.proofs.Values.{write_more}
-use Rattle.machine_core.specs.World.{Function, Cell, Wait, running, for_call, for_iterator, for_value, for_truth, dropped, for_concat, for_close, returning, leaving, Activation, Frame, lua, Coroutine, in_progress, World, close_from}
-use Rattle.machine_core.specs.Text.{Own, read_register, read_registers, read_list, read_constant, read_varargs, see, write_register, write_registers, write_list, write_nils, end_list, cut_from, close_cells, mark_pending, see_pending, take_pending, drop_pending, keep_results, keep_pending, effect, done, Text, raise}
+use Rattle.machine_core.specs.World.{Function, Cell, Wait, running, leaving, Activation, Frame, lua, Coroutine, in_progress, World, close_from}
+use Rattle.machine_core.specs.Text.{Own, close_cells, keep_pending, effect, done, Text, raise}
 use Rattle.machine_core.specs.InstructionRows.{after, told_values}
 use Rattle.machine_core.specs.Moves.{begin_leaving, blamed, frame_place, cells_after, cells_done, raised, stop, run}
 use Rattle.machine_core.specs.FrameRows.{When, expand_by}
@@ -52,27 +52,11 @@ fixed_of a own e = record { pc = ap (λ (b : Activation). b.pc) e; varargs = ap 
 
 pub told_faulted : (w : Wait Value) (text : List ℕ) → told_values w (faulted text) ≡ []
 told_faulted running text = refl
-told_faulted for_call text = refl
-told_faulted for_iterator text = refl
-told_faulted for_value text = refl
-told_faulted for_truth text = refl
-told_faulted dropped text = refl
-told_faulted (for_concat i) text = refl
-told_faulted for_close text = refl
-told_faulted (returning i) text = refl
-told_faulted (leaving e) text = refl
+told_faulted _ text = refl
 
 pub told_left : (w : Wait Value) (v : Value) → told_values w (left v) ≡ v ∷ []
 told_left running v = refl
-told_left for_call v = refl
-told_left for_iterator v = refl
-told_left for_value v = refl
-told_left for_truth v = refl
-told_left dropped v = refl
-told_left (for_concat i) v = refl
-told_left for_close v = refl
-told_left (returning i) v = refl
-told_left (leaving e) v = refl
+told_left _ v = refl
 
 brought_size : (h : List (ℕ × ℕ)) (vs xs : List Value) → length xs ≤ length (brought h vs xs)
 brought_size [] vs xs = omega arith
@@ -135,24 +119,7 @@ module _ (fs : List Function) (vs : List Value) (gs : List (talk.Function Protot
   cells_keep (close_cells r) a own e c ws cs k =
       subst (λ xs. MiddleOf chain fs (close_from co (length below) r own.registers ws) cs gs ds xs co n g g' w own (held_below r c.held) below ts) (sym (shared_append (gone_from r c.held a.registers) c.gone vs))
       (closes_from chain fs ws cs gs ds (shared_in c.gone vs) co n g g' w own c.held below ts k r a.registers e.values)
-  cells_keep (read_register r) a own e c ws cs k = k
-  cells_keep (read_registers from count) a own e c ws cs k = k
-  cells_keep (read_list from) a own e c ws cs k = k
-  cells_keep (read_constant m) a own e c ws cs k = k
-  cells_keep read_varargs a own e c ws cs k = k
-  cells_keep (see x) a own e c ws cs k = k
-  cells_keep (write_register r x) a own e c ws cs k = k
-  cells_keep (write_registers at count slot) a own e c ws cs k = k
-  cells_keep (write_list at slot) a own e c ws cs k = k
-  cells_keep (write_nils at count) a own e c ws cs k = k
-  cells_keep end_list a own e c ws cs k = k
-  cells_keep (cut_from r) a own e c ws cs k = k
-  cells_keep (mark_pending r) a own e c ws cs k = k
-  cells_keep (see_pending r) a own e c ws cs k = k
-  cells_keep (take_pending r) a own e c ws cs k = k
-  cells_keep (drop_pending r) a own e c ws cs k = k
-  cells_keep (keep_results from count) a own e c ws cs k = k
-  cells_keep keep_pending a own e c ws cs k = k
+  cells_keep _ a own e c ws cs k = k
 
   -- some moves one after another, and then another wait; in between the frame stands where it stood
   pub done_keeps : (os : List Own) (a own : Activation) → Alike a own → (c : Captured) (ws : List Cell) (cs : List Coroutine) (u : Wait Value)

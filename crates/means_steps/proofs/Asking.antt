@@ -7,7 +7,7 @@ use Rattle.int_core.specs.Limits.{stack_overflow}
 use Rattle.int_core.specs.Operations.{callee_of, greatest_chain}
 use Rattle.machine_core.specs.World.{Frame, lua, pcall, xpcall, handler, closing, World}
 use Rattle.machine_core.specs.Text.{read}
-use Rattle.machine_core.specs.Moves.{call_value, TopShape, lua_top, pcall_top, xpcall_top, handler_top, closing_top, no_top, not_entered, called, asks, Outcome, trapped, Row, act, run}
+use Rattle.machine_core.specs.Moves.{call_value, TopShape, lua_top, not_entered, called, asks, Outcome, trapped, Row, act, run}
 use Rattle.machine_core.specs.FrameRows.{refused_under as machine_refuses, after_asked, asked_row}
 use Rattle.machine_core.specs.MachineStep.{step_by}
 use Rattle.lua_meaning.specs.Calls.{calls_value, pays_for}
@@ -28,11 +28,7 @@ use Rattle.means_steps.proofs.Hears.{refusal_heard}
 -- a refusal costs nothing
 refusal_free : (text : List ℕ) (top : TopShape) → EndsNoTurn (machine_refuses top text)
 refusal_free text lua_top = λ _ _ _. tt
-refusal_free text pcall_top = λ _ _ _. tt
-refusal_free text xpcall_top = λ _ _ _. tt
-refusal_free text handler_top = λ _ _ _. tt
-refusal_free text closing_top = λ _ _ _. tt
-refusal_free text (no_top b) = λ _ _ _. tt
+refusal_free text _ = λ _ _ _. tt
 
 abbrev pub LuaIn : Option Frame → Type 0
 LuaIn None = ⊥

@@ -4,7 +4,7 @@ use Rattle.lua_meaning.specs.Step.{Primitives}
 use Rattle.std.proofs.Common.{ℕ, zero, suc, ◌+◌, ◌≡◌, List, [], ◌∷◌, ◌++◌, length, Option, Some, None, refl, sym, ap, subst, ◌∙◌, Bool, true, false, cond}
 use Rattle.std.specs.Prelude.{slice_get, nat_le}
 use Rattle.std.proofs.lemmas.List.{length-reverse}
-use Rattle.int_core.specs.Value.{Value, known, object, nil, boolean, integer, string, primitive, a_table, a_function, a_coroutine, bind, last}
+use Rattle.int_core.specs.Value.{Value, known, object, primitive, a_function, bind, last}
 use Rattle.int_core.specs.Operations.{Callee, callee, not_callable}
 use Rattle.int_core.specs.Limits.{greatest_depth, stack_overflow}
 use Rattle.machine_core.specs.World.{Function, Frame, in_progress, World, Stack, stack_of, push}
@@ -92,13 +92,8 @@ module _ (rows : Primitives Prototype) (shown : List ℕ) (P : World) (U : TalkW
   enter_leads fuel (known (primitive n)) args =
       subst (λ r. Leads rows shown (now_in (V fuel) (talk.calls_primitive n args)) (run r (env ++ []) (record (Q fuel) { moving = args }))) (sym (calls_so n))
       (0, primitive_called n (record (Q fuel) { moving = args }) (now_in (V fuel) (talk.calls_primitive n args)) refl (told_now false (record (Q fuel) { moving = args }) (V fuel) (talk.calls_primitive n args) (paid P U false fuel args joined)))
-  enter_leads fuel (known nil) args = tt
-  enter_leads fuel (known (boolean b)) args = tt
-  enter_leads fuel (known (integer i)) args = tt
-  enter_leads fuel (known (string t)) args = tt
-  enter_leads fuel (object a_table n) args = tt
-  enter_leads fuel (object a_coroutine n) args = tt
   enter_leads fuel (object a_function n) args = by_number n args fuel (slice_get P.functions n) refl
+  enter_leads fuel _ args = tt
 
   -- W is the world from which the machine pays
   pub called_leads : ((text : List ℕ) → Leads rows shown (refused text U) (run (k (not_entered text)) (env ++ []) P)) → (W : World) (fuel : ℕ) → W.fuel ≡ fuel → U.fuel ≡ fuel → (c : Callee)

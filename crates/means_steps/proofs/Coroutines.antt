@@ -3,7 +3,7 @@ use Rattle.load_rows.specs.Loading.{Builds}
 use Rattle.code_core.specs.Prototype.{Prototype}
 use Rattle.std.proofs.Common.{ℕ, zero, suc, ◌≡◌, List, [], ◌∷◌, ◌++◌, length, Option, Some, None, refl, sym, ap, subst, ◌∙◌, Bool, true, false, cond}
 use Rattle.std.specs.Prelude.{ℤ, pos, negsuc, codes}
-use Rattle.int_core.specs.Value.{Value, known, object, nil, boolean, integer, string, primitive, a_table, a_function, a_coroutine, shape, nth}
+use Rattle.int_core.specs.Value.{Value, known, object, string, primitive, a_coroutine, shape, nth}
 use Rattle.int_core.specs.Limits.{limited}
 use Rattle.int_core.specs.Operations.{is_function}
 use Rattle.list_laws.specs.Held.{Held}
@@ -69,14 +69,9 @@ held_less (hs ∷ hss) zero f r c m = m
 held_less (hs ∷ hss) (suc i) f r c m = held_less hss i f r c m
 
 callable_same : (v : Value) → can_call (shape v) ≡ is_function v
-callable_same (known nil) = refl
-callable_same (known (boolean b)) = refl
-callable_same (known (integer n)) = refl
-callable_same (known (string s)) = refl
 callable_same (known (primitive n)) = refl
-callable_same (object a_table n) = refl
-callable_same (object a_function n) = refl
 callable_same (object a_coroutine n) = refl
+callable_same _ = refl
 
 module _ (builds : Builds Prototype) (library : Primitives Prototype) (primitives : ℕ) (M : World) (T : TalkWorld) (k : AtRest primitives false M T) where
   abbrev v : Value
@@ -143,14 +138,9 @@ module _ (builds : Builds Prototype) (library : Primitives Prototype) (primitive
   -- `error`
 
   level_same : (l : Value) → rows.level_in (shape l) ≡ level_in l
-  level_same (known nil) = refl
-  level_same (known (boolean b)) = refl
-  level_same (known (integer n)) = refl
-  level_same (known (string s)) = refl
   level_same (known (primitive n)) = refl
-  level_same (object a_table n) = refl
-  level_same (object a_function n) = refl
   level_same (object a_coroutine n) = refl
+  level_same _ = refl
 
   abbrev N : World
   N = record M { moving = [] }
@@ -162,11 +152,7 @@ module _ (builds : Builds Prototype) (library : Primitives Prototype) (primitive
 
   placed_same : (level : ℕ) (u : Value) → moves.placed N level u ≡ placed T (pos (suc level)) u
   placed_same level (known (string s)) = ap (λ w. limited (w ++ s)) (place_is level)
-  placed_same level (known nil) = refl
-  placed_same level (known (boolean b)) = refl
-  placed_same level (known (integer n)) = refl
-  placed_same level (known (primitive n)) = refl
-  placed_same level (object kind n) = refl
+  placed_same level _ = refl
 
   errs_by : (n : Option ℤ) → Leads library M.printed (error_by T v (nth M.moving 1) n) (run (errs_at 0 (shape (nth M.moving 1)) n) env N)
   errs_by None = raises_so library primitives M T k (wrong_type 2 (codes "error") (codes "number") (shape (nth M.moving 1))) env

@@ -5,7 +5,7 @@ use Rattle.code_core.specs.Prototype.{Prototype, Parts}
 use Rattle.int_core.specs.Value.{Value, bind}
 use Rattle.int_core.specs.Ask.{Ask, Answer, says}
 use Rattle.machine_core.specs.World.{World, Function}
-use Rattle.machine_core.specs.Moves.{Made, Told, Move, move, TopShape, lua_top, pcall_top, xpcall_top, handler_top, closing_top, no_top, Row, act, Outcome, trapped, ends, run, line_of}
+use Rattle.machine_core.specs.Moves.{Made, Told, Move, move, TopShape, lua_top, Row, act, Outcome, trapped, ends, run, line_of}
 use Rattle.machine_core.specs.Talk.{State, talk_step}
 use Rattle.lua_meaning.specs.World as talk
 use Rattle.lua_meaning.specs.World.{talking, talks, breaks, as_known, without_name}
@@ -20,11 +20,7 @@ use Rattle.machine_means.proofs.Handing.{ending_of}
 -- results that are handed over do not spend the budget
 pub handed_so : (shown : List ℕ) (top : TopShape) (W : World) (T : TalkWorld) → Stands (ending_of top) W T → EndsSo shown (ending_of top) W T
 handed_so shown lua_top W T s = s
-handed_so shown pcall_top W T s = s
-handed_so shown xpcall_top W T s = s
-handed_so shown handler_top W T s = s
-handed_so shown closing_top W T s = s
-handed_so shown (no_top b) W T s = s
+handed_so shown _ W T s = s
 
 module _ (known : Primitives Prototype) (shown : List ℕ) where
   -- where an activation runs, one tick further on

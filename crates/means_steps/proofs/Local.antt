@@ -7,7 +7,7 @@ use Rattle.code_core.specs.Prototype.{Prototype}
 use Rattle.code_core.specs.Check.{mark, fixed, open_from}
 use Rattle.int_core.specs.Value.{Value, is_known, integer, known, nil, nth, range, write, write_all, shape}
 use Rattle.machine_core.specs.World.{Activation}
-use Rattle.machine_core.specs.Text.{arg, Own, read_register, read_registers, read_list, read_constant, read_varargs, see, write_register, write_registers, write_list, write_nils, end_list, cut_from, close_cells, mark_pending, see_pending, take_pending, drop_pending, keep_results, keep_pending, reads, tells, effect, fits, done, blanked, nils, is_pending, is_there, list_end, list_values, last_pending, without_pending, value_if, behind}
+use Rattle.machine_core.specs.Text.{arg, Own, read_register, read_registers, read_list, read_varargs, write_register, write_registers, write_list, write_nils, end_list, cut_from, mark_pending, see_pending, take_pending, drop_pending, keep_results, keep_pending, reads, tells, effect, fits, done, blanked, nils, is_pending, is_there, list_end, list_values, last_pending, without_pending, value_if, behind}
 use Rattle.list_laws.proofs.Values.{nth_write_same, nth_write_other}
 use Rattle.means_steps.proofs.Alike.{Fixed, Alike}
 
@@ -95,64 +95,26 @@ module _ (p : Prototype) (env : List Value) (a a' : Activation) (e : Alike a a')
   fits_alike (read_register r) h = lt_less r (length a'.registers) (length a.registers) e.size h
   fits_alike (read_registers from count) h = le_less (behind from count) (length a'.registers) (length a.registers) e.size h
   fits_alike (read_list from) h = ap is_there (end_alike p a a' e.fixed) ∙ h
-  fits_alike (read_constant n) h = h
-  fits_alike read_varargs h = h
-  fits_alike (see x) h = h
   fits_alike (write_register r x) h = lt_less r (length a'.registers) (length a.registers) e.size h
   fits_alike (write_registers at count slot) h = le_less (behind at count) (length a'.registers) (length a.registers) e.size h
   fits_alike (write_list at slot) h = lt_less at (length a'.registers) (length a.registers) e.size h
   fits_alike (write_nils at count) h = le_less (at + count) (length a'.registers) (length a.registers) e.size h
-  fits_alike end_list h = h
-  fits_alike (cut_from r) h = h
-  fits_alike (close_cells r) h = h
   fits_alike (mark_pending r) h = lt_less r (length a'.registers) (length a.registers) e.size h
-  fits_alike (see_pending r) h = h
-  fits_alike (take_pending r) h = h
-  fits_alike (drop_pending r) h = h
-  fits_alike (keep_results from count) h = h
-  fits_alike keep_pending h = h
+  fits_alike _ h = h
 
   pub reads_alike : (m : Own) → reads m p env a ≡ reads m p env a'
   reads_alike (read_register r) = ap (λ v. v ∷ []) (e.values r)
   reads_alike (read_registers from count) = range_alike from count a.registers a'.registers e.values
   reads_alike (read_list from) = listed from
-  reads_alike (read_constant n) = refl
   reads_alike read_varargs = e.fixed.varargs
-  reads_alike (see x) = refl
-  reads_alike (write_register r x) = refl
-  reads_alike (write_registers at count slot) = refl
-  reads_alike (write_list at slot) = refl
-  reads_alike (write_nils at count) = refl
-  reads_alike end_list = refl
-  reads_alike (cut_from r) = refl
-  reads_alike (close_cells r) = refl
-  reads_alike (mark_pending r) = refl
   reads_alike (see_pending r) = ap (value_if a.registers) (pended r) ∙ value_alike a.registers a'.registers (last_pending r a'.pending) e.values
-  reads_alike (take_pending r) = refl
-  reads_alike (drop_pending r) = refl
-  reads_alike (keep_results from count) = refl
-  reads_alike keep_pending = refl
+  reads_alike _ = refl
 
   pub tells_alike : (m : Own) → tells m p env a ≡ tells m p env a'
   tells_alike (read_register r) = ap shape (e.values r)
-  tells_alike (read_registers from count) = refl
   tells_alike (read_list from) = ap (λ vs. is_known (integer (pos (length vs)))) (listed from)
-  tells_alike (read_constant n) = refl
-  tells_alike read_varargs = refl
-  tells_alike (see x) = refl
-  tells_alike (write_register r x) = refl
-  tells_alike (write_registers at count slot) = refl
-  tells_alike (write_list at slot) = refl
-  tells_alike (write_nils at count) = refl
-  tells_alike end_list = refl
-  tells_alike (cut_from r) = refl
-  tells_alike (close_cells r) = refl
-  tells_alike (mark_pending r) = refl
   tells_alike (see_pending r) = ap (λ o. is_known (Rattle.int_core.specs.Value.boolean (is_there o))) (pended r)
-  tells_alike (take_pending r) = refl
-  tells_alike (drop_pending r) = refl
-  tells_alike (keep_results from count) = refl
-  tells_alike keep_pending = refl
+  tells_alike _ = refl
 
   same_registers : (xs ys : List Value) → xs ≡ ys → (r : ℕ) → nth xs r ≡ nth ys r
   same_registers xs ys q r = ap (λ zs. nth zs r) q
@@ -167,12 +129,6 @@ module _ (p : Prototype) (env : List Value) (a a' : Activation) (e : Alike a a')
   kept_pending = ap (λ pd. blanked (is_pending pd) 0 p.own.stack a.registers) e.fixed.pending ∙ blanked_alike (is_pending a'.pending) 0 p.own.stack a.registers a'.registers e.values
 
   pub effect_alike : (m : Own) → Alike (effect m p env a) (effect m p env a')
-  effect_alike (read_register r) = e
-  effect_alike (read_registers from count) = e
-  effect_alike (read_list from) = e
-  effect_alike (read_constant n) = e
-  effect_alike read_varargs = e
-  effect_alike (see x) = e
   effect_alike (write_register r x) = record { fixed = record { pc = e.fixed.pc; varargs = e.fixed.varargs; pending = e.fixed.pending; opened = e.fixed.opened }; values = write_alike r (arg env x) a.registers a'.registers e.values; size = write_size r (arg env x) a.registers a'.registers e.size }
   effect_alike (write_registers at count slot) = record { fixed = record { pc = e.fixed.pc; varargs = e.fixed.varargs; pending = e.fixed.pending; opened = e.fixed.opened }; values = write_all_alike at (range slot count env) a.registers a'.registers e.values; size = write_all_size at (range slot count env) a.registers a'.registers e.size }
   effect_alike (write_list at slot) = record { fixed = record { pc = e.fixed.pc; varargs = e.fixed.varargs; pending = e.fixed.pending; opened = refl }; values = write_all_alike at (drop slot env) a.registers a'.registers e.values; size = write_all_size at (drop slot env) a.registers a'.registers e.size }
@@ -181,9 +137,7 @@ module _ (p : Prototype) (env : List Value) (a a' : Activation) (e : Alike a a')
   effect_alike (cut_from r) =
       let q = blanked_alike (λ i. nat_lt i r) 0 p.own.stack a.registers a'.registers e.values in
       record { fixed = record { pc = e.fixed.pc; varargs = e.fixed.varargs; pending = e.fixed.pending; opened = refl }; values = same_registers _ _ q; size = same_size _ _ q }
-  effect_alike (close_cells r) = e
   effect_alike (mark_pending r) = record { fixed = record { pc = e.fixed.pc; varargs = e.fixed.varargs; pending = ap (λ pd. pd ++ r ∷ []) e.fixed.pending; opened = e.fixed.opened }; values = e.values; size = e.size }
-  effect_alike (see_pending r) = e
   effect_alike (take_pending r) = record {
     fixed = record { pc = e.fixed.pc; varargs = e.fixed.varargs; pending = ap (without_pending r) e.fixed.pending; opened = e.fixed.opened };
     values = e.values;
@@ -193,6 +147,7 @@ module _ (p : Prototype) (env : List Value) (a a' : Activation) (e : Alike a a')
   effect_alike (keep_results from count) =
       record { fixed = record { pc = e.fixed.pc; varargs = e.fixed.varargs; pending = e.fixed.pending; opened = refl }; values = same_registers _ _ (kept from count); size = same_size _ _ (kept from count) }
   effect_alike keep_pending = record { fixed = record { pc = e.fixed.pc; varargs = e.fixed.varargs; pending = e.fixed.pending; opened = refl }; values = same_registers _ _ kept_pending; size = same_size _ _ kept_pending }
+  effect_alike _ = e
 
 pub done_alike : (ms : List Own) (p : Prototype) (env : List Value) (a a' : Activation) → Alike a a' → Alike (done ms p env a) (done ms p env a')
 done_alike [] p env a a' e = e
@@ -200,24 +155,7 @@ done_alike (m ∷ ms) p env a a' e = done_alike ms p env (effect m p env a) (eff
 
 pub effect_pc : (m : Own) (p : Prototype) (env : List Value) (a : Activation) → (effect m p env a).pc ≡ a.pc
 effect_pc (read_register r) p env a = refl
-effect_pc (read_registers from count) p env a = refl
-effect_pc (read_list from) p env a = refl
-effect_pc (read_constant n) p env a = refl
-effect_pc read_varargs p env a = refl
-effect_pc (see x) p env a = refl
-effect_pc (write_register r x) p env a = refl
-effect_pc (write_registers at count slot) p env a = refl
-effect_pc (write_list at slot) p env a = refl
-effect_pc (write_nils at count) p env a = refl
-effect_pc end_list p env a = refl
-effect_pc (cut_from r) p env a = refl
-effect_pc (close_cells r) p env a = refl
-effect_pc (mark_pending r) p env a = refl
-effect_pc (see_pending r) p env a = refl
-effect_pc (take_pending r) p env a = refl
-effect_pc (drop_pending r) p env a = refl
-effect_pc (keep_results from count) p env a = refl
-effect_pc keep_pending p env a = refl
+effect_pc _ p env a = refl
 
 pub done_pc : (ms : List Own) (p : Prototype) (env : List Value) (a : Activation) → (done ms p env a).pc ≡ a.pc
 done_pc [] p env a = refl

@@ -4,7 +4,7 @@ use Rattle.code_core.specs.Prototype.{Prototype}
 use Rattle.std.proofs.Common.{ℕ, zero, suc, ◌<◌, ◌≡◌, List, [], ◌∷◌, ◌++◌, length, Option, Some, None, refl, sym, ap, subst, ◌∙◌, arith, Bool, true, false}
 use Rattle.std.specs.Prelude.{slice_get, option_map, drop, codes}
 use Rattle.int_core.specs.Heap.{Heap}
-use Rattle.int_core.specs.Value.{Value, known, object, nil, boolean, integer, string, primitive, a_table, a_function, a_coroutine, shape, nth, bind}
+use Rattle.int_core.specs.Value.{Value, known, object, boolean, string, primitive, a_table, a_function, a_coroutine, shape, nth, bind}
 use Rattle.library_rows.specs.Look.{Look, Done, looked}
 use Rattle.library_rows.specs.Look.{done as came, refused as was_refused, raised as was_raised}
 use Rattle.list_laws.specs.Held.{Held}
@@ -128,12 +128,8 @@ look_leads l p is builds library primitives M T k =
 -- printing
 
 same_bytes : (v : Value) → bytes_in v ≡ bytes_of v
-same_bytes (known (string s)) = refl
-same_bytes (known nil) = refl
-same_bytes (known (boolean b)) = refl
-same_bytes (known (integer n)) = refl
 same_bytes (known (primitive n)) = refl
-same_bytes (object kind n) = refl
+same_bytes _ = refl
 
 pub print_leads : (builds : Builds Prototype) → PrimitiveJoined builds print_row prelude_out
 unfolding add_printed

@@ -3,7 +3,7 @@ use Rattle.std.proofs.Common.{◌≡◌, ℕ, zero, suc, ◌+◌, ◌*◌, ◌<�
 use Rattle.std.specs.Prelude.{ℤ, pos, negsuc, filter, slice_get, codes}
 use Rattle.int_core.specs.Value.{Value, nil, integer, a_table, a_function, a_coroutine, Shape, is_known, is_object, holds, same_truth, same_plain, same_integer}
 use Rattle.code_core.specs.declared.opcode.Opcode.{Opcode}
-use Rattle.code_core.specs.declared.opcode.Opcode.TheVariants.{Move, LoadI, LoadF, LoadK, LoadKx, LoadFalse, LFalseSkip, LoadTrue, LoadNil, GetUpval, SetUpval, GetTabUp, GetTable, GetI, GetField, SetTabUp, SetTable, SetI, SetField, NewTable, OpSelf, AddI, AddK, SubK, MulK, ModK, PowK, DivK, IDivK, BAndK, BOrK, BXorK, ShrI, ShlI, Add, Sub, Mul, Mod, Pow, Div, IDiv, BAnd, BOr, BXor, Shl, Shr, MmBin, MmBinI, MmBinK, Unm, BNot, Not, Len, Concat, Close, Tbc, Jmp, Eq, Lt, Le, EqK, EqI, LtI, LeI, GtI, GeI, Test, TestSet, Call, TailCall, Return, Return0, Return1, ForLoop, ForPrep, TForPrep, TForCall, TForLoop, SetList, Closure, VarArg, VarArgPrep, ExtraArg}
+use Rattle.code_core.specs.declared.opcode.Opcode.TheVariants.{Move, LoadF, LoadK, LoadKx, GetUpval, SetUpval, GetTabUp, GetTable, GetI, GetField, SetTabUp, SetTable, SetI, SetField, NewTable, OpSelf, AddI, AddK, SubK, MulK, ModK, PowK, DivK, IDivK, BAndK, BOrK, BXorK, ShrI, ShlI, Add, Sub, Mul, Mod, Pow, Div, IDiv, BAnd, BOr, BXor, Shl, Shr, MmBin, MmBinI, MmBinK, Unm, BNot, Not, Len, Concat, Close, Tbc, Jmp, Eq, Lt, Le, EqK, EqI, LtI, LeI, GtI, GeI, TestSet, Call, TailCall, Return, Return0, Return1, ForLoop, ForPrep, TForPrep, TForCall, TForLoop, SetList, Closure, VarArg, VarArgPrep, ExtraArg}
 use Rattle.code_core.specs.declared.instruction.Instruction.{Instruction}
 use Rattle.code_core.specs.declared.proto.UpDesc.{UpDesc}
 use Rattle.code_core.specs.declared.proto.LocVar.{LocVar}
@@ -161,13 +161,8 @@ loop_good p pc w len (is_object kind) v = λ m s n l. refl
 
 row_good : (p : Prototype) (pc : ℕ) (op : Opcode) (w : Instruction) → ((wait : Wait Arg) → rest wait p pc op w ≡ rest_at wait p pc) → (len : ℕ) → Good p pc running len (row_of p pc op w)
 row_good p pc Move w E len = λ _ _ _ _ _ _. refl
-row_good p pc LoadI w E len = λ _ _ _. refl
 row_good p pc LoadK w E len = λ _ _ _ _ _ _. refl
 row_good p pc LoadKx w E len = extra_good p pc LoadKx w E len _ (λ ax _ _ _ _ _ _. refl) (extra_at p pc)
-row_good p pc LoadFalse w E len = λ _ _ _. refl
-row_good p pc LFalseSkip w E len = λ _ _ _. refl
-row_good p pc LoadTrue w E len = λ _ _ _. refl
-row_good p pc LoadNil w E len = λ _ _ _. refl
 row_good p pc GetUpval w E len = λ _ _ _ _. refl
 row_good p pc SetUpval w E len = λ _ _ _ _. refl
 row_good p pc GetTabUp w E len = λ _ _ _ _. (tt, tt, E for_value, λ _ _ _ _. refl)
@@ -221,7 +216,6 @@ row_good p pc LtI w E len = λ _ _ _. (tt, tt, E for_truth, λ _ _ _ _. refl)
 row_good p pc LeI w E len = λ _ _ _. (tt, tt, E for_truth, λ _ _ _ _. refl)
 row_good p pc GtI w E len = λ _ _ _. (tt, tt, E for_truth, λ _ _ _ _. refl)
 row_good p pc GeI w E len = λ _ _ _. (tt, tt, E for_truth, λ _ _ _ _. refl)
-row_good p pc Test w E len = λ _ _ _. refl
 row_good p pc TestSet w E len = λ s m _. by_cond p pc TestSet w E (len + m) (same_truth (holds s) (k_of w)) _ _ (λ _ _ _. refl) refl
 row_good p pc Call w E len = λ _ m _. read_good p pc Call w E (len + m) (a_of w + 1) (b_of w) _ (λ _ _. tt)
 row_good p pc TailCall w E len = λ _ m _. read_good p pc TailCall w E (len + m) (a_of w + 1) (b_of w) _ (λ _ _. tt)
@@ -243,6 +237,7 @@ row_good p pc DivK w E len = tt
 row_good p pc Pow w E len = tt
 row_good p pc Div w E len = tt
 row_good p pc ExtraArg w E len = tt
+row_good p pc _ w E len = λ _ _ _. refl
 
 -- what stands at a place
 

@@ -123,16 +123,8 @@ running_steps primitives rows known M T solid settled k =
 
 -- a frame hears what it waited for
 pub knows_told : (w : Wait Value) (vs : List Value) → Knows w → 0 < length (told_values w (values vs))
-knows_told running vs k = absurd k
-knows_told for_call vs k = absurd k
-knows_told for_iterator vs k = absurd k
-knows_told for_value vs k = absurd k
-knows_told for_truth vs k = absurd k
-knows_told dropped vs k = absurd k
-knows_told (for_concat n) vs k = absurd k
-knows_told for_close vs k = absurd k
-knows_told (returning n) vs k = absurd k
 knows_told (leaving e) vs k = omega arith
+knows_told _ vs k = absurd k
 
 -- what a frame hears that waits
 pub wakes : (W : World) (s : Stack) (fr : LuaFrame) (p : Prototype) → IsWaiting fr.wait → lua_step W s fr p fr.wait ≡ run (goes_on_by (after fr.wait p fr.own.pc (values W.moving))) (told_values fr.wait (values W.moving)) (woken W s fr)

@@ -1,10 +1,10 @@
 -- What is asked of a text, so that both readings of it lead to the same: it names what it has read, waits where it calls, and goes on as its
 -- wait says.
-use Rattle.std.proofs.Common.{ℕ, zero, suc, ◌+◌, ◌<◌, ◌≤◌, ◌≡◌, Bool, true, false, cond, List, [], ◌∷◌, ◌++◌, Option, Some, None, length, refl, sym, subst, ap, ◌∙◌, arith}
+use Rattle.std.proofs.Common.{ℕ, suc, ◌+◌, ◌<◌, ◌≤◌, ◌≡◌, Bool, true, false, cond, List, [], ◌∷◌, ◌++◌, Option, Some, None, length, refl, sym, subst, ap, ◌∙◌, arith}
 use Rattle.std.specs.Prelude.{codes, nat_le}
 use Rattle.code_core.specs.Prototype.{Prototype}
 use Rattle.int_core.specs.Value.{string, Value, known, nth, Shape, greatest_string}
-use Rattle.machine_core.specs.World.{Cell, Wait, running, for_call, for_iterator, for_value, for_truth, dropped, for_concat, for_close, returning, leaving, Activation}
+use Rattle.machine_core.specs.World.{Cell, Wait, running, for_concat, leaving, Activation}
 use Rattle.machine_core.specs.Text.{Arg, read, written, arg, Own, read_register, read_registers, read_list, read_constant, read_varargs, see, write_register, write_registers, write_list, write_nils, end_list, cut_from, close_cells, mark_pending, see_pending, take_pending, drop_pending, keep_results, keep_pending, reads, effect, done, Text, go_by, own, open_cell, quick, operate, call, tail_call, close, closable, raise, leave, trap}
 use Rattle.machine_core.specs.InstructionRows.{rest_at, told_values}
 use Rattle.int_core.specs.Ask.{values}
@@ -81,29 +81,11 @@ arg_front env vs (read n) l = nth_old env vs n l
 arg_front env vs (written p) l = refl
 
 pub named_front : (env vs : List Value) (wait : Wait Arg) → WaitReach (length env) wait → named (env ++ vs) wait ≡ named env wait
-named_front env vs running l = refl
-named_front env vs for_call l = refl
-named_front env vs for_iterator l = refl
-named_front env vs for_value l = refl
-named_front env vs for_truth l = refl
-named_front env vs dropped l = refl
-named_front env vs (for_concat i) l = refl
-named_front env vs for_close l = refl
-named_front env vs (returning i) l = refl
 named_front env vs (leaving x) l = ap leaving (arg_front env vs x l)
+named_front env vs _ l = refl
 
 pub effect_front : (m : Own) (p : Prototype) (env vs : List Value) (a : Activation) → OwnReach (length env) m → effect m p (env ++ vs) a ≡ effect m p env a
 effect_front (write_register r x) p env vs a l = ap (λ v. record a { registers = Rattle.int_core.specs.Value.write r v a.registers }) (arg_front env vs x l)
-effect_front (write_nils at count) p env vs a l = refl
-effect_front end_list p env vs a l = refl
-effect_front (cut_from r) p env vs a l = refl
-effect_front (close_cells r) p env vs a l = refl
-effect_front (mark_pending r) p env vs a l = refl
-effect_front (take_pending r) p env vs a l = refl
-effect_front (drop_pending r) p env vs a l = refl
-effect_front (keep_results from count) p env vs a l = refl
-effect_front keep_pending p env vs a l = refl
-effect_front (see x) p env vs a l = refl
 effect_front (read_register r) p env vs a l = absurd l
 effect_front (read_registers from count) p env vs a l = absurd l
 effect_front (read_list from) p env vs a l = absurd l
@@ -112,19 +94,9 @@ effect_front read_varargs p env vs a l = absurd l
 effect_front (write_registers at count slot) p env vs a l = absurd l
 effect_front (write_list at slot) p env vs a l = absurd l
 effect_front (see_pending r) p env vs a l = absurd l
+effect_front _ p env vs a l = refl
 
 pub reads_nothing : (m : Own) (p : Prototype) (len : ℕ) (env : List Value) (a : Activation) → OwnReach len m → reads m p env a ≡ []
-reads_nothing (write_register r x) p len env a l = refl
-reads_nothing (write_nils at count) p len env a l = refl
-reads_nothing end_list p len env a l = refl
-reads_nothing (cut_from r) p len env a l = refl
-reads_nothing (close_cells r) p len env a l = refl
-reads_nothing (mark_pending r) p len env a l = refl
-reads_nothing (take_pending r) p len env a l = refl
-reads_nothing (drop_pending r) p len env a l = refl
-reads_nothing (keep_results from count) p len env a l = refl
-reads_nothing keep_pending p len env a l = refl
-reads_nothing (see x) p len env a l = refl
 reads_nothing (read_register r) p len env a l = absurd l
 reads_nothing (read_registers from count) p len env a l = absurd l
 reads_nothing (read_list from) p len env a l = absurd l
@@ -133,6 +105,7 @@ reads_nothing read_varargs p len env a l = absurd l
 reads_nothing (write_registers at count slot) p len env a l = absurd l
 reads_nothing (write_list at slot) p len env a l = absurd l
 reads_nothing (see_pending r) p len env a l = absurd l
+reads_nothing _ p len env a l = refl
 
 pub done_front : (ms : List Own) (p : Prototype) (env vs : List Value) (a : Activation) → Reaches (length env) ms → done ms p (env ++ vs) a ≡ done ms p env a
 done_front [] p env vs a l = refl
@@ -144,75 +117,27 @@ cells_front (m ∷ ms) p co f env vs a ws l = ap (λ a'. cells_done ms p co f (e
 
 pub least_read : (m : Own) (p : Prototype) (env : List Value) (a : Activation) → least m ≤ length (reads m p env a)
 least_read (read_register r) p env a = omega arith
-least_read (write_register r x) p env a = omega arith
-least_read (write_nils at count) p env a = omega arith
-least_read end_list p env a = omega arith
-least_read (cut_from r) p env a = omega arith
-least_read (close_cells r) p env a = omega arith
-least_read (mark_pending r) p env a = omega arith
-least_read (take_pending r) p env a = omega arith
-least_read (drop_pending r) p env a = omega arith
-least_read (keep_results from count) p env a = omega arith
-least_read keep_pending p env a = omega arith
-least_read (see x) p env a = omega arith
-least_read (read_registers from count) p env a = omega arith
-least_read (read_list from) p env a = omega arith
-least_read (read_constant n) p env a = omega arith
-least_read read_varargs p env a = omega arith
-least_read (write_registers at count slot) p env a = omega arith
-least_read (write_list at slot) p env a = omega arith
-least_read (see_pending r) p env a = omega arith
+least_read _ p env a = omega arith
 
 -- waits
 
 pub named_waits : (env : List Value) (wait : Wait Arg) → IsWaiting wait → IsWaiting (named env wait)
 named_waits env running k = k
-named_waits env for_call k = tt
-named_waits env for_iterator k = tt
-named_waits env for_value k = tt
-named_waits env for_truth k = tt
-named_waits env dropped k = tt
-named_waits env (for_concat i) k = tt
-named_waits env for_close k = tt
-named_waits env (returning i) k = tt
-named_waits env (leaving x) k = tt
+named_waits env _ k = tt
 
 pub plain_waits : (operation : Operation) (wait : Wait Arg) → IsPlain operation wait → IsWaiting wait
 plain_waits operation running k = k
-plain_waits operation for_call k = tt
-plain_waits operation for_iterator k = tt
-plain_waits operation for_value k = tt
-plain_waits operation for_truth k = tt
-plain_waits operation dropped k = tt
-plain_waits operation (for_concat i) k = tt
-plain_waits operation for_close k = tt
-plain_waits operation (returning i) k = tt
 plain_waits operation (leaving x) k = absurd k
+plain_waits operation _ k = tt
 
 pub plain_reach : (operation : Operation) (len : ℕ) (wait : Wait Arg) → IsPlain operation wait → WaitReach len wait
-plain_reach operation len running k = tt
-plain_reach operation len for_call k = tt
-plain_reach operation len for_iterator k = tt
-plain_reach operation len for_value k = tt
-plain_reach operation len for_truth k = tt
-plain_reach operation len dropped k = tt
-plain_reach operation len (for_concat i) k = tt
-plain_reach operation len for_close k = tt
-plain_reach operation len (returning i) k = tt
 plain_reach operation len (leaving x) k = absurd k
+plain_reach operation len _ k = tt
 
 pub plain_told : (operation : Operation) (env vs : List Value) (wait : Wait Arg) → IsPlain operation wait → (operation ≡ concat → nth vs 0 ∷ [] ≡ vs) → told_values (named env wait) (values vs) ≡ vs
-plain_told operation env vs running k one = refl
-plain_told operation env vs for_call k one = refl
-plain_told operation env vs for_iterator k one = refl
-plain_told operation env vs for_value k one = refl
-plain_told operation env vs for_truth k one = refl
-plain_told operation env vs dropped k one = refl
-plain_told operation env vs (for_concat zero) k one = refl
 plain_told operation env vs (for_concat (suc i)) k one = one k
-plain_told operation env vs for_close k one = refl
-plain_told operation env vs (returning i) k one = refl
 plain_told operation env vs (leaving x) k one = absurd k
+plain_told operation env vs _ k one = refl
 
 -- a join that is settled gives the joined text
 pub join_gives_one : (operation : Operation) (xs : List Value) (H : Heap) → operation ≡ concat → GivesOne (does operation xs H)
@@ -239,12 +164,4 @@ join_gives_one operation xs H e = subst (λ o. GivesOne (does o xs H)) (sym e) (
 
 pub rest_named : (env : List Value) (wait : Wait Arg) (p : Prototype) (pc : ℕ) → rest_at (named env wait) p pc ≡ rest_at wait p pc
 rest_named env running p pc = refl
-rest_named env for_call p pc = refl
-rest_named env for_iterator p pc = refl
-rest_named env for_value p pc = refl
-rest_named env for_truth p pc = refl
-rest_named env dropped p pc = refl
-rest_named env (for_concat i) p pc = refl
-rest_named env for_close p pc = refl
-rest_named env (returning i) p pc = refl
-rest_named env (leaving x) p pc = refl
+rest_named env _ p pc = refl

@@ -5,7 +5,7 @@ use Rattle.std.proofs.Common.{ℕ, ◌≡◌, List, [], ◌++◌, length, Option
 use Rattle.std.specs.Prelude.{drop, cond}
 use Rattle.int_core.specs.Value.{Value, a_table, a_function, a_coroutine, Shape, is_known, is_object}
 use Rattle.machine_core.specs.World.{World}
-use Rattle.machine_core.specs.Moves.{Made, Told, move, CallShape, is_entered, is_primitive, not_paid, not_entered, TopShape, lua_top, pcall_top, xpcall_top, handler_top, closing_top, no_top, ClosingShape, one_left, all_closed, closed_with_error, ResumeShape, resumed, refused, Row, traps, stop, only, act, Ending, go, returned, asks, calls_primitive, raised, unwinding, spent, main_yielded, main_returned, main_failed, Outcome, trapped, ends, run}
+use Rattle.machine_core.specs.Moves.{Made, Told, move, CallShape, is_entered, is_primitive, not_paid, not_entered, TopShape, lua_top, pcall_top, xpcall_top, handler_top, closing_top, no_top, ClosingShape, one_left, all_closed, closed_with_error, ResumeShape, resumed, refused, Row, traps, stop, only, act, Ending, spent, main_yielded, main_returned, main_failed, Outcome, trapped, ends, run}
 use Rattle.machine_core.specs.FrameRows.{hand_over, handed, closing_by, handed_to, unwound, raised_row, raised_to, coroutine_fails}
 use Rattle.machine_core.specs.MachineStep.{after_entry, after_resume, after_closing, resumes as row_resumes, closes_coroutine as row_closes, resume_row, close_row}
 use Rattle.machine_sound.proofs.Unpaid.{Unpaid, ResumedUnpaid, Tells, tells_so}
@@ -36,16 +36,11 @@ goes_on_in (act m t) k env W = by (move m env W) refl (λ d z. goes_on_in (t (le
     by (Some d) z ih = ih d z
 
 ends_so : (shown : List ℕ) (ending : Ending) (W : World) (T : TalkWorld) → GoesOn ending → Stands ending W T → EndsSo shown ending W T
-ends_so shown go W T g s = s
-ends_so shown returned W T g s = s
-ends_so shown asks W T g s = s
-ends_so shown (calls_primitive m) W T g s = s
-ends_so shown raised W T g s = s
-ends_so shown unwinding W T g s = s
 ends_so shown spent W T g s = absurd g
 ends_so shown main_yielded W T g s = absurd g
 ends_so shown main_returned W T g s = absurd g
 ends_so shown main_failed W T g s = absurd g
+ends_so shown _ W T g s = s
 
 -- what such a row comes to at once
 pub comes_leads : (library : Primitives Prototype) (shown : List ℕ) (r : Row) (env : List Value) (W : World) (T : TalkWorld) → EndsNoTurn r → ComesTo (run r env W) T → Leads library shown T (run r env W)
@@ -56,11 +51,7 @@ comes_leads library shown r env W T k c =
 
 handed_free : (top : TopShape) → EndsNoTurn (handed top)
 handed_free lua_top = tt
-handed_free pcall_top = tt
-handed_free xpcall_top = tt
-handed_free handler_top = tt
-handed_free closing_top = tt
-handed_free (no_top b) = tt
+handed_free _ = tt
 
 pub hand_free : EndsNoTurn hand_over
 hand_free = λ _ top _. handed_free top
@@ -98,11 +89,7 @@ unwound_free (no_top false) n m = fails_free
 raised_free : (top : TopShape) (h : ℕ) → EndsNoTurn (raised_to top h)
 raised_free xpcall_top h = λ _ _ _ _ room _. either room _ _ (λ _ _ _. tt) (λ _ _ _. tt)
 raised_free (no_top false) h = fails_free
-raised_free (no_top true) h = tt
-raised_free lua_top h = tt
-raised_free pcall_top h = tt
-raised_free handler_top h = tt
-raised_free closing_top h = tt
+raised_free _ h = tt
 
 pub raised_row_free : EndsNoTurn raised_row
 raised_row_free = λ h top _. raised_free top h

@@ -13,7 +13,7 @@ use Rattle.table_core.specs.Table.{Contents}
 use Rattle.table_core.specs.Value.{lua_values}
 use Rattle.table_core.specs.declared.value.StrId.{StrId}
 use Rattle.table_core.specs.declared.value.Value.{Value as Kept}
-use Rattle.table_core.specs.declared.value.Value.TheVariants.{Nil, Bool as Boolean, Int, Str, Prim, Table, Func, Coro}
+use Rattle.table_core.specs.declared.value.Value.TheVariants.{Str}
 use Rattle.lua_heap.specs.Law.{TablesAreRead, StringsAreThere}
 use Rattle.lua_heap.specs.Reading.{text_of, text_or, value, row}
 use Rattle.lua_heap.specs.Strings.{AreApart, AreShort}
@@ -74,14 +74,8 @@ module _ (texts : List (List ℕ)) (name : List ℕ) (short : length name ≤ gr
   other-text id true e = absurd (not-text id (sym ((bytes_eq-Decides name (text_of texts id.0)).0 e)))
 
   other-key : (key : Kept) → same (known (string name)) (value texts key) ≡ false
-  other-key Nil = refl
-  other-key (Boolean b) = refl
-  other-key (Int n) = refl
   other-key (Str id) = other-text id _ refl
-  other-key (Prim n) = refl
-  other-key (Table id) = refl
-  other-key (Func id) = refl
-  other-key (Coro id) = refl
+  other-key _ = refl
 
   no-row : (rows : List (Kept × Kept)) → lookup (same (known (string name))) (map (row texts) rows) ≡ None
   no-row [] = refl

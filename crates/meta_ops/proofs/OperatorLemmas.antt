@@ -85,12 +85,7 @@ string-other _ b s is other = absurd (cc)
 pub neither-ordered : (a b : Kept) → ((n : ℤ) → a ≡ Int n → ⊥) → ((t : StrId) → a ≡ Str t → ⊥) → are_ordered a b ≡ false
 neither-ordered (Int x) b no_integer no_string = absurd (no_integer x refl)
 neither-ordered (Str x) b no_integer no_string = absurd (no_string x refl)
-neither-ordered Nil b no_integer no_string = refl
-neither-ordered (Boolean x) b no_integer no_string = refl
-neither-ordered (Prim x) b no_integer no_string = refl
-neither-ordered (Table x) b no_integer no_string = refl
-neither-ordered (Func x) b no_integer no_string = refl
-neither-ordered (Coro x) b no_integer no_string = refl
+neither-ordered _ b no_integer no_string = refl
 
 module _ (texts : List (List ℕ)) (H : Heap) (event : Event) (by_number : ℤ → ℤ → Bool) (by_bytes : List ℕ → List ℕ → Bool) where
   pub ordered-others : (a b : Kept) → are_ordered a b ≡ false
@@ -125,12 +120,7 @@ pub length-others : (texts : List (List ℕ)) (H : Heap) (v : Kept) → ((s : St
     → length_on H (value texts v) ≡ asked (handler_of H of_len (value texts v) (value texts v)) (value texts v ∷ value texts v ∷ []) (fault (of_type (codes "get length of") (value texts v)))
 length-others texts H (Str x) no_string no_table = absurd (no_string x refl)
 length-others texts H (Table x) no_string no_table = absurd (no_table x refl)
-length-others texts H Nil no_string no_table = refl
-length-others texts H (Boolean x) no_string no_table = refl
-length-others texts H (Int x) no_string no_table = refl
-length-others texts H (Prim x) no_string no_table = refl
-length-others texts H (Func x) no_string no_table = refl
-length-others texts H (Coro x) no_string no_table = refl
+length-others texts H _ no_string no_table = refl
 
 -- arithmetic
 

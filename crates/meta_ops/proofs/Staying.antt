@@ -6,7 +6,7 @@ use Rattle.machine_sound.specs.Sound.{Sizes, Each, Valid, TableOk}
 use Rattle.table_core.specs.Table.{Contents}
 use Rattle.table_core.specs.declared.value.TableId.{TableId}
 use Rattle.table_core.specs.declared.value.Value.{Value as Kept}
-use Rattle.table_core.specs.declared.value.Value.TheVariants.{Nil, Bool as Boolean, Int, Str, Prim, Table, Func, Coro}
+use Rattle.table_core.specs.declared.value.Value.TheVariants.{Str, Table}
 use Rattle.lua_heap.specs.Law.{NewStringsKeep, StringsAreThere}
 use Rattle.lua_heap.specs.Plain.{table}
 use Rattle.lua_heap.specs.Reading.{value}
@@ -15,14 +15,9 @@ use Rattle.meta_ops.specs.Heap.{heap_in, IsIn}
 use Rattle.meta_ops.proofs.Storing.{with_rows, with_tables}
 
 pub operand-there : StringsAreThere → (z : Sizes) (texts : List (List ℕ)) (tables : List Contents) (v : Kept) → z.tables ≡ length tables → Valid z (value texts v) → IsIn texts tables v
-operand-there law z texts tables Nil e h = tt
-operand-there law z texts tables (Boolean b) e h = tt
-operand-there law z texts tables (Int n) e h = tt
 operand-there law z texts tables (Str id) e h = law z texts id h
-operand-there law z texts tables (Prim n) e h = tt
 operand-there law z texts tables (Table id) e h = subst (λ n. id.0 < n) e h
-operand-there law z texts tables (Func id) e h = tt
-operand-there law z texts tables (Coro id) e h = tt
+operand-there law z texts tables _ e h = tt
 
 module _ (law : NewStringsKeep) (z : Sizes) (texts : List (List ℕ)) (text : List ℕ) where
   tables-stay : (ts : List Contents) → Each (TableOk z) (map (table texts) ts) → map (table (texts ++ text ∷ [])) ts ≡ map (table texts) ts

@@ -2,7 +2,7 @@
 use Rattle.std.proofs.Common.{◌≡◌, ℕ, zero, suc, List, [], ◌∷◌, Some, refl, ap, sym, subst, ◌∙◌}
 use Rattle.std.specs.Prelude.{map, slice_get, slice_set}
 use Rattle.int_core.specs.Value.{Value}
-use Rattle.machine_core.specs.Moves.{Ending, go, returned, asks, calls_primitive, raised, unwinding, spent, main_yielded, main_returned, main_failed, Row, ends}
+use Rattle.machine_core.specs.Moves.{Ending, spent, Row, ends}
 use Rattle.machine_core.specs.World.{World}
 use Rattle.machine_core.specs.MachineStep.{from_world}
 use Rattle.machine_sound.proofs.Lists.{get_map}
@@ -48,16 +48,8 @@ is_spent spent = Unit {0}
 is_spent _ = ⊥
 
 pub ended_from : (W V : World) (e : Ending) → (is_spent e → ⊥) → from_world W (ends e V) ≡ ends e V
-ended_from W V go n = refl
-ended_from W V returned n = refl
-ended_from W V asks n = refl
-ended_from W V (calls_primitive k) n = refl
-ended_from W V raised n = refl
-ended_from W V unwinding n = refl
 ended_from W V spent n = absurd (n tt)
-ended_from W V main_yielded n = refl
-ended_from W V main_returned n = refl
-ended_from W V main_failed n = refl
+ended_from W V _ n = refl
 
 -- a row that costs nothing
 pub steps_of : {row : Row} {env : List Value} {old new : Memory} {ending : Ending} (fuel : ℕ) → (is_spent ending → ⊥) → Leads row env old new ending → Steps row env old fuel new fuel ending

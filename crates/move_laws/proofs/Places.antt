@@ -2,7 +2,7 @@
 use Rattle.std.proofs.Common.{◌≡◌, ℕ, ◌-◌, List, length, Some, refl, ap, sym, ◌∙◌}
 use Rattle.std.specs.Prelude.{slice_get}
 use Rattle.int_core.specs.Value.{bind, last}
-use Rattle.machine_core.specs.World.{Function, LuaFrame, Frame, lua, pcall, xpcall, handler, closing, Coroutine, fresh, suspended, in_progress, normal, dead, failed, World, Stack, stack_of, Place, place_of, lua_frame, running_frames}
+use Rattle.machine_core.specs.World.{Function, LuaFrame, Frame, lua, Coroutine, in_progress, World, Stack, stack_of, Place, place_of, lua_frame, running_frames}
 use Rattle.machine_sound.proofs.Lists.{bind_some, some_is}
 
 pub record StackIs (W : World) (s : Stack) : Type 0 where
@@ -13,12 +13,8 @@ abbrev stack_at : ℕ → List Frame → Stack
 stack_at co frames = record { coroutine = co; frames = frames }
 
 running_is : (c : Coroutine) (fs : List Frame) → running_frames c ≡ Some fs → c ≡ in_progress fs
-running_is (fresh v) fs e = absurd (cc)
-running_is (suspended gs) fs e = absurd (cc)
 running_is (in_progress gs) fs e = ap in_progress (some_is {o = Some gs} refl e)
-running_is (normal gs) fs e = absurd (cc)
-running_is dead fs e = absurd (cc)
-running_is (failed v vs) fs e = absurd (cc)
+running_is _ fs e = absurd (cc)
 
 pub stack_is : (W : World) (s : Stack) → stack_of W ≡ Some s → StackIs W s
 stack_is W s e =
@@ -44,10 +40,7 @@ place_at s top f = record { stack = s; number = length s.frames - 1; top = top; 
 
 lua_is : (f : Frame) (t : LuaFrame) → lua_frame f ≡ Some t → f ≡ lua t
 lua_is (lua g) t e = ap lua (some_is {o = Some g} refl e)
-lua_is pcall t e = absurd (cc)
-lua_is (xpcall h) t e = absurd (cc)
-lua_is handler t e = absurd (cc)
-lua_is (closing v vs) t e = absurd (cc)
+lua_is _ t e = absurd (cc)
 
 pub place_is : (W : World) (at : Place) → place_of W ≡ Some at → PlaceIs W at
 place_is W at e =

@@ -13,7 +13,7 @@ use Rattle.table_core.specs.declared.value.CoroId.{CoroId}
 use Rattle.table_core.specs.declared.value.Value.{Value as Kept}
 use Rattle.lua_stack.specs.Frames.{KeptStack, frames, HasLuaTop, HasRegisters, OnTop, TopBecomes, with_pc}
 use Rattle.lua_heap.specs.declared.world.Coro.{Coro}
-use Rattle.lua_heap.specs.declared.world.Coro.TheVariants.{Fresh, Suspended, Running, Normal, Dead, Failed}
+use Rattle.lua_heap.specs.declared.world.Coro.TheVariants.{Running}
 use Rattle.lua_heap.specs.declared.world.World.{World as Memory}
 use Rattle.lua_heap.specs.Reading.{value}
 use Rattle.lua_heap.specs.Plain.{plain, coroutine}
@@ -32,12 +32,8 @@ map_last f (x ∷ []) y e = (x, refl, some_is {o = Some (f x)} refl e)
 map_last f (x ∷ z ∷ xs) y e = map_last f (z ∷ xs) y e
 
 running_kept : (texts : List (List ℕ)) (c : Coro) (fs : List Frame) → coroutine texts c ≡ in_progress fs → (s : KeptStack) × (c ≡ Running s) × (frames (value texts) s ≡ fs)
-running_kept texts (Fresh v) fs e = absurd (cc)
-running_kept texts (Suspended s) fs e = absurd (cc)
 running_kept texts (Running s) fs e = (s, refl, cc)
-running_kept texts (Normal s) fs e = absurd (cc)
-running_kept texts Dead fs e = absurd (cc)
-running_kept texts (Failed v vs) fs e = absurd (cc)
+running_kept texts _ fs e = absurd (cc)
 
 pub stack_runs : StackRuns
 stack_runs W h =

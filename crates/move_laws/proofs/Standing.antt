@@ -69,25 +69,16 @@ abbrev pc_in : Option Place → Option ℕ
 pc_in o = bind o (λ p. Some p.top.own.pc)
 
 on_top : (functions : List Function) (s : Stack) (o : Option Frame) → pc_in (place_under functions s o) ≡ top_seen functions (option_map seen_of o)
-on_top functions s None = refl
 on_top functions s (Some (lua f)) = by (slice_get functions f.function)
   where
     by : (o : Option Function) → pc_in (bind o (λ g. Some (place_in s f g))) ≡ bind o (λ _. Some f.own.pc)
     by None = refl
     by (Some g) = refl
-on_top functions s (Some pcall) = refl
-on_top functions s (Some (xpcall h)) = refl
-on_top functions s (Some handler) = refl
-on_top functions s (Some (closing e left)) = refl
+on_top functions s _ = refl
 
 in_coroutine : (functions : List Function) (co : ℕ) (o : Option Coroutine) → pc_in (place_with functions (stack_with co o)) ≡ coroutine_seen functions (option_map seen_in o)
-in_coroutine functions co None = refl
-in_coroutine functions co (Some (fresh v)) = refl
-in_coroutine functions co (Some (suspended fs)) = refl
 in_coroutine functions co (Some (in_progress fs)) = on_top functions (stack_in co fs) (last fs) ∙ ap (top_seen functions) (sym (last_of_map seen_of fs))
-in_coroutine functions co (Some (normal fs)) = refl
-in_coroutine functions co (Some dead) = refl
-in_coroutine functions co (Some (failed v vs)) = refl
+in_coroutine functions co _ = refl
 
 pc_is : (W : World) → pc_of W ≡ pc_by W.functions W.chain (map seen_in W.coroutines)
 pc_is W = by (last W.chain)
@@ -100,10 +91,7 @@ pc_is W = by (last W.chain)
 
 seen_same : (register : ℕ) (v : Value) (f : Frame) → seen_of (write_in_frame register v f) ≡ seen_of f
 seen_same register v (lua f) = refl
-seen_same register v pcall = refl
-seen_same register v (xpcall h) = refl
-seen_same register v handler = refl
-seen_same register v (closing e left) = refl
+seen_same register v _ = refl
 
 abbrev written_in : ℕ → ℕ → Value → Coroutine → List Frame → Option Frame → Coroutine
 written_in frame register v c fs o = elim (bind o (λ f. Some (slice_set fs frame (write_in_frame register v f)))) [ None ↦ c | Some gs ↦ with_frames c gs ]

@@ -8,7 +8,7 @@ use Rattle.machine_core.specs.World.{Function, Coroutine, World}
 use Rattle.machine_alike.specs.Agree.{Pairs, SameNumber}
 use Rattle.machine_alike.proofs.Tables.{kind_same}
 use Rattle.image_core.specs.Visit.{place, IsMet, greatest_count}
-use Rattle.image_core.specs.Image.{Item, Record, table_record, function_record, closed_record, open_record, fresh_record, suspended_record, dead_record, failed_record, no_record}
+use Rattle.image_core.specs.Image.{Item, Record, closed_record}
 use Rattle.image_core.specs.Records.{Part, an_object, a_cell, same_part, of_value, field_parts, parts, is_reached, parts_in_order, Naming, record_of, naming, image_by}
 use Rattle.image_core.specs.Loading.{is_kind, is_of, is_cell, rank, Target, new_number, table_made, function_made, coroutine_made, chosen, or_number, loading}
 use Rattle.image_core.proofs.Lists.{get_split, map_some, chosen_from, place_met, place_get, get_met, order_once}
@@ -18,14 +18,7 @@ use Rattle.image_load.specs.Loads.{CanLoad, IsWritten}
 
 no_both : (kind : Kind) (r : Record) → is_cell r ≡ true → is_of kind r ≡ true → ⊥
 no_both kind (closed_record i) c h = cc
-no_both kind (open_record co frame register) c h = cc
-no_both kind (table_record rows m) c h = cc
-no_both kind (function_record code cells) c h = cc
-no_both kind (fresh_record i) c h = cc
-no_both kind (suspended_record frames) c h = cc
-no_both kind dead_record c h = cc
-no_both kind (failed_record e vs) c h = cc
-no_both kind no_record c h = cc
+no_both kind _ c h = cc
 
 module _ (base : Pairs) (W V : World) (T : Target) (name : Value → Option Item) (roots : List Value) (can : CanLoad base W V T name roots) where
   abbrev os : List Part

@@ -3,8 +3,8 @@ use Rattle.std.proofs.Common.{ℕ, ◌≡◌, ◌≢◌, ◌≤◌, ◌⊎◌, �
 use Rattle.std.specs.Prelude.{slice_get}
 use Rattle.int_core.specs.Value.{nil, a_table, a_function, a_coroutine, Value, known, object, nth, bind}
 use Rattle.int_core.specs.Heap.{Table}
-use Rattle.machine_core.specs.World.{Function, Cell, closed, Wait, LuaFrame, Frame, lua, pcall, xpcall, handler, closing, Coroutine, World, frames_of, lua_frame, register_at}
-use Rattle.machine_alike.specs.Agree.{Pairs, SameNumber, SameCellNumber, Each as EachOf, SameValue, same_known, same_object, SameValues, SameRow, SameTable, SameFunction, SameWait, same_running, same_for_call, same_for_iterator, same_for_value, same_for_truth, same_dropped, same_for_concat, same_for_close, same_returning, same_leaving, SameLuaFrame, SameFrame, same_lua, same_pcall, same_xpcall, same_handler, same_closing, SameFrames, SameCoroutine, same_fresh, same_suspended, same_in_progress, same_normal, same_dead, same_failed, IsFirst, IsSecond, Loose, kept_closed, kept_apart, SameCell, same_place, same_content, objects_of, SameObjects, roots_of, SameRoots}
+use Rattle.machine_core.specs.World.{Function, Cell, closed, Wait, LuaFrame, Frame, lua, Coroutine, World, frames_of, lua_frame, register_at}
+use Rattle.machine_alike.specs.Agree.{Pairs, SameNumber, SameCellNumber, Each as EachOf, SameValue, same_known, same_object, SameValues, SameRow, SameTable, SameFunction, SameWait, same_leaving, SameLuaFrame, SameFrame, same_lua, same_pcall, same_xpcall, same_handler, same_closing, SameFrames, SameCoroutine, same_fresh, same_suspended, same_in_progress, same_normal, same_dead, same_failed, IsFirst, IsSecond, Loose, kept_closed, kept_apart, SameCell, same_place, same_content, objects_of, SameObjects, roots_of, SameRoots}
 use Rattle.machine_alike.proofs.Pairwise.{each_bind, both_each, zip_get, bind_some}
 use Rattle.machine_alike.proofs.Same.{nth_same, frames_same, lua_frame_same}
 use Rattle.machine_sound.specs.Sound.{Each}
@@ -17,10 +17,7 @@ use Rattle.prelude_loads.proofs.Lists.{each_so, option_so, zip_back, both_at, bo
 
 lua_is : (f : Frame) (l : LuaFrame) → lua_frame f ≡ Some l → f ≡ lua l
 lua_is (lua f) l e = let k : f ≡ l = cc in ap lua k
-lua_is pcall l e = absurd (cc)
-lua_is (xpcall h) l e = absurd (cc)
-lua_is handler l e = absurd (cc)
-lua_is (closing v vs) l e = absurd (cc)
+lua_is _ l e = absurd (cc)
 
 -- what a register holds of a frame whose function does not hold the environment there
 module _ (e : ℕ) (gs : List Guard) (cos : List Coroutine) (ok : Each (CoroutineOk e gs) cos) where
@@ -60,16 +57,8 @@ module _ (p : Pairs) (W X : World) (same : SameObjects p (objects_of W) (objects
   }
 
   wait_so : (a b : Wait Value) → SameWait p a b → WaitOk y.table a → WaitOk y.table b
-  wait_so a b same_running h = tt
-  wait_so a b same_for_call h = tt
-  wait_so a b same_for_iterator h = tt
-  wait_so a b same_for_value h = tt
-  wait_so a b same_for_truth h = tt
-  wait_so a b same_dropped h = tt
-  wait_so a b (same_for_concat n) h = tt
-  wait_so a b same_for_close h = tt
-  wait_so a b (same_returning n) h = tt
   wait_so a b (same_leaving v w s) h = apart_so v w s h
+  wait_so a b _ h = tt
 
   -- `gs` are the guards of the functions on the left, and `hs` those on the right
   module _ (gs hs : List Guard) (fits : (i j : ℕ) (g : Guard) → SameNumber p a_function i j → slice_get gs i ≡ Some g → slice_get hs j ≡ Some g) where

@@ -3,7 +3,7 @@ use Rattle.std.proofs.Common.{ℕ, zero, suc, ◌≡◌, ◌≢◌, List, [], �
 use Rattle.std.specs.Prelude.{slice_get, slice_set, ◌&&◌, nat_lt, flat_map}
 use Rattle.int_core.specs.Limits.{greatest_resumes}
 use Rattle.int_core.specs.Value.{a_table, Value, object, bind, last, without_last, nth}
-use Rattle.machine_core.specs.World.{closed, Frame, lua, pcall, xpcall, handler, closing, Coroutine, fresh, suspended, in_progress, normal, dead, failed, World, Stack, stack_of, frames_of}
+use Rattle.machine_core.specs.World.{closed, Frame, lua, closing, Coroutine, fresh, suspended, in_progress, normal, dead, failed, World, Stack, stack_of, frames_of}
 use Rattle.machine_core.specs.Moves.{Made, made, CallShape, resumed, has_room, enters, pending_values, put_coroutine, awake, back_to_resumer, bury, ends_as, suspend_running, wait_for_another, go_into, starts_in, can_start, resumes, closes_in, closes_coroutine, add_coroutine}
 use Rattle.machine_sound.specs.Sound.{Each, OptionOk}
 use Rattle.machine_sound.proofs.Lists.{each_none, each_cons, each_tail, each_append, each_push, each_set, some_is, get_set_other, get_push_old}
@@ -21,10 +21,7 @@ pending_apart e gs (lua f) h = go f.own.pending h.pending
     go : (qs : List ℕ) → Each (λ r. h.guard.registers r ≡ false) qs → Each (Apart e) (map (nth f.own.registers) qs)
     go [] p = each_none (Apart e)
     go (q ∷ qs) p = each_cons (Apart e) (nth f.own.registers q) (map (nth f.own.registers) qs) (h.registers q (p zero q refl)) (go qs (each_tail (λ r. h.guard.registers r ≡ false) q qs p))
-pending_apart e gs pcall h = each_none (Apart e)
-pending_apart e gs (xpcall v) h = each_none (Apart e)
-pending_apart e gs handler h = each_none (Apart e)
-pending_apart e gs (closing v vs) h = each_none (Apart e)
+pending_apart e gs _ h = each_none (Apart e)
 
 pub all_pending_apart : (e : ℕ) (gs : List Guard) (fs : List Frame) → Each (FrameOk e gs) fs → Each (Apart e) (flat_map pending_values fs)
 all_pending_apart e gs [] h = each_none (Apart e)
@@ -105,10 +102,7 @@ module _ (y : Home) (gs : List Guard) where
       by (Some d) h = (h.0, h.1, each_none (Apart y.table))
   starts_keeps W co (suspended fs) vs k e o v =
       (gs, moving_keeps y gs (go_into W co fs) vs (into_keeps W co (suspended fs) fs k (e refl) (λ n f z. z) o) v, each_none (Apart y.table))
-  starts_keeps W co (in_progress fs) vs k e o v = (gs, k, each_none (Apart y.table))
-  starts_keeps W co (normal fs) vs k e o v = (gs, k, each_none (Apart y.table))
-  starts_keeps W co dead vs k e o v = (gs, k, each_none (Apart y.table))
-  starts_keeps W co (failed x xs) vs k e o v = (gs, k, each_none (Apart y.table))
+  starts_keeps W co _ vs k e o v = (gs, k, each_none (Apart y.table))
 
   -- the running coroutine is no other one that may start
   other_starts : (W : World) (s : Stack) (co : ℕ) (c : Coroutine) → OnStack W s → slice_get W.coroutines co ≡ Some c → (c ≡ in_progress s.frames → ⊥) → co ≢ s.coroutine
@@ -120,11 +114,7 @@ module _ (y : Home) (gs : List Guard) where
 
   not_running : (c : Coroutine) (fs : List Frame) → can_start c ≡ true → c ≡ in_progress fs → ⊥
   not_running (fresh v) fs h e = cc
-  not_running (suspended gs) fs h e = cc
-  not_running (in_progress gs) fs h e = cc
-  not_running (normal gs) fs h e = cc
-  not_running dead fs h e = cc
-  not_running (failed v vs) fs h e = cc
+  not_running _ fs h e = cc
 
   pub resumes_keeps : (W : World) (s : Stack) (co : ℕ) (c : Coroutine) (vs : List Value) → Keeps y gs W → OnStack W s → slice_get W.coroutines co ≡ Some c → Each (Apart y.table) vs → MadeKeeps y (resumes W s co c vs)
   resumes_keeps W s co c vs k o e v = made_cond y (can_start c && nat_lt greatest_resumes (length W.chain)) _ _ (gs, k, each_none (Apart y.table)) (by (can_start c) refl)

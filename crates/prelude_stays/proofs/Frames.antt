@@ -3,7 +3,7 @@ use Rattle.std.proofs.Common.{ℕ, zero, suc, ◌≡◌, ⊎_elim, List, [], ◌
 use Rattle.std.specs.Prelude.{slice_get, slice_set, nat_eq, nat_lt}
 use Rattle.std.proofs.lemmas.Bool.{cases_eq}
 use Rattle.std.proofs.lemmas.Bool.Decides.{nat_tests}
-use Rattle.int_core.specs.Value.{nil, boolean, integer, string, primitive, a_table, a_function, a_coroutine, Value, known, object, bind, last, without_last, fitted}
+use Rattle.int_core.specs.Value.{primitive, a_table, a_function, Value, known, object, bind, last, without_last, fitted}
 use Rattle.int_core.specs.Operations.{Callee, callee, not_callable, callee_of, greatest_chain}
 use Rattle.machine_core.specs.World.{Function, Cell, closed, Wait, LuaFrame, Frame, lua, Coroutine, in_progress, World, Stack, stack_of, frames_of, Place, put_frames, put_top, push, pop, close_from}
 use Rattle.machine_core.specs.Text.{Own, done}
@@ -160,12 +160,7 @@ module _ (y : Home) (gs : List Guard) (W : World) (k : Keeps y gs W) where
   enters_keeps (known (primitive n)) vs v = (gs, moving_keeps y gs W vs k v, each_none (Apart y.table))
   enters_keeps (object a_function n) vs v =
       made_bind y (slice_get W.functions n) _ (λ f e. made_cond y (has_room W 1) _ _ (gs, all_keeps (new_frame n f.code vs) (new_ok n f vs e v), each_none (Apart y.table)) (gs, k, each_none (Apart y.table)))
-  enters_keeps (known nil) vs v = tt
-  enters_keeps (known (boolean b)) vs v = tt
-  enters_keeps (known (integer n)) vs v = tt
-  enters_keeps (known (string s)) vs v = tt
-  enters_keeps (object a_table n) vs v = tt
-  enters_keeps (object a_coroutine n) vs v = tt
+  enters_keeps _ vs v = tt
 
 module _ (y : Home) (gs : List Guard) (W : World) (k : Keeps y gs W) where
   paid_keeps : (P : World) → Keeps y gs P → (c : Callee) → CalleeOk y W.heap k.heap c → MadeKeeps y (enters_paid W P c)

@@ -4,7 +4,7 @@ use Rattle.std.specs.Prelude.{slice_get}
 use Rattle.int_core.specs.Value.{a_table, Value, object}
 use Rattle.code_core.specs.declared.proto.UpDesc.{UpDesc}
 use Rattle.code_core.specs.Prototype.{Prototype, list_of}
-use Rattle.machine_core.specs.World.{Function, Cell, closed, open_at, LuaFrame, Frame, lua, pcall, xpcall, handler, closing, Coroutine, fresh, suspended, in_progress, normal, dead, failed, World, Place, find_open}
+use Rattle.machine_core.specs.World.{Function, Cell, closed, open_at, LuaFrame, Frame, lua, Coroutine, fresh, suspended, in_progress, normal, dead, failed, World, Place, find_open}
 use Rattle.machine_core.specs.Moves.{captured, add_loaded}
 use Rattle.machine_sound.proofs.Lists.{each_on, get_push_old, get_push_new, push_cases, get_within, some_is}
 use Rattle.list_laws.proofs.Items.{length_more}
@@ -25,10 +25,7 @@ module _ (e : ℕ) (gs more : List Guard) where
 
   frame_more : (f : Frame) → FrameOk e gs f → FrameOk e (gs ++ more) f
   frame_more (lua f) h = lua_more f h
-  frame_more pcall h = h
-  frame_more (xpcall v) h = h
-  frame_more handler h = h
-  frame_more (closing v vs) h = h
+  frame_more _ h = h
 
   pub coroutine_more : (c : Coroutine) → CoroutineOk e gs c → CoroutineOk e (gs ++ more) c
   coroutine_more (fresh v) h = h

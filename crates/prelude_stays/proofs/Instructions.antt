@@ -8,7 +8,7 @@ use Rattle.code_core.specs.declared.proto.Const.{Const}
 use Rattle.code_core.specs.Instruction.{a_of, b_of, c_of}
 use Rattle.code_core.specs.Prototype.{Prototype}
 use Rattle.machine_core.specs.World.{Cell, Wait, for_value, World, Place, place_of, read_cell, put_top, put_frames}
-use Rattle.machine_core.specs.Text.{read, args_of, constant, Own, read_register, read_registers, read_list, read_constant, read_varargs, see, write_register, write_registers, write_list, write_nils, end_list, cut_from, close_cells, mark_pending, see_pending, take_pending, drop_pending, keep_results, keep_pending, reads, tells, fits, read_upvalue, Text, own}
+use Rattle.machine_core.specs.Text.{read, args_of, constant, Own, read_register, read_constant, write_register, reads, tells, fits, read_upvalue, Text, own}
 use Rattle.machine_core.specs.InstructionRows.{next, to_register, gets}
 use Rattle.machine_core.specs.Moves.{on_own, outside, made, own_cell, settled, is_found, is_asked, is_fault, with_own, do_own, Row, only, act, Outcome, trapped, run}
 use Rattle.machine_core.specs.FrameRows.{raises, at_once, calls_row, prepares, expand}
@@ -52,23 +52,7 @@ idle_same : (m : Own) → Idle m → (W : World) (p : Place) (w : Wait Value) (e
 unfolding with_own put_top put_frames
 idle_same (read_register r) i W p w env = refl
 idle_same (read_constant n) i W p w env = refl
-idle_same (read_registers from count) i W p w env = absurd i
-idle_same (read_list from) i W p w env = absurd i
-idle_same read_varargs i W p w env = absurd i
-idle_same (see x) i W p w env = absurd i
-idle_same (write_register r x) i W p w env = absurd i
-idle_same (write_registers r count slot) i W p w env = absurd i
-idle_same (write_list r slot) i W p w env = absurd i
-idle_same (write_nils r count) i W p w env = absurd i
-idle_same end_list i W p w env = absurd i
-idle_same (cut_from r) i W p w env = absurd i
-idle_same (close_cells r) i W p w env = absurd i
-idle_same (mark_pending r) i W p w env = absurd i
-idle_same (see_pending r) i W p w env = absurd i
-idle_same (take_pending r) i W p w env = absurd i
-idle_same (drop_pending r) i W p w env = absurd i
-idle_same (keep_results from count) i W p w env = absurd i
-idle_same keep_pending i W p w env = absurd i
+idle_same _ i W p w env = absurd i
 
 none_same : (W : World) (p : Place) (w : Wait Value) (env : List Value) → with_own W p w [] env ≡ with_own W p w [] []
 unfolding with_own put_top put_frames

@@ -2,7 +2,7 @@
 use Rattle.std.proofs.Common.{ℕ, ◌+◌, ◌≡◌, List, [], ◌∷◌, ◌++◌, Option, Some, None, refl, length, drop, arith}
 use Rattle.std.specs.Prelude.{slice_get, slice_set}
 use Rattle.int_core.specs.Rows.{next}
-use Rattle.int_core.specs.Value.{nil, boolean, integer, string, primitive, a_table, a_function, a_coroutine, Value, known, object, table_values, nth, bind}
+use Rattle.int_core.specs.Value.{string, a_table, a_function, a_coroutine, Value, known, object, table_values, nth, bind}
 use Rattle.int_core.specs.Heap.{Table, Heap, raw_get, metatable_of, add_table}
 use Rattle.library_rows.specs.Look.{args_of, HeapOp, look, compare, read_field, write_field, read_metatable, write_metatable, border_of, row_after, make_table, or_nil, table_or_nil, put_field, put_metatable, put_meta, row_step, row_in, does_op, Look, gives, gives_all, refuses, raises, count, does, Done, done, refused, raised, looked}
 use Rattle.machine_sound.specs.Sound.{Each, OptionOk}
@@ -37,18 +37,13 @@ new_apart y H h = λ d. let l = get_within H.tables y.table y.made h.made in abs
 
 module _ (y : Home) (H : Heap) (h : HeapOk y H) where
   metatable_ok : (v : Value) → MetaOk y.table (metatable_of H v)
-  metatable_ok (known nil) = tt
-  metatable_ok (known (boolean b)) = tt
-  metatable_ok (known (integer n)) = tt
   metatable_ok (known (string s)) = h.strings
-  metatable_ok (known (primitive n)) = tt
-  metatable_ok (object a_function n) = tt
-  metatable_ok (object a_coroutine n) = tt
   metatable_ok (object a_table n) = from (slice_get H.tables n) refl
     where
       from : (o : Option Table) → slice_get H.tables n ≡ o → MetaOk y.table (bind o (λ t. t.metatable))
       from None e = tt
       from (Some t) e = (h.tables n t e).metatable
+  metatable_ok _ = tt
 
   write_ok : (o k v : Value) → Apart y.table o → Apart y.table k → Apart y.table v → HeapOk y (put_field H o k v)
   write_ok (object a_table n) k v d a b = raw_set_ok y H h n k v d a b

@@ -2,7 +2,7 @@
 use Rattle.std.proofs.Common.{ℕ, zero, ◌≡◌, List, [], ◌∷◌, ◌++◌, Option, Some, None, refl, subst, sym, length, drop, reverse}
 use Rattle.std.specs.Prelude.{slice_get, flat_map}
 use Rattle.std.proofs.lemmas.List.{reverse-append}
-use Rattle.int_core.specs.Value.{nil, boolean, integer, string, primitive, a_function, a_coroutine, Value, known, object, bind, last, without_last, error_or_nil}
+use Rattle.int_core.specs.Value.{primitive, a_function, a_coroutine, Value, known, object, bind, last, without_last, error_or_nil}
 use Rattle.int_core.specs.Operations.{handler_in, of_close, is_function}
 use Rattle.library_rows.specs.Look.{Done, done as came, refused as was_refused, raised as was_raised, looked}
 use Rattle.code_core.specs.Check.{at}
@@ -49,12 +49,9 @@ last_held P [] x h e = absurd (cc)
 last_held P (z ∷ xs) x h e = h (length xs) x e
 
 placed_apart : (e : ℕ) (W : World) (level : ℕ) (v : Value) → Apart e v → Apart e (placed W level v)
-placed_apart e W level (known nil) a = tt
-placed_apart e W level (known (boolean b)) a = tt
-placed_apart e W level (known (integer n)) a = tt
-placed_apart e W level (known (string s)) a = tt
 placed_apart e W level (known (primitive n)) a = tt
 placed_apart e W level (object kind n) a = a
+placed_apart e W level _ a = tt
 
 given_apart : (e : ℕ) (env : List Value) (g : Given) → Each (Apart e) env → Each (Apart e) (given_values env g)
 given_apart e env (results slot) v = each_drop (Apart e) slot env v
@@ -110,10 +107,7 @@ module _ (y : Home) (gs : List Guard) (W : World) (k : Keeps y gs W) where
   error_keeps : (s : Stack) (f : Frame) (v : Value) → OnStack W s → last s.frames ≡ Some f → Apart y.table v → MadeKeeps y (with_error W s f v)
   error_keeps s (closing x left) v o e a =
       (gs, other_top y gs W k s (closing x left) (closing (Some v) left) o e refl (a, (last_held (FrameOk y.table gs) s.frames (closing x left) (frames_ok y gs W k s o) e).1), none)
-  error_keeps s (lua f) v o e a = tt
-  error_keeps s pcall v o e a = tt
-  error_keeps s (xpcall h) v o e a = tt
-  error_keeps s handler v o e a = tt
+  error_keeps s _ v o e a = tt
 
   consulted_keeps : (d : Done) → DoneOk y d → MadeKeeps y (consulted W d)
   consulted_keeps (came H vs) h = (gs, heap_keeps y gs W H k h.0, h.1)
@@ -172,10 +166,4 @@ module _ (y : Home) (gs : List Guard) (W : World) (k : Keeps y gs W) where
   free_keeps see_running env i v = made_bind y (last W.chain) _ (λ co _. (gs, k, each_one (Apart y.table) (object a_coroutine co) tt))
   free_keeps (print x) env i v = (gs, print_keeps (bytes_in (arg env x)), none)
   free_keeps (make_loaded p x) env i v = (gs ++ unguarded ∷ [], loaded_keeps y gs W k p (environment_in W env x) (environment_apart env x v), each_one (Apart y.table) (object a_function (length W.functions)) tt)
-  free_keeps (on_own m) env i v = absurd i
-  free_keeps (open_register r) env i v = absurd i
-  free_keeps (outside q) env i v = absurd i
-  free_keeps (settle op xs) env i v = absurd i
-  free_keeps (enter f slot wait prepared) env i v = absurd i
-  free_keeps (await f slot wait prepared) env i v = absurd i
-  free_keeps pop_frame env i v = absurd i
+  free_keeps _ env i v = absurd i

@@ -4,7 +4,7 @@ use Rattle.std.specs.Prelude.{ℤ, pos, negsuc, ◌||◌, not, nat_eq, nat_lt, s
 use Rattle.std.specs.List.{list_all}
 use Rattle.std.proofs.lemmas.Bool.Decides.{nat_tests}
 use Rattle.code_core.specs.declared.opcode.Opcode.{Opcode}
-use Rattle.code_core.specs.declared.opcode.Opcode.TheVariants.{Move, LoadI, LoadF, LoadK, LoadKx, LoadFalse, LFalseSkip, LoadTrue, LoadNil, GetUpval, SetUpval, GetTabUp, GetTable, GetI, GetField, SetTabUp, SetTable, SetI, SetField, NewTable, OpSelf, AddI, AddK, SubK, MulK, ModK, PowK, DivK, IDivK, BAndK, BOrK, BXorK, ShrI, ShlI, Add, Sub, Mul, Mod, Pow, Div, IDiv, BAnd, BOr, BXor, Shl, Shr, MmBin, MmBinI, MmBinK, Unm, BNot, Not, Len, Concat, Close, Tbc, Jmp, Eq, Lt, Le, EqK, EqI, LtI, LeI, GtI, GeI, Test, TestSet, Call, TailCall, Return, Return0, Return1, ForLoop, ForPrep, TForPrep, TForCall, TForLoop, SetList, Closure, VarArg, VarArgPrep, ExtraArg}
+use Rattle.code_core.specs.declared.opcode.Opcode.TheVariants.{Move, LoadI, LoadK, LoadKx, LoadFalse, LFalseSkip, LoadTrue, LoadNil, GetUpval, SetUpval, GetTabUp, GetTable, GetI, GetField, SetTabUp, SetTable, SetI, SetField, NewTable, OpSelf, AddI, AddK, SubK, MulK, ModK, IDivK, BAndK, BOrK, BXorK, ShrI, ShlI, Add, Sub, Mul, Mod, IDiv, BAnd, BOr, BXor, Shl, Shr, MmBin, MmBinI, MmBinK, Unm, BNot, Not, Len, Concat, Close, Tbc, Jmp, Eq, Lt, Le, EqK, EqI, LtI, LeI, GtI, GeI, Test, TestSet, Call, TailCall, Return, Return0, Return1, ForLoop, ForPrep, TForPrep, TForCall, TForLoop, SetList, Closure, VarArg}
 use Rattle.code_core.specs.declared.instruction.Instruction.{Instruction}
 use Rattle.code_core.specs.declared.proto.UpDesc.{UpDesc}
 use Rattle.code_core.specs.Prototype.{Prototype}
@@ -269,13 +269,7 @@ module _ (held : ℕ → Bool) (code : List Instruction) where
       apart (on_cond (k_of w) _ _ (on_extra _ (λ ax. (a (a_of w) (omega arith), λ t s. fills_reads s t w (c_of w + 256 * ax) (pos 2) a)) (extra_at p pc)) (a (a_of w) (omega arith), λ t s. fills_reads s t w (c_of w) (pos 1) a))
   row_reads p pc Closure w h = apart (opens_reads (upvalues_of_inner p (bx_of w)) _ (tt, λ _. (tt, λ _ _. tt)))
   row_reads p pc VarArg w h = apart (tt, λ v s. values_written (a_of w) (c_of w) v)
-  row_reads p pc VarArgPrep w h = apart tt
-  row_reads p pc LoadF w h = apart tt
-  row_reads p pc PowK w h = apart tt
-  row_reads p pc DivK w h = apart tt
-  row_reads p pc Pow w h = apart tt
-  row_reads p pc Div w h = apart tt
-  row_reads p pc ExtraArg w h = apart tt
+  row_reads p pc _ w h = apart tt
 
   -- what is left of an instruction by a wait that it may have
   pub rest_reads : (wait : Wait Value) (p : Prototype) (pc : ℕ) (op : Opcode) (w : Instruction) → IsTrue (waits_at wait op w) → IsTrue (is_apart held code op w) → Reads G (rest wait p pc op w)

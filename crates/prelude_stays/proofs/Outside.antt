@@ -5,7 +5,7 @@ use Rattle.std.proofs.lemmas.Bool.{cases_eq}
 use Rattle.std.proofs.lemmas.Bool.Decides.{nat_tests}
 use Rattle.int_core.specs.Value.{nil, a_table, Value, known, object, bind, last, nth}
 use Rattle.code_core.specs.declared.proto.UpDesc.{UpDesc}
-use Rattle.machine_core.specs.World.{Cell, closed, open_at, Frame, lua, pcall, xpcall, handler, closing, Coroutine, fresh, suspended, in_progress, normal, dead, failed, World, Stack, frames_of, running_frames, lua_frame, with_frames, read_cell, write_cell, write_in_frame, write_in_coroutine, is_open_at, find_open_from, find_open}
+use Rattle.machine_core.specs.World.{Cell, closed, open_at, Frame, lua, Coroutine, fresh, suspended, in_progress, normal, dead, failed, World, Stack, frames_of, running_frames, lua_frame, with_frames, read_cell, write_cell, write_in_frame, write_in_coroutine, is_open_at, find_open_from, find_open}
 use Rattle.machine_core.specs.Moves.{Made, captured, opened_cells}
 use Rattle.machine_sound.specs.Sound.{Each}
 use Rattle.machine_sound.proofs.Lists.{each_set, get_set_same, get_set_other, length_set, get_push_old, some_is}
@@ -59,10 +59,7 @@ read_apart y gs W k (open_at co n r) v h e =
 
 write_function : (r : ℕ) (v : Value) (f : Frame) → function_of (write_in_frame r v f) ≡ function_of f
 write_function r v (lua f) = refl
-write_function r v pcall = refl
-write_function r v (xpcall h) = refl
-write_function r v handler = refl
-write_function r v (closing x xs) = refl
+write_function r v _ = refl
 
 write_ok : (e : ℕ) (gs : List Guard) (r : ℕ) (v : Value) → Apart e v → (f : Frame) → FrameOk e gs f → FrameOk e gs (write_in_frame r v f)
 write_ok e gs r v a (lua f) h = record {
@@ -73,10 +70,7 @@ write_ok e gs r v a (lua f) h = record {
   pending = h.pending;
   wait = h.wait;
 }
-write_ok e gs r v a pcall h = h
-write_ok e gs r v a (xpcall w) h = h
-write_ok e gs r v a handler h = h
-write_ok e gs r v a (closing x xs) h = h
+write_ok e gs r v a _ h = h
 
 -- a frame in place of one of the same function
 set_frames : (fs : List Frame) (n : ℕ) (f x : Frame) → slice_get fs n ≡ Some f → function_of x ≡ function_of f → FramesStay (Some fs) (Some (slice_set fs n x))

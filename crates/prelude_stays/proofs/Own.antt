@@ -5,7 +5,7 @@ use Rattle.int_core.specs.Value.{Value, known, nil, nth, range, write, write_all
 use Rattle.code_core.specs.declared.proto.Const.{Const}
 use Rattle.code_core.specs.Prototype.{Prototype}
 use Rattle.machine_core.specs.World.{Cell, closed, Coroutine, Activation}
-use Rattle.machine_core.specs.Text.{Arg, read, written, arg, args_of, behind, constant, list_end, list_values, value_if, Own, read_register, read_registers, read_list, read_constant, read_varargs, see, write_register, write_registers, write_list, write_nils, end_list, cut_from, close_cells, mark_pending, see_pending, take_pending, drop_pending, keep_results, keep_pending, reads, effect, done, nils, blanked, last_pending, is_pending}
+use Rattle.machine_core.specs.Text.{Arg, read, written, arg, args_of, behind, constant, list_end, list_values, value_if, Own, read_register, read_registers, read_list, read_constant, read_varargs, write_register, write_registers, write_list, write_nils, end_list, cut_from, close_cells, mark_pending, see_pending, take_pending, drop_pending, keep_results, keep_pending, reads, effect, done, nils, blanked, last_pending, is_pending}
 use Rattle.machine_core.specs.Moves.{cells_after, cells_done}
 use Rattle.machine_sound.specs.Sound.{Each}
 use Rattle.machine_sound.proofs.Lists.{each_none, each_cons, each_one, each_tail, each_push, each_drop, each_filter}
@@ -105,14 +105,7 @@ module _ (e : ℕ) (g : Guard) (p : Prototype) (env : List Value) (v : Each (Apa
   effect_ok (drop_pending r) own k h = with_pending own _ h (each_filter (λ r. g.registers r ≡ false) (λ q. nat_lt q r) own.pending h.pending)
   effect_ok (keep_results from count) own k h = with_registers own _ 0 h (blanked_ok (λ i. is_pending own.pending i || (nat_le from i && nat_lt i (from + count))) (max p.own.stack (behind from count)) own.registers h.registers)
   effect_ok keep_pending own k h = with_registers own _ 0 h (blanked_ok (is_pending own.pending) p.own.stack own.registers h.registers)
-  effect_ok (read_register r) own k h = h
-  effect_ok (read_registers from count) own k h = h
-  effect_ok (read_list from) own k h = h
-  effect_ok (read_constant n) own k h = h
-  effect_ok read_varargs own k h = h
-  effect_ok (see x) own k h = h
-  effect_ok (close_cells r) own k h = h
-  effect_ok (see_pending r) own k h = h
+  effect_ok _ own k h = h
 
   pub reads_ok : (m : Own) (own : Activation) → OwnReads g m → OwnOk e g own → Each (Apart e) (reads m p env own)
   reads_ok (read_register r) own k h = each_one (Apart e) (nth own.registers r) (h.registers r k)
@@ -133,19 +126,7 @@ module _ (e : ℕ) (g : Guard) (p : Prototype) (env : List Value) (v : Each (Apa
       by : (o : Option ℕ) → last_pending r own.pending ≡ o → Each (Apart e) (value_if own.registers o)
       by None d = each_none (Apart e)
       by (Some q) d = each_one (Apart e) (nth own.registers q) (h.registers q (last_held (λ r. g.registers r ≡ false) r own.pending q h.pending d))
-  reads_ok (see x) own k h = each_none (Apart e)
-  reads_ok (write_register r x) own k h = each_none (Apart e)
-  reads_ok (write_registers at count slot) own k h = each_none (Apart e)
-  reads_ok (write_list at slot) own k h = each_none (Apart e)
-  reads_ok (write_nils at count) own k h = each_none (Apart e)
-  reads_ok end_list own k h = each_none (Apart e)
-  reads_ok (cut_from r) own k h = each_none (Apart e)
-  reads_ok (close_cells r) own k h = each_none (Apart e)
-  reads_ok (mark_pending r) own k h = each_none (Apart e)
-  reads_ok (take_pending r) own k h = each_none (Apart e)
-  reads_ok (drop_pending r) own k h = each_none (Apart e)
-  reads_ok (keep_results from count) own k h = each_none (Apart e)
-  reads_ok keep_pending own k h = each_none (Apart e)
+  reads_ok _ own k h = each_none (Apart e)
 
   pub done_ok : (ms : List Own) (own : Activation) → AllRead g ms → OwnOk e g own → OwnOk e g (done ms p env own)
   done_ok [] own k h = h

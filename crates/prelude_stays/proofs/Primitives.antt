@@ -1,5 +1,5 @@
 -- The rows of frames that are no Lua frames', and those of primitives.
-use Rattle.std.proofs.Common.{ℕ, zero, suc, List, Option, Some, None, true, false}
+use Rattle.std.proofs.Common.{ℕ, zero, suc, List, Option, Some, None, false}
 use Rattle.std.specs.Prelude.{ℤ, pos, negsuc}
 use Rattle.int_core.specs.Limits.{stack_overflow}
 use Rattle.int_core.specs.Value.{a_table, a_function, a_coroutine, Shape, is_known, is_object}
@@ -9,7 +9,7 @@ use Rattle.library_rows.specs.Library.{Primitive, primitive_at, row_of as look_o
 use Rattle.library_rows.specs.Library as library
 use Rattle.load_rows.specs.Loading.{Builds, Loaded, wrong, not_loaded, loaded, load_of}
 use Rattle.machine_core.specs.Text.{Arg}
-use Rattle.machine_core.specs.Moves.{Over, CallShape, is_entered, is_primitive, not_paid, not_entered, TopShape, lua_top, pcall_top, xpcall_top, handler_top, closing_top, no_top, ResumeShape, resumed, refused, LookShape, is_given, is_refused, is_raised, Row, traps}
+use Rattle.machine_core.specs.Moves.{Over, CallShape, is_entered, is_primitive, not_paid, not_entered, TopShape, lua_top, xpcall_top, handler_top, no_top, ResumeShape, resumed, refused, LookShape, is_given, is_refused, is_raised, Row, traps}
 use Rattle.machine_core.specs.FrameRows.{coroutine_fails, raised_to, raised_row, blames, over_frame, refused_under, after_asked, asked_row}
 use Rattle.machine_core.specs.MachineStep.{pcall_row, xpcall_row, error_row, errs_at, level_in, after_entry, after_resume, resumes, resume_row, yield_row, after_closing, closes_coroutine, close_row, gives_back, after_look, look_row, can_call, create_row, sees_status, status_row, running_row, print_row}
 use Rattle.machine_core.specs.PrimitiveRows.{own_row, primitive_row, row_numbered, environment_at, loaded_row, load_row}
@@ -32,11 +32,7 @@ module _ {y : Home} where
   raised_to_keep : (top : TopShape) (h : ℕ) → RowKeeps y (raised_to top h)
   raised_to_keep xpcall_top h = act_keeps tt (λ e t. act_keeps tt (λ n room. cond_keeps room (act_keeps tt (λ m u. stop_keeps)) gives_up_keeps))
   raised_to_keep (no_top false) h = fails_keep
-  raised_to_keep (no_top true) h = stop_keeps
-  raised_to_keep lua_top h = stop_keeps
-  raised_to_keep pcall_top h = stop_keeps
-  raised_to_keep handler_top h = stop_keeps
-  raised_to_keep closing_top h = stop_keeps
+  raised_to_keep _ h = stop_keeps
 
   pub raised_keeps : RowKeeps y raised_row
   raised_keeps = act_keeps tt (λ h top. raised_to_keep top h)
@@ -44,10 +40,7 @@ module _ {y : Home} where
   refused_keeps : (top : TopShape) (text : List ℕ) → RowKeeps y (refused_under top text)
   refused_keeps lua_top text = raises_keep text
   refused_keeps handler_top text = gives_up_keeps
-  refused_keeps pcall_top text = blames_keep text
-  refused_keeps xpcall_top text = blames_keep text
-  refused_keeps closing_top text = blames_keep text
-  refused_keeps (no_top b) text = blames_keep text
+  refused_keeps _ text = blames_keep text
 
   after_asked_keeps : (s : CallShape) → RowKeeps y (after_asked s)
   after_asked_keeps is_entered = stop_keeps

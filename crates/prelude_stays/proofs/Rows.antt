@@ -3,7 +3,7 @@ use Rattle.std.proofs.Common.{ℕ, ◌≡◌, List, [], ◌∷◌, ◌++◌, Opt
 use Rattle.int_core.specs.Value.{boolean, Value, bind, last, without_last, error_or_nil}
 use Rattle.machine_core.specs.World.{LuaFrame, Frame, lua, pcall, xpcall, handler, closing, World, Stack, stack_of, lua_frame, put_top, pop}
 use Rattle.machine_core.specs.Text.{read, written}
-use Rattle.machine_core.specs.Moves.{Move, take_moving, give, pop_frame, Made, made, Told, TopShape, lua_top, pcall_top, xpcall_top, handler_top, closing_top, no_top, ClosingShape, one_left, top_shape, top_now, next_closing, Ending, Row, traps, stop, act, Outcome, trapped, move, run}
+use Rattle.machine_core.specs.Moves.{Move, take_moving, give, pop_frame, Made, made, Told, TopShape, lua_top, ClosingShape, one_left, top_shape, top_now, next_closing, Ending, Row, traps, stop, act, Outcome, trapped, move, run}
 use Rattle.machine_core.specs.FrameRows.{then, handed, hand_over, closing_by, closing_row, gives_up}
 use Rattle.machine_sound.specs.Sound.{Each}
 use Rattle.machine_sound.proofs.Lists.{each_none, each_append}
@@ -37,11 +37,7 @@ cond_keeps false p q = q
 
 pub handed_keeps : {y : Home} (top : TopShape) → RowKeeps y (handed top)
 handed_keeps lua_top = stop_keeps
-handed_keeps pcall_top = stop_keeps
-handed_keeps xpcall_top = stop_keeps
-handed_keeps handler_top = stop_keeps
-handed_keeps closing_top = stop_keeps
-handed_keeps (no_top b) = stop_keeps
+handed_keeps _ = stop_keeps
 
 pub hand_over_keeps : {y : Home} → RowKeeps y hand_over
 hand_over_keeps = act_keeps tt (λ n top. handed_keeps top)

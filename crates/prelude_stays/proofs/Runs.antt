@@ -6,7 +6,7 @@ use Rattle.code_core.specs.Prototype.{Prototype}
 use Rattle.library_rows.specs.Library.{all_entries}
 use Rattle.load_rows.specs.Loading.{Builds}
 use Rattle.machine_core.specs.World.{World}
-use Rattle.machine_core.specs.Moves.{Made, ResumeShape, Ending, go, returned, asks, calls_primitive, raised, unwinding, spent, main_yielded, main_returned, main_failed, Outcome, trapped, ends}
+use Rattle.machine_core.specs.Moves.{Made, ResumeShape, Ending, calls_primitive, spent, main_yielded, main_returned, main_failed, Outcome, trapped, ends}
 use Rattle.machine_core.specs.PrimitiveRows.{load_row}
 use Rattle.machine_core.specs.MachineStep.{steps}
 use Rattle.machine_sound.specs.Sound.{Each, idle, Sound}
@@ -68,19 +68,14 @@ module _ (builds : Builds Prototype) (y : Home) (safe : PrimitivesSafe (length a
       (wakes_keeps k.0 (with_budget W budget) (budget_keeps k.0 W budget k.1)) (λ gs e V a h. steps_stay count e V a (gs, h))
 
   end_stays : (o : Outcome) (goes : World → Option Run) (r : Run) → EndKeeps y o → at_end o goes ≡ Some r → ((V : World) (x : Run) → o ≡ ends main_yielded V → goes V ≡ Some x → Stays y V → Stays y x.last) → Stays y r.last
-  end_stays trapped goes r h e f = absurd (none_some r e)
   end_stays (ends main_yielded V) goes r h e f =
       let m = map_some (behind (turn_text main_yielded V)) (goes V) r e in
       subst (λ (r : Run). Stays y r.last) m.2 (f V m.0 refl m.1 h)
   end_stays (ends main_returned V) goes r h e f = subst (λ (r : Run). Stays y r.last) (some_is {o = Some (closes main_returned has_returned V)} refl e) h
   end_stays (ends main_failed V) goes r h e f = subst (λ (r : Run). Stays y r.last) (some_is {o = Some (closes main_failed has_failed V)} refl e) h
   end_stays (ends spent V) goes r h e f = subst (λ (r : Run). Stays y r.last) (some_is {o = Some (closes spent has_spent V)} refl e) h
-  end_stays (ends go V) goes r h e f = absurd (none_some r e)
-  end_stays (ends returned V) goes r h e f = absurd (none_some r e)
-  end_stays (ends asks V) goes r h e f = absurd (none_some r e)
   end_stays (ends (calls_primitive n) V) goes r h e f = absurd (none_some r e)
-  end_stays (ends raised V) goes r h e f = absurd (none_some r e)
-  end_stays (ends unwinding V) goes r h e f = absurd (none_some r e)
+  end_stays _ goes r h e f = absurd (none_some r e)
 
   suspended_stays : (V : World) (x : Run) → suspends V ≡ Some x → Stays y V → Stays y x.last
   suspended_stays V x e h = subst (λ (r : Run). Stays y r.last) (some_is {o = suspends V} refl e) h

@@ -8,9 +8,9 @@ use Rattle.code_core.specs.Instruction.{opcode_of}
 use Rattle.code_core.specs.Prototype.{Prototype}
 use Rattle.code_core.specs.Check.{at}
 use Rattle.machine_core.specs.World.{Function, Wait, running, for_call, for_iterator, for_value, for_truth, dropped, for_concat, for_close, returning, leaving, LuaFrame, Frame, lua, pcall, xpcall, handler, closing, World, Stack, stack_of, lua_frame, Place, put_top, put_frames, in_progress}
-use Rattle.machine_core.specs.Text.{read, written, thrown, Own, read_register, read_registers, read_list, read_constant, read_varargs, see, write_register, write_registers, write_list, write_nils, end_list, cut_from, close_cells, mark_pending, see_pending, take_pending, drop_pending, keep_results, keep_pending, Quick, read_upvalue, write_upvalue, make_table, make_function, fill_table, pay, Text, go_by, own, open_cell, quick, operate, call, tail_call, close, closable, raise, leave, trap}
+use Rattle.machine_core.specs.Text.{read, written, thrown, Own, read_register, read_registers, read_list, mark_pending, Quick, read_upvalue, write_upvalue, make_table, make_function, fill_table, pay, Text, own, open_cell, quick, operate, call, close, closable, leave, trap}
 use Rattle.machine_core.specs.InstructionRows.{text_at, rest, rest_by, rest_at, arrived, fails, is_true, left_so}
-use Rattle.machine_core.specs.Moves.{give, give_with, see_top, made, TopShape, lua_top, pcall_top, xpcall_top, handler_top, closing_top, no_top, top_now, Ending, go, returned, asks, calls_primitive, raised, unwinding, spent, main_yielded, main_returned, main_failed, Row, traps, stop, act, Outcome, trapped, ends, run}
+use Rattle.machine_core.specs.Moves.{give, give_with, see_top, made, TopShape, lua_top, pcall_top, xpcall_top, handler_top, closing_top, no_top, top_now, Ending, go, returned, asks, calls_primitive, raised, unwinding, spent, Row, traps, stop, act, Outcome, trapped, ends, run}
 use Rattle.machine_core.specs.FrameRows.{then, hand_over, gives_up, by_asking, goes_on_by, handed_to, unwound}
 use Rattle.machine_core.specs.MachineStep.{woken, lua_step, frame_step, from_world, step_by, step, and_then, steps}
 use Rattle.machine_sound.specs.Sound.{Each, sizes, waits_at, LuaWaits, FrameWaits, RunsOrWaits, Rests, idle, on_top, all_wait, Sound}
@@ -34,21 +34,7 @@ own_free (read_register r) = refl
 own_free (read_registers from count) = λ r l. refl
 own_free (read_list from) = λ r l. refl
 own_free (mark_pending r) = refl
-own_free (read_constant n) = tt
-own_free read_varargs = tt
-own_free (see x) = tt
-own_free (write_register r x) = tt
-own_free (write_registers at count slot) = tt
-own_free (write_list at slot) = tt
-own_free (write_nils at count) = tt
-own_free end_list = tt
-own_free (cut_from r) = tt
-own_free (close_cells r) = tt
-own_free (see_pending r) = tt
-own_free (take_pending r) = tt
-own_free (drop_pending r) = tt
-own_free (keep_results from count) = tt
-own_free keep_pending = tt
+own_free _ = tt
 
 all_free : (ms : List Own) → AllRead unguarded ms
 all_free [] = tt
@@ -63,18 +49,14 @@ quick_free (fill_table x last slot) = tt
 quick_free pay = tt
 
 pub text_free : (t : Text) → Reads unguarded t
-text_free (go_by z) = tt
 text_free (own m k) = (own_free m, λ n s. text_free (k n s))
 text_free (open_cell r t) = text_free t
 text_free (quick q k) = (quick_free q, λ n. text_free (k n))
 text_free (operate op xs wait prepared t) = (all_free prepared, text_free t)
 text_free (call f slot wait prepared) = all_free prepared
-text_free (tail_call f slot) = tt
 text_free (close v e wait prepared) = all_free prepared
 text_free (closable v name t) = text_free t
-text_free (raise text) = tt
-text_free (leave given) = tt
-text_free trap = tt
+text_free _ = tt
 
 guarded_row : (g : Guard) (p : Prototype) → IsGuarded g p → (pc : ℕ) → RowOf g p pc (text_at p pc)
 guarded_row g p (free p') pc = apart (text_free (text_at p pc))
@@ -123,16 +105,8 @@ fails_reads g = (tt, λ n s. by n (is_true s))
 
 arrived_apart : (e : ℕ) (wait : Wait Value) (vs : List Value) → WaitOk e wait → Each (Apart e) vs → Each (Apart e) (arrived wait vs)
 arrived_apart e (leaving x) vs w v = each_one (Apart e) x w
-arrived_apart e (for_concat zero) vs w v = v
 arrived_apart e (for_concat (suc n)) vs w v = each_one (Apart e) (nth vs 0) (nth_ok (Apart e) tt vs 0 v)
-arrived_apart e running vs w v = v
-arrived_apart e for_call vs w v = v
-arrived_apart e for_iterator vs w v = v
-arrived_apart e for_value vs w v = v
-arrived_apart e for_truth vs w v = v
-arrived_apart e dropped vs w v = v
-arrived_apart e for_close vs w v = v
-arrived_apart e (returning n) vs w v = v
+arrived_apart e _ vs w v = v
 
 module _ (y : Home) (gs : List Guard) (W : World) (k : Keeps y gs W) (n : ℕ) (sound : Sound n W) where
   -- a Lua frame
@@ -202,10 +176,7 @@ module _ (y : Home) (gs : List Guard) (W : World) (k : Keeps y gs W) (n : ℕ) (
 
   frame_keeps : (s : Stack) (f : Frame) → OnStack W s → last s.frames ≡ Some f → OptionKeeps (frame_step W s f)
   frame_keeps s (lua f) o l = option_bind (slice_get W.functions f.function) _ (λ h e. step_of_lua s f h o l e)
-  frame_keeps s pcall o l = tt
-  frame_keeps s (xpcall v) o l = tt
-  frame_keeps s handler o l = tt
-  frame_keeps s (closing x xs) o l = tt
+  frame_keeps s _ o l = tt
 
   go_keeps : EndKeeps y (step_by (λ n. traps) go W)
   go_keeps = there (bind (stack_of W) (λ s. bind (last s.frames) (frame_step W s))) (option_bind (stack_of W) _ (λ s e. option_bind (last s.frames) _ (λ f q. frame_keeps s f (stack_there W s e) q)))
@@ -290,23 +261,13 @@ module _ (y : Home) (gs : List Guard) (W : World) (k : Keeps y gs W) (n : ℕ) (
     by_keeps (calls_primitive n) = (rows n).goes gs [] W (each_none (Apart y.table)) k
     by_keeps raised = raised_keeps.goes gs [] W (each_none (Apart y.table)) k
     by_keeps unwinding = seen unwound unwound_goes
-    by_keeps spent = (gs, k)
-    by_keeps main_yielded = (gs, k)
-    by_keeps main_returned = (gs, k)
-    by_keeps main_failed = (gs, k)
+    by_keeps _ = (gs, k)
 
     from_keeps : (o : Outcome) → EndKeeps y o → EndKeeps y (from_world W o)
     from_keeps trapped h = tt
     from_keeps (ends spent V) h = (gs, k)
-    from_keeps (ends main_yielded V) h = h
-    from_keeps (ends main_returned V) h = h
-    from_keeps (ends main_failed V) h = h
-    from_keeps (ends go V) h = h
-    from_keeps (ends returned V) h = h
-    from_keeps (ends asks V) h = h
     from_keeps (ends (calls_primitive n) V) h = h
-    from_keeps (ends raised V) h = h
-    from_keeps (ends unwinding V) h = h
+    from_keeps _ h = h
 
     pub step_keeps : (e : Ending) → EndKeeps y (step primitives e W)
     step_keeps e = from_keeps (step_by primitives e W) (by_keeps e)

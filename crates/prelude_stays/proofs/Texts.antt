@@ -2,7 +2,7 @@
 use Rattle.std.proofs.Common.{ℕ, suc, List, [], ◌∷◌, ◌++◌, Option, Some, None, length, drop, Bool, true, false, cond}
 use Rattle.std.specs.Prelude.{ℤ, codes}
 use Rattle.int_core.specs.Value.{Value}
-use Rattle.machine_core.specs.World.{Wait, running, for_call, for_iterator, for_value, for_truth, dropped, for_concat, for_close, returning, leaving, World, Place, place_of}
+use Rattle.machine_core.specs.World.{Wait, leaving, World, Place, place_of}
 use Rattle.machine_core.specs.Text.{Arg, read, arg, args_of, Own, Quick, read_upvalue, write_upvalue, make_table, make_function, fill_table, pay, Text, go_by, own, open_cell, quick, operate, call, tail_call, close, closable, raise, leave, trap, Given, results, thrown}
 use Rattle.machine_core.specs.Moves.{on_own, open_register, outside, settle, enter, await, enter_tail, find_close, is_closable, begin_leaving, leave_frame, move_pc, Made, named, CallShape, is_entered, is_primitive, not_paid, not_entered, SettledShape, is_found, is_asked, is_fault, TopShape, go, asks, raised, spent, Row, stop, only, act, Outcome, trapped, ends, with_own, move, run}
 use Rattle.machine_core.specs.FrameRows.{then, raises, after_call, When, at_once, by_asking, calls_row, prepares, after_leaving, expand_by}
@@ -35,16 +35,8 @@ leaving_keeps (results slot) top = handed_keeps top
 leaving_keeps (thrown x) top = stop_keeps
 
 wait_ok : (e : ℕ) (env : List Value) (w : Wait Arg) → Each (Apart e) env → WaitOk e (named env w)
-wait_ok e env running v = tt
-wait_ok e env for_call v = tt
-wait_ok e env for_iterator v = tt
-wait_ok e env for_value v = tt
-wait_ok e env for_truth v = tt
-wait_ok e env dropped v = tt
-wait_ok e env (for_concat n) v = tt
-wait_ok e env for_close v = tt
-wait_ok e env (returning n) v = tt
 wait_ok e env (leaving x) v = arg_apart e env x v
+wait_ok e env _ v = tt
 
 -- a row from a world in which the text's frame is on top
 abbrev pub Goes : Home → Guard → Row → Type 0

@@ -2,7 +2,7 @@
 use Rattle.std.proofs.Common.{ℕ, ◌-◌, ◌≡◌, List, [], ◌∷◌, ◌++◌, Option, Some, None, refl, subst, sym, ap, ◌∙◌, length, arith, Bool, true, false, cond, length-append}
 use Rattle.std.specs.Prelude.{slice_get, slice_set}
 use Rattle.int_core.specs.Value.{Value, object, a_table, bind, last, without_last}
-use Rattle.machine_core.specs.World.{Function, Cell, closed, LuaFrame, Frame, lua, Coroutine, fresh, suspended, in_progress, normal, dead, failed, World, Stack, stack_of, frames_of, running_frames, lua_frame, Place, place_of}
+use Rattle.machine_core.specs.World.{Function, Cell, closed, LuaFrame, Frame, lua, Coroutine, in_progress, World, Stack, stack_of, frames_of, running_frames, lua_frame, Place, place_of}
 use Rattle.machine_core.specs.Moves.{Made, Outcome, trapped, ends}
 use Rattle.machine_sound.specs.Sound.{Each}
 use Rattle.machine_sound.proofs.Lists.{bind_some, last_splits, last_push, each_set, each_last, each_front, some_is}
@@ -77,11 +77,7 @@ pub record OnStack (W : World) (s : Stack) : Type 0 where
 
 running_is : (c : Coroutine) (fs : List Frame) → running_frames c ≡ Some fs → c ≡ in_progress fs
 running_is (in_progress gs) fs e = let k : gs ≡ fs = cc in ap in_progress k
-running_is (fresh v) fs e = absurd (cc)
-running_is (suspended gs) fs e = absurd (cc)
-running_is (normal gs) fs e = absurd (cc)
-running_is dead fs e = absurd (cc)
-running_is (failed v vs) fs e = absurd (cc)
+running_is _ fs e = absurd (cc)
 
 pub stack_there : (W : World) (s : Stack) → stack_of W ≡ Some s → OnStack W s
 stack_there W s h =

@@ -91,20 +91,9 @@ not_read_for prelude content (reading.Refused why) reason refused told = no_sess
 not_read_for prelude content reading.Memory reason refused memory = inr memory
 
 fits_told : (content : List ℕ) (reason : Fault) (why : Refusal) → told_refusal reason ≡ Some why → IsNoImage content why → ImageFits content reason
-fits_told content fault.Words why told own = absurd (cc)
-fits_told content fault.Absent why told own = absurd (cc)
-fits_told content fault.Prelude why told own = absurd (cc)
-fits_told content (fault.Refused line) why told own = absurd (cc)
-fits_told content (fault.Rule rule line) why told own = absurd (cc)
-fits_told content (fault.NoChunk kind) why told own = absurd (cc)
-fits_told content (fault.BrokenRule number pc rule) why told own = absurd (cc)
-fits_told content fault.Spent why told own = absurd (cc)
-fits_told content fault.Device why told own = absurd (cc)
-fits_told content fault.InputLimit why told own = absurd (cc)
-fits_told content fault.TooLarge why told own = absurd (cc)
 fits_told content (fault.NoImage kind) why told own = let same : of_kind kind ≡ why = cc in subst (IsNoImage content) (sym same) own
 fits_told content (fault.NoPermanent kind key) why told own = let same : record { kind = kind; key = Some (key_read key) } ≡ why = cc in subst (IsNoImage content) (sym same) own
-fits_told content fault.Memory why told own = absurd (cc)
+fits_told content _ why told own = absurd (cc)
 
 pub image_tells : (name content content' : List ℕ) (held : Option FileMap) (prelude : Prototype) (reason : Fault) → IfSome held (λ files. files name ≡ Some content) → Holds held name content' → IsPreludeCode prelude
     → IsNoSessionFor prelude content reason ⊎ (reason ≡ fault.Memory) → ImageFits content' reason

@@ -119,10 +119,7 @@ waits_too has_spent meaning.is_broken e w = absurd w
 -- and the other way around
 pub waiting : (o : Outcome Body State) → EndsAs is_suspended o → IsWaiting o
 waiting (meaning.is_suspended W) e = tt
-waiting meaning.has_returned e = absurd e
-waiting meaning.has_failed e = absurd e
-waiting meaning.has_spent e = absurd e
-waiting meaning.is_broken e = absurd e
+waiting _ e = absurd e
 
 -- strings can hold the lines that are handed over
 pub handed_short : (lines : List (List ℕ)) → Each (λ (line : List ℕ). length line ≤ 2 ^ 20) lines → AreShort lines

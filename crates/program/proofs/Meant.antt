@@ -37,11 +37,7 @@ use Rattle.program.proofs.Endings.{told_lines, not_ended}
 -- a file that is not run has another status
 pub not_run_ends : (name : List ℕ) (files : Device FileMap) (status : ℕ) → IsNotRun name files status → has_ended status ≡ true → ⊥
 not_run_ends name files _ (running.absent lacks) ended = cc
-not_run_ends name files _ (running.unread rose kept) ended = cc
-not_run_ends name files _ (running.no_prelude bad) ended = cc
-not_run_ends name files _ (running.no_script content has begins bare) ended = cc
-not_run_ends name files _ (running.no_chunk content has begins bare) ended = cc
-not_run_ends name files _ running.no_memory ended = cc
+not_run_ends name files _ _ ended = cc
 
 -- what the run of a script's code does the script means
 pub run_meant : {builds : Builds Body} → BuildsSources builds → ScriptsDo → PreludeIsAlike → (name content : List ℕ) (lines : List (List ℕ)) (budget : ℕ) (run : Run)
@@ -63,10 +59,7 @@ run_meant {builds = builds} sources law alike name content lines budget run shor
 -- what is left of a run that came to an end tells how it closed
 ended_so : (prelude : Prototype) (run : Run) (save : Option (List ℕ)) (files : Device FileMap) (status : ℕ) → IsLeft prelude run save files status → has_ended status ≡ true → status ≡ status_of_close run.close
 ended_so prelude run save files _ (session.kept kept) ended = refl
-ended_so prelude run save files _ (session.too_large named waits large) ended = absurd (cc)
-ended_so prelude run save files _ (session.changed named waits other) ended = absurd (cc)
-ended_so prelude run save files _ (session.unwritten named waits rose) ended = absurd (cc)
-ended_so prelude run save files _ (session.no_memory named waits) ended = absurd (cc)
+ended_so prelude run save files _ _ ended = absurd (cc)
 
 -- a run that came to an end
 pub done : {builds : Builds Body} → BuildsSources builds → ScriptsDo → PreludeIsAlike → (name content text : List ℕ) (budget : ℕ) (prelude code : Prototype) (save : Option (List ℕ)) (files : Device FileMap) (input out : Device (List ℕ)) (last : Option Session) (status : ℕ) → length name ≤ 65536

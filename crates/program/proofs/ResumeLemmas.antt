@@ -42,10 +42,7 @@ use Rattle.program.proofs.Endings.{Ran, short_of}
 
 not_resumed_ends : (name : List ℕ) (files : Device FileMap) (status : ℕ) → IsNotResumed name files status → has_ended status ≡ true → ⊥
 not_resumed_ends name files _ (resuming.absent lacks) ended = cc
-not_resumed_ends name files _ (resuming.unread rose kept) ended = cc
-not_resumed_ends name files _ (resuming.no_prelude bad) ended = cc
-not_resumed_ends name files _ (resuming.no_session content has bare) ended = cc
-not_resumed_ends name files _ resuming.no_memory ended = cc
+not_resumed_ends name files _ _ ended = cc
 
 -- what is known whatever the cause is
 not_resumed_by : {builds : Builds Body} → (name : List ℕ) (budget : ℕ) (save : Option (List ℕ)) (f f' i k : ℕ) (held held' : Option FileMap) (left written : Option (List ℕ)) (last : Option Session) (status : ℕ)
@@ -107,20 +104,9 @@ no_prelude_resume name content budget save f i k held left written last prelude.
 -- the bytes are no session's image, or no memory is found
 
 status_8 : (reason : Fault) (why : Refusal) → told_refusal reason ≡ Some why → status_of_fault reason ≡ 8
-status_8 fault.Words why told = absurd (cc)
-status_8 fault.Absent why told = absurd (cc)
-status_8 fault.Prelude why told = absurd (cc)
-status_8 (fault.Refused line) why told = absurd (cc)
-status_8 (fault.Rule rule line) why told = absurd (cc)
-status_8 (fault.NoChunk kind) why told = absurd (cc)
-status_8 (fault.BrokenRule number pc rule) why told = absurd (cc)
-status_8 fault.Spent why told = absurd (cc)
-status_8 fault.Device why told = absurd (cc)
-status_8 fault.InputLimit why told = absurd (cc)
-status_8 fault.TooLarge why told = absurd (cc)
 status_8 (fault.NoImage kind) why told = refl
 status_8 (fault.NoPermanent kind key) why told = refl
-status_8 fault.Memory why told = absurd (cc)
+status_8 _ why told = absurd (cc)
 
 pub no_session_resume : {builds : Builds Body} → (name content : List ℕ) (budget : ℕ) (save : Option (List ℕ)) (prelude : Prototype) (f i k : ℕ) (held : Option FileMap) (left written : Option (List ℕ)) (last : Option Session) (reason : Fault) → IfSome held (λ h. h name ≡ Some content)
     → ((other : Prototype) → IsPreludeCode other → prelude ≡ other) → IsNoSessionFor prelude content reason ⊎ (reason ≡ fault.Memory)

@@ -46,10 +46,7 @@ frame_pending _ = []
 
 one_pending : (f : Kept → Value) (k : KeptFrame) → frame_pending (frame_of f k) ≡ kept_pending k
 one_pending f (kept_lua t) = refl
-one_pending f kept_pcall = refl
-one_pending f (kept_xpcall h) = refl
-one_pending f kept_handler = refl
-one_pending f (kept_closing error left) = refl
+one_pending f _ = refl
 
 all_pending : (f : Kept → Value) (ks : List KeptFrame) → map frame_pending (map (frame_of f) ks) ≡ map kept_pending ks
 all_pending f [] = refl

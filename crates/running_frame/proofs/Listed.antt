@@ -20,7 +20,7 @@ use Rattle.machine_sound.proofs.Values.{lt_true}
 use Rattle.table_core.specs.Table.{Contents}
 use Rattle.table_core.specs.declared.value.Value.{Value as Kept}
 use Rattle.lua_stack.proofs.Ends.{last_same, map_more}
-use Rattle.lua_stack.specs.Frames.{HasLuaTop, KeptFrame, KeptLua, KeptStack, TopBecomes, frame_of, frames, kept_closing, kept_handler, kept_lua, kept_pcall, kept_xpcall, with_opened, with_pc, with_registers}
+use Rattle.lua_stack.specs.Frames.{HasLuaTop, KeptFrame, KeptLua, KeptStack, TopBecomes, frame_of, frames, kept_lua, with_opened, with_pc, with_registers}
 use Rattle.lua_heap.specs.declared.world.Cell.{Cell}
 use Rattle.lua_heap.specs.Plain.{cell, heap}
 use Rattle.lua_heap.specs.Reading.{value}
@@ -41,10 +41,7 @@ list_is _ h = absurd (cc)
 
 lua_kept : (f : Kept → Value) (k : KeptFrame) (t : LuaFrame) → frame_of f k ≡ lua t → (u : KeptLua) × (k ≡ kept_lua u)
 lua_kept f (kept_lua u) t e = (u, refl)
-lua_kept f kept_pcall t e = absurd (cc)
-lua_kept f (kept_xpcall h) t e = absurd (cc)
-lua_kept f kept_handler t e = absurd (cc)
-lua_kept f (kept_closing error left) t e = absurd (cc)
+lua_kept f _ t e = absurd (cc)
 
 kept_top : {s : KeptStack} → HasLuaTop s → HasKept s 0
 kept_top {s} h =

@@ -7,7 +7,7 @@ use Rattle.machine_core.specs.World.{LuaFrame, lua}
 use Rattle.table_core.specs.declared.value.Value.{Value as Kept}
 use Rattle.table_core.specs.declared.value.Value.TheVariants.{Nil}
 use Rattle.machine_sound.proofs.Lists.{last_splits, some_is}
-use Rattle.lua_stack.specs.Frames.{HasLuaTop, HasRegisters, KeptFrame, KeptLua, KeptStack, TopBecomes, frame_of, frames, kept_closing, kept_handler, kept_lua, kept_pcall, kept_state, kept_xpcall, lua_of, with_registers}
+use Rattle.lua_stack.specs.Frames.{HasLuaTop, HasRegisters, KeptFrame, KeptLua, KeptStack, TopBecomes, frame_of, frames, kept_lua, kept_state, lua_of, with_registers}
 use Rattle.lua_stack.specs.declared.frame.LuaState.{LuaState}
 use Rattle.lua_stack.specs.declared.frame.Wait.TheVariants.{ForCall}
 use Rattle.running_frame.specs.Returning.{HasKept, IsCaller, IsCallerIn, IsGiven}
@@ -62,17 +62,13 @@ abbrev state_of : KeptLua → LuaState
 state_of t = record { function = t.function; wait = t.wait; pc = t.pc; size = length t.registers }
 
 waiting_there : (o : Option KeptFrame) (c : LuaState) → Some c ≡ kept_state o → c.wait ≡ ForCall → (t : KeptLua) × (o ≡ Some (kept_lua t)) × IsCallerIn t c
-waiting_there None c e w = absurd (cc)
 waiting_there (Some (kept_lua t)) c e w =
     let same : state_of t ≡ c = some_is {o = Some c} e refl in (
       t,
       refl,
       record { waits = ap (λ (c : LuaState). c.wait) same ∙ w; function = ap (λ (c : LuaState). c.function) same; pc = ap (λ (c : LuaState). c.pc) same; size = ap (λ (c : LuaState). c.size) same },
     )
-waiting_there (Some kept_pcall) c e w = absurd (cc)
-waiting_there (Some (kept_xpcall h)) c e w = absurd (cc)
-waiting_there (Some kept_handler) c e w = absurd (cc)
-waiting_there (Some (kept_closing error left)) c e w = absurd (cc)
+waiting_there _ c e w = absurd (cc)
 
 pub caller_there : (s : KeptStack) (c : LuaState) (o : Option KeptFrame) → Some c ≡ kept_state o → o ≡ last (without_last s.frames) → c.wait ≡ ForCall → IsCaller s c
 caller_there s c o e l w = let t = waiting_there o c e w in record { frame = t.0; at = sym l ∙ t.1; knows = t.2 }

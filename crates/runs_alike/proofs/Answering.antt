@@ -223,10 +223,6 @@ module _ {A B S T : Type 0} (Sa : System A S) (Sb : System B T) (R : Bool → A 
 
   pub resumes_out : (W : World A S) (bs : List B) (xss : List (List (Part T))) (xs : List (Part T)) (co : ℕ) (c : Coroutine S) (ys : List (Part T)) (vs : List Value)
       → Alike W bs xss xs → CoroutineLike Sa Sb R Q W.functions bs c ys → Both (resumes Sa W co c vs) (resumes Sb (dress_world W bs xss xs) co (dress_coroutine c ys) vs)
-  resumes_out W bs xss xs co running ys vs like one = now_out Sa Sb R Q W bs xss xs _ like
-  resumes_out W bs xss xs co (normal frames) ys vs like one = now_out Sa Sb R Q W bs xss xs _ like
-  resumes_out W bs xss xs co dead ys vs like one = now_out Sa Sb R Q W bs xss xs _ like
-  resumes_out W bs xss xs co (failed e pending) ys vs like one = now_out Sa Sb R Q W bs xss xs _ like
   resumes_out W bs xss xs co (suspended frames) ys vs like one =
       either_out Sa Sb R Q (nat_lt greatest_resumes (length W.chain)) _ _ _ _ (now_out Sa Sb R Q W bs xss xs _ like)
       (then_out Sa Sb R Q (goes_into W co frames) (now_in (goes_into W co frames) (gives_back vs)) (goes_into (dress_world W bs xss xs) co (dress frames ys)) (λ V. now_in V (gives_back vs))
@@ -235,6 +231,7 @@ module _ {A B S T : Type 0} (Sa : System A S) (Sb : System B T) (R : Bool → A 
       either_out Sa Sb R Q (nat_lt greatest_resumes (length W.chain)) _ _ _ _ (now_out Sa Sb R Q W bs xss xs _ like)
       (then_out Sa Sb R Q (goes_into W co []) (enters Sa (goes_into W co []) body vs raises_a) (goes_into (dress_world W bs xss xs) co []) (λ V. enters Sb V body vs raises_b)
       (along_out W bs xss xs co [] [] W.chain like tt) (λ bs' xss' xs' like'. enters_out (goes_into W co []) bs' xss' xs' body vs raises_a raises_b like' (raises_refusals (goes_into W co []) bs' xss' xs' like')))
+  resumes_out W bs xss xs co _ ys vs like one = now_out Sa Sb R Q W bs xss xs _ like
 
   dead_out : (W : World A S) (bs : List B) (xss : List (List (Part T))) (xs : List (Part T)) (co : ℕ) → Alike W bs xss xs → Both (put_coroutine W co dead) (put_coroutine (dress_world W bs xss xs) co dead)
   dead_out W bs xss xs co like = record {

@@ -8,8 +8,8 @@ use Rattle.code_core.specs.Check.{at}
 use Rattle.code_core.specs.Instruction.{opcode_of}
 use Rattle.code_core.specs.declared.instruction.Instruction.{Instruction}
 use Rattle.code_core.specs.declared.opcode.Opcode.{Opcode}
-use Rattle.machine_core.specs.World.{Wait, running, for_call, for_iterator, for_value, for_truth, dropped, for_concat, for_close, returning, leaving, Activation}
-use Rattle.machine_core.specs.Text.{last_pending, value_if, is_there, fits, done, Quick, read_upvalue, write_upvalue, make_table, make_function, fill_table, pay, Text, go_by, own, open_cell, quick, operate, call, tail_call, close, closable, raise, leave, trap, read, thrown}
+use Rattle.machine_core.specs.World.{Wait, running, leaving, Activation}
+use Rattle.machine_core.specs.Text.{last_pending, value_if, is_there, fits, done, Quick, make_function, Text, go_by, own, open_cell, quick, operate, call, tail_call, close, closable, raise, leave, trap, read, thrown}
 use Rattle.machine_core.specs.InstructionRows.{text_at, told_values, left_so, fails, rest_at, rest_by}
 use Rattle.machine_core.specs.Moves.{place_from, named}
 use Rattle.machine_core.specs.Talk.{State, before, amid, names_of, captured_done, says_so, heard, talk, talk_step}
@@ -29,15 +29,7 @@ LeavesSo stuck = Unit {0}
 
 told_left : (wait : Wait Value) (e : Value) → told_values wait (left e) ≡ e ∷ []
 told_left running e = refl
-told_left for_call e = refl
-told_left for_iterator e = refl
-told_left for_value e = refl
-told_left for_truth e = refl
-told_left dropped e = refl
-told_left (for_concat n) e = refl
-told_left for_close e = refl
-told_left (returning count) e = refl
-told_left (leaving v) e = refl
+told_left _ e = refl
 
 heard_left : (wait : Wait Value) (p : Prototype) (e : Value) (vs : List Value) (cell : ℕ) (a : Activation) (c : Captured) → IsLeaving (heard wait p (record { reply = left e; shared = vs; cell = cell }) a c)
 heard_left wait p e vs cell a c = record { error = e; activation = a; captured = c; is = ap (λ env. amid fails env a c) (told_left wait e) }
@@ -63,12 +55,8 @@ makes_quick (Some q) p k env a c = by (names_of q.own.upvalues c.held) where
   by (Some names) = λ e vs cell fits. absurd fits
 
 quick_left : (q : Quick) (p : Prototype) (k : ℕ → Text) (env : List Value) (a : Activation) (c : Captured) → LeavesSo (talk p (quick q k) env a c)
-quick_left (read_upvalue u) p k env a c = λ e vs cell fits. absurd fits
-quick_left (write_upvalue u x) p k env a c = λ e vs cell fits. absurd fits
-quick_left make_table p k env a c = λ e vs cell fits. absurd fits
 quick_left (make_function n) p k env a c = makes_quick (slice_get (list_of p.inner) n) p k env a c
-quick_left (fill_table t last slot) p k env a c = λ e vs cell fits. absurd fits
-quick_left pay p k env a c = λ e vs cell fits. absurd fits
+quick_left _ p k env a c = λ e vs cell fits. absurd fits
 
 talk_left : (p : Prototype) (t : Text) (env : List Value) (a : Activation) (c : Captured) → LeavesSo (talk p t env a c)
 talk_left p (go_by z) env a c = by (bind (place_from a.pc z) (λ pc. bind (at p pc) (λ _. Some pc))) where

@@ -3,7 +3,7 @@ use Rattle.std.proofs.Common.{◌≡◌, ℕ, zero, suc, ◌+◌, ◌-◌, ◌�
 use Rattle.std.specs.Prelude.{option_map}
 use Rattle.int_core.specs.Value.{Value}
 use Rattle.int_core.specs.Ask.{NextLike}
-use Rattle.lua_meaning.specs.World.{System, yielded, returned, failed_with, spent, broken, Now, talks, gives_back, raises_error, unwinds, calls_primitive, ends, World, as_known}
+use Rattle.lua_meaning.specs.World.{System, yielded, returned, failed_with, spent, broken, Now, ends, World, as_known}
 use Rattle.lua_meaning.specs.Step.{Primitives, has_ended, ticks}
 use Rattle.lua_meaning.specs.Meaning.{report, Outcome, has_returned, has_failed, has_spent, is_suspended, is_broken, Meaning, behind, meant, at_end, suspends, handed_line, run_from, onward}
 use Rattle.code_means.specs.Runs.{RunAlike}
@@ -19,11 +19,7 @@ sum_is (suc m) k = let h = sum_is m k in omega (arith, h)
 
 pub gives_ended : {F S : Type 0} → (now : Now) (W : World F S) (goes : World F S → Option (Meaning F S)) (m : Meaning F S) → at_end now W goes ≡ Some m → has_ended now ≡ true
 gives_ended (ends ending) W goes m given = refl
-gives_ended talks W goes m given = absurd (cc)
-gives_ended (gives_back vs) W goes m given = absurd (cc)
-gives_ended (raises_error e) W goes m given = absurd (cc)
-gives_ended (unwinds e) W goes m given = absurd (cc)
-gives_ended (calls_primitive n vs) W goes m given = absurd (cc)
+gives_ended _ W goes m given = absurd (cc)
 
 -- how the worlds stand to each other in which two runs are suspended
 abbrev pub WaitAlike : {A B S T : Type 0} → (World A S → World B T → Type 0) → Outcome A S → Outcome B T → Type 0
@@ -77,11 +73,7 @@ module _ {A B S T : Type 0} (Waits : World A S → World B T → Type 0) where
       last_out (meant U spent has_spent) m (meant V spent has_spent) given (record { printed = ap (λ t. t ++ report spent) same; outcome = tt }) tt
   turn_end (ends broken) U V goes on m same given more =
       last_out (meant U broken is_broken) m (meant V broken is_broken) given (record { printed = ap (λ t. t ++ report broken) same; outcome = tt }) tt
-  turn_end talks U V goes on m same given more = absurd (cc)
-  turn_end (gives_back vs) U V goes on m same given more = absurd (cc)
-  turn_end (raises_error e) U V goes on m same given more = absurd (cc)
-  turn_end (unwinds e) U V goes on m same given more = absurd (cc)
-  turn_end (calls_primitive n vs) U V goes on m same given more = absurd (cc)
+  turn_end _ U V goes on m same given more = absurd (cc)
 
 module _ {A B S T : Type 0} (Sa : System A S) (Sb : System B T) (R : Bool → A → B → Type 0) (Q : Bool → A → B → S → T → Type 0)
     (asks : (l : Bool) (a : A) (b : B) (s : S) (t : T) → Q l a b s t → Mid Sa Sb R Q l a b s t)

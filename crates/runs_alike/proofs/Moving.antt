@@ -3,7 +3,7 @@ use Rattle.std.proofs.Common.{◌≡◌, ℕ, zero, suc, Bool, true, false, cond
 use Rattle.std.specs.Prelude.{slice_get, slice_set}
 use Rattle.int_core.specs.Value.{Value}
 use Rattle.int_core.specs.Limits.{stack_overflow}
-use Rattle.lua_meaning.specs.World.{System, Function, Frame, talking, waiting, raising, protected, handled_by, handling, closing, Coroutine, fresh, suspended, running, normal, dead, failed, Now, gives_back, raises_error, World, now_in, on_frames, has_room, runs_main, position_of, positions_of, where_at, where_among, blamed, raises_text}
+use Rattle.lua_meaning.specs.World.{System, Function, Frame, talking, waiting, raising, protected, handled_by, handling, closing, Coroutine, suspended, running, normal, dead, failed, Now, gives_back, raises_error, World, now_in, on_frames, has_room, runs_main, position_of, positions_of, where_at, where_among, blamed, raises_text}
 use Rattle.lua_meaning.specs.Calls.{frames_in, back_to, returns_all, fails_all, all_pending, yields}
 use Rattle.runs_alike.proofs.Dressed.{Part, state, goes, dress_frame, dress, dress_coroutine, dress_coroutines, dress_world, FrameLike, FramesLike, CoroutineLike, CoroutinesLike, Like, Out, pending_same, length_same}
 
@@ -49,10 +49,7 @@ module _ {A B S T : Type 0} (Sa : System A S) (Sb : System B T) (R : Bool → A 
   frames_within : (fs : List (Function A)) (bs : List B) (c : Coroutine S) (xs : List (Part T)) → CoroutineLike Sa Sb R Q fs bs c xs → Within fs bs (Some c) (Some (dress_coroutine c xs))
   frames_within fs bs (suspended frames) xs like = record { ys = xs; same = refl; like = like }
   frames_within fs bs (normal frames) xs like = record { ys = xs; same = refl; like = like }
-  frames_within fs bs (fresh body) xs like = record { ys = []; same = refl; like = tt }
-  frames_within fs bs running xs like = record { ys = []; same = refl; like = tt }
-  frames_within fs bs dead xs like = record { ys = []; same = refl; like = tt }
-  frames_within fs bs (failed e pending) xs like = record { ys = []; same = refl; like = tt }
+  frames_within fs bs _ xs like = record { ys = []; same = refl; like = tt }
 
   pub get_like : (fs : List (Function A)) (bs : List B) (cs : List (Coroutine S)) (xss : List (List (Part T))) (k : ℕ)
       → CoroutinesLike Sa Sb R Q fs bs cs xss → Within fs bs (slice_get cs k) (slice_get (dress_coroutines cs xss) k)

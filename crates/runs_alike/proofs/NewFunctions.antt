@@ -1,7 +1,7 @@
 -- New functions leave what is there alike.
 use Rattle.std.proofs.Common.{◌≡◌, ℕ, zero, suc, Bool, List, [], ◌∷◌, ◌++◌, Some, refl, ap, subst}
 use Rattle.std.specs.Prelude.{slice_get}
-use Rattle.lua_meaning.specs.World.{System, Function, Frame, talking, waiting, raising, protected, handled_by, handling, closing, Coroutine, fresh, suspended, running, normal, dead, failed}
+use Rattle.lua_meaning.specs.World.{System, Function, Frame, talking, waiting, raising, protected, handled_by, handling, closing, Coroutine, suspended, normal}
 use Rattle.runs_alike.proofs.Dressed.{Part, state, goes, dressed_function, dress_functions, FunctionsLike, Body, FrameLike, FramesLike, CoroutineLike, CoroutinesLike}
 
 module _ {A B S T : Type 0} (Sa : System A S) (Sb : System B T) (R : Bool → A → B → Type 0) (Q : Bool → A → B → S → T → Type 0) where
@@ -55,10 +55,7 @@ module _ {A B S T : Type 0} (Sa : System A S) (Sb : System B T) (R : Bool → A 
       → CoroutineLike Sa Sb R Q fs bs c ys → CoroutineLike Sa Sb R Q (fs ++ x ∷ []) (bs ++ b ∷ []) c ys
   coroutine_more fs bs x b (suspended frames) ys all like = frames_more fs bs x b frames ys all like
   coroutine_more fs bs x b (normal frames) ys all like = frames_more fs bs x b frames ys all like
-  coroutine_more fs bs x b (fresh body) ys all like = tt
-  coroutine_more fs bs x b running ys all like = tt
-  coroutine_more fs bs x b dead ys all like = tt
-  coroutine_more fs bs x b (failed e pending) ys all like = tt
+  coroutine_more fs bs x b _ ys all like = tt
 
   pub coroutines_more : (fs : List (Function A)) (bs : List B) (x : Function A) (b : B) (cs : List (Coroutine S)) (xss : List (List (Part T))) → FunctionsLike Sa Sb R Q fs bs
       → CoroutinesLike Sa Sb R Q fs bs cs xss → CoroutinesLike Sa Sb R Q (fs ++ x ∷ []) (bs ++ b ∷ []) cs xss

@@ -134,19 +134,7 @@ begins_code l p b arguments means n = means n arguments
 
 named_reply : {F : Type 0} → (q : Ask F) (reply : Reply) → IsReplyTo (without_name q) reply → IsReplyTo q reply
 named_reply (reads_upvalue u) reply fits = fits
-named_reply (writes_upvalue u v) reply fits = fits
-named_reply makes_table reply fits = fits
-named_reply (makes_function f cells) reply fits = fits
-named_reply (fills_table t last vs) reply fits = fits
-named_reply pays reply fits = fits
-named_reply (opens v) reply fits = fits
-named_reply (operates op vs) reply fits = fits
-named_reply (calls f vs) reply fits = fits
-named_reply (calls_last f vs) reply fits = fits
-named_reply (marks v name) reply fits = fits
-named_reply (closes v e) reply fits = fits
-named_reply (raises text) reply fits = fits
-named_reply (leaves m) reply fits = fits
+named_reply _ reply fits = fits
 
 tree_known : (l : Bool) (x : Next Body TreeState) → tree_left.LeavesSo x → tree_left.LeavesSo (as_known l x)
 tree_known true x so = so

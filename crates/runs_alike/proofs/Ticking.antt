@@ -5,7 +5,7 @@ use Rattle.int_core.specs.Value.{Value, known, string, object, a_table, a_functi
 use Rattle.int_core.specs.Limits.{limited}
 use Rattle.int_core.specs.Operations.{is_function}
 use Rattle.int_core.specs.Ask.{Answer, IsLeft, FitsAsk, Next, goes_on, says, stuck, on_from, runs, NextLike}
-use Rattle.lua_meaning.specs.World.{System, Function, Frame, talking, protected, handled_by, Coroutine, fresh, suspended, running, normal, dead, failed, talks, gives_back, raises_error, World, now_in, breaks, raises_text, shared_in, as_known}
+use Rattle.lua_meaning.specs.World.{System, Function, Frame, talking, protected, handled_by, Coroutine, fresh, talks, gives_back, raises_error, World, now_in, breaks, raises_text, shared_in, as_known}
 use Rattle.lua_meaning.specs.Calls.{text}
 use Rattle.lua_meaning.specs.Asks.{turns}
 use Rattle.library_rows.specs.Look.{Done, done}
@@ -183,11 +183,7 @@ module _ {A B S T : Type 0} (Sa : System A S) (Sb : System B T) (R : Bool → A 
 
   status_same : (c : Coroutine S) (ys : List (Part T)) → status_of (dress_coroutine c ys) ≡ status_of c
   status_same (fresh body) ys = refl
-  status_same (suspended frames) ys = refl
-  status_same running ys = refl
-  status_same (normal frames) ys = refl
-  status_same dead ys = refl
-  status_same (failed e pending) ys = refl
+  status_same _ ys = refl
 
   runs_one_out : (W : World A S) (bs : List B) (xss : List (List (Part T))) (xs : List (Part T)) (chain : List ℕ) → Alike W bs xss xs → Both (runs_one W chain) (runs_one (dress_world W bs xss xs) chain)
   runs_one_out W bs xss xs [] like = now_out Sa Sb R Q W bs xss xs _ like

@@ -10,8 +10,8 @@ use Rattle.tree_core.specs.declared.name.Place.TheVariants.{Local as LocalPlace}
 use Rattle.tree_core.specs.declared.operator.UnOp.{UnOp}
 use Rattle.tree_core.specs.declared.operator.UnOp.TheVariants.{Neg, BitNot, Not, Len}
 use Rattle.tree_core.specs.declared.operator.BinOp.{BinOp}
-use Rattle.tree_core.specs.declared.operator.BinOp.TheVariants.{Add, Sub, Mul, Mod, Idiv, Band, Bor, Bxor, Shl, Shr, Concat, Eq, Ne, Lt, Le, Gt, Ge}
-use Rattle.tree_core.specs.Tree.{Block, Body, Stats, EndStats, MoreStats, Stat, Empty, Local, LocalFunction, Assign, CallStat, Do, While, Repeat, If, IfElse, NumFor, NumForStep, GenFor, Label, Goto, Break, Arms, EndArms, MoreArms, Exp, Nil, True, False, Int, Str, Vararg, Function, Var, Index, Call, Method, Unary, Binary, And, Or, Paren, Table, Exps, EndExps, MoreExps, Fields, EndFields, MoreFields, Item, Keyed}
+use Rattle.tree_core.specs.declared.operator.BinOp.TheVariants.{Add, Sub, Mul, Mod, Idiv, Band, Bor, Bxor, Shl, Shr}
+use Rattle.tree_core.specs.Tree.{Block, Body, Stats, EndStats, MoreStats, Stat, Label, Goto, Break, Arms, EndArms, MoreArms, Exp, Var, Index, Call, Method, Table, Exps, EndExps, MoreExps, Fields, EndFields, MoreFields, Item, Keyed}
 use Rattle.tree_activation.specs.Work.{End, falls_off, returns_list, until, Point, Target, to_local, to_upvalue, to_field, Purpose, for_call, for_return, for_declaration, for_assignment, for_counting, for_iterating, Control, evaluate, give, collect, construct, aim, store, choose, run, complete, decide, count_round, test_round, enter_round, capture, make, mark, pay, leave_scope, raise, finish, over, Work, key_of, object_of, field_of, operand_of, right_of, left_of, and_right, or_right, first_only, callee_of, method_of, listed, item_of, keyed_value, keyed_store, aimed_key, aimed_field, function_to, dropped, if_test, while_test, until_test, in_block, looping, repeating, counting, iterating, end_of_body, Pending, Activation, State, at}
 use Rattle.tree_activation.specs.Asking.{first, last_pending, leave_by, marks_local, captures_one, captures, cell_names}
 use Rattle.tree_terms.specs.Bodies.{upvalues_of}
@@ -50,23 +50,9 @@ reads_left line name (GlobalIn n) a k = λ e vs cell fits. leaving _ _ _
 reads_left line name (GlobalOf u) a k = λ e vs cell fits. absurd fits
 
 evaluates_left : (e : Exp) (a : Activation) (k : List Work) → LeavesSo (evaluates e a k)
-evaluates_left (Nil line) a k = tt
-evaluates_left (True line) a k = tt
-evaluates_left (False line) a k = tt
-evaluates_left (Int line n) a k = tt
-evaluates_left (Str line bytes) a k = tt
-evaluates_left (Vararg line) a k = tt
-evaluates_left (Function line body) a k = tt
 evaluates_left (Var line name) a k = reads_left line name.text name.place a k
-evaluates_left (Index line o key) a k = tt
-evaluates_left (Call line f es) a k = tt
-evaluates_left (Method line o name es) a k = tt
-evaluates_left (Unary line op b) a k = tt
-evaluates_left (Binary line op b c) a k = tt
-evaluates_left (And line b c) a k = tt
-evaluates_left (Or line b c) a k = tt
-evaluates_left (Paren line b) a k = tt
 evaluates_left (Table line fs) a k = λ e vs cell fits. absurd fits
+evaluates_left _ a k = tt
 
 gives_integer_left : (o : Option ℤ) (event : Event) (line : ℕ) (a : Activation) (k : List Work) → LeavesSo (gives_integer o event line a k)
 gives_integer_left None event line a k = tt
@@ -91,13 +77,7 @@ binary_left Bor line v w a k = arithmetic_left of_bor line v w a k
 binary_left Bxor line v w a k = arithmetic_left of_bxor line v w a k
 binary_left Shl line v w a k = arithmetic_left of_shl line v w a k
 binary_left Shr line v w a k = arithmetic_left of_shr line v w a k
-binary_left Concat line v w a k = λ e vs cell fits. leaving _ _ _
-binary_left Eq line v w a k = λ e vs cell fits. leaving _ _ _
-binary_left Ne line v w a k = λ e vs cell fits. leaving _ _ _
-binary_left Lt line v w a k = λ e vs cell fits. leaving _ _ _
-binary_left Le line v w a k = λ e vs cell fits. leaving _ _ _
-binary_left Gt line v w a k = λ e vs cell fits. leaving _ _ _
-binary_left Ge line v w a k = λ e vs cell fits. leaving _ _ _
+binary_left _ line v w a k = λ e vs cell fits. leaving _ _ _
 
 unary_left : (op : UnOp) (line : ℕ) (v : Value) (a : Activation) (k : List Work) → LeavesSo (unary op line v a k)
 unary_left Not line v a k = tt
@@ -137,11 +117,8 @@ captures_left line (n ∷ ns) next a k = either (nat_lt n (length a.locals)) _ _
 -- statements
 
 aims_at_left : (line : ℕ) (name : List ℕ) (place : Place) (aimed : List Target) (ts es : Exps) (a : Activation) (k : List Work) → LeavesSo (aims_at_name line name place aimed ts es a k)
-aims_at_left line name Unset aimed ts es a k = tt
-aims_at_left line name (LocalPlace n) aimed ts es a k = tt
-aims_at_left line name (Upvalue u) aimed ts es a k = tt
-aims_at_left line name (GlobalIn n) aimed ts es a k = tt
 aims_at_left line name (GlobalOf u) aimed ts es a k = λ e vs cell fits. absurd fits
+aims_at_left line name _ aimed ts es a k = tt
 
 aims_left : (aimed : List Target) (ts es : Exps) (a : Activation) (k : List Work) → LeavesSo (aims aimed ts es a k)
 aims_left aimed EndExps es a k = tt
@@ -194,22 +171,9 @@ breaks_left line a (iterating loop_line names b level ∷ k) = tt
 breaks_left line a (w ∷ k) = breaks_left line a k
 
 executes_left : (s : Stat) (a : Activation) (k : List Work) → LeavesSo (executes s a k)
-executes_left (Empty line) a k = tt
-executes_left (Local line names es) a k = tt
-executes_left (LocalFunction line name body) a k = tt
-executes_left (Assign line ts es) a k = tt
-executes_left (CallStat line e) a k = tt
-executes_left (Do line b) a k = tt
-executes_left (While line test b) a k = tt
-executes_left (Repeat line b test) a k = tt
-executes_left (If line some) a k = tt
-executes_left (IfElse line some b) a k = tt
-executes_left (NumFor line name from limit b) a k = tt
-executes_left (NumForStep line name from limit step b) a k = tt
-executes_left (GenFor line names es b) a k = tt
-executes_left (Label line name) a k = tt
 executes_left (Goto line name) a k = goes_to_left name.text line a k
 executes_left (Break line) a k = breaks_left line a k
+executes_left _ a k = tt
 
 returns_left : (line : ℕ) (es : Exps) (a : Activation) (k : List Work) → LeavesSo (begins_return line es a k)
 returns_left line (MoreExps (Call call_line f es) EndExps) a k = either (has_none a.pending) _ _ tt tt

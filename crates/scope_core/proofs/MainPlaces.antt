@@ -9,7 +9,7 @@ use Rattle.tree_core.specs.declared.name.Name.{Name}
 use Rattle.tree_core.specs.declared.name.UpName.{UpName}
 use Rattle.tree_core.specs.Tree.{Block, Body, BodyOf}
 use Rattle.scope_core.specs.Scopes.{Scope, Frame, bare, behind, is_local, is_variable, needed, environment, upvalue_of}
-use Rattle.scope_core.specs.Parts.{Part, Naming, Rest, Inner, Statement, Until, Result, Declares, Located, block_parts}
+use Rattle.scope_core.specs.Parts.{Part, Naming, Located, block_parts}
 use Rattle.scope_core.specs.Places.{up_name, outside_name, outside_all, placed, placed_block, main_upvalues}
 use Rattle.scope_core.specs.Walked.{own_upvalues, after_open, settled_block, main_frames}
 use Rattle.scope_core.proofs.Growing.{Extends, Grown, append_nil}
@@ -53,12 +53,7 @@ part_adds up s (Naming name) =
     let all : take (length s.frames - 0) s.frames ≡ s.frames = take_all (length s.frames - 0) s.frames (omega arith) in
     ap (λ fs. add_all up main_upvalues (if list_any (is_local (needed name.text s.frames)) fs then [] else needed name.text s.frames ∷ [])) all
     ∙ adds_nothing up name.text s.frames (list_any (is_local (needed name.text s.frames)) s.frames) refl
-part_adds up s (Rest line) = refl
-part_adds up s (Inner body) = refl
-part_adds up s (Statement stat) = refl
-part_adds up s (Until line test) = refl
-part_adds up s (Result line values) = refl
-part_adds up s (Declares line) = refl
+part_adds up s _ = refl
 
 parts_add : (up : List ℕ → UpName) (ps : List Located) → add_all up main_upvalues (outside_all 0 ps) ≡ main_upvalues
 parts_add up [] = refl

@@ -6,7 +6,7 @@ use Rattle.tree_core.specs.declared.name.Name.{Name}
 use Rattle.tree_core.specs.declared.name.Declared.{Declared}
 use Rattle.tree_core.specs.declared.name.Place.{Place}
 use Rattle.tree_core.specs.declared.name.UpName.{UpName}
-use Rattle.tree_core.specs.Tree.{Block, Falls, Returns, Body, BodyOf, Stats, EndStats, MoreStats, Stat, Empty, Local, LocalFunction, Assign, CallStat, Do, While, Repeat, If, IfElse, NumFor, NumForStep, GenFor, Label, Goto, Break, Arms, EndArms, MoreArms, Exps, EndExps, MoreExps, Exp, Nil, True, False, Int, Str, Vararg, Function, Var, Index, Call, Method, Unary, Binary, And, Or, Paren, Table, Fields, EndFields, MoreFields, Field, Item, Keyed}
+use Rattle.tree_core.specs.Tree.{Block, Falls, Returns, Body, BodyOf, Stats, EndStats, MoreStats, Stat, Local, LocalFunction, Assign, CallStat, Do, While, Repeat, If, IfElse, NumFor, NumForStep, GenFor, Arms, EndArms, MoreArms, Exps, EndExps, MoreExps, Exp, Function, Var, Index, Call, Method, Unary, Binary, And, Or, Paren, Table, Fields, EndFields, MoreFields, Field, Item, Keyed}
 use Rattle.scope_core.specs.declared.variable.Variable.{Variable}
 use Rattle.scope_core.specs.declared.variable.Variable.TheVariants.{Hidden}
 use Rattle.scope_core.specs.Scopes.{Scope, Frame, bare, declare, declare_all, declared_by, behind, behind_stats, plain_variable, declared_variable, needed, upvalue_of}
@@ -217,12 +217,6 @@ name_settled fs gs name x =
 
 mutual
   pub exp_settled : (e : Exp) (fs gs : List Frame) → Closed fs → Extends (after_exp fs e) gs → settled_exp fs e ≡ placed_exp gs e
-  exp_settled (Nil line) fs gs c x = refl
-  exp_settled (True line) fs gs c x = refl
-  exp_settled (False line) fs gs c x = refl
-  exp_settled (Int line value) fs gs c x = refl
-  exp_settled (Str line bytes) fs gs c x = refl
-  exp_settled (Vararg line) fs gs c x = refl
   exp_settled (Function line body) fs gs c x = ap (Function line) (body_settled body fs gs c x)
   exp_settled (Var line name) fs gs c x = ap (Var line) (name_settled fs gs name x)
   exp_settled (Index line a b) fs gs c x =
@@ -252,6 +246,7 @@ mutual
       ap₂ (Or line) (exp_settled a fs gs c (extends_through es (after_exp es b) gs (exp_grows b es d) x)) (exp_settled b es gs d x)
   exp_settled (Paren line inner) fs gs c x = ap (Paren line) (exp_settled inner fs gs c x)
   exp_settled (Table line fields) fs gs c x = ap (Table line) (fields_settled fields fs gs c x)
+  exp_settled _ fs gs c x = refl
 
   pub exps_settled : (es : Exps) (fs gs : List Frame) → Closed fs → Extends (after_exps fs es) gs → settled_exps fs es ≡ placed_exps gs es
   exps_settled EndExps fs gs c x = refl
@@ -330,7 +325,6 @@ mutual
       (sym (bare_declare_all gs vs) ∙ ap (λ hs. declare_all hs vs) e ∙ sym p.same))
 
   pub stat_settled : (t : Stat) (fs gs : List Frame) → Closed fs → Grown (after_stat fs t) gs → bare gs ≡ bare fs → settled_stat fs t ≡ placed_stat gs t
-  stat_settled (Empty line) fs gs c g e = refl
   stat_settled (Local line names values) fs gs c g e =
       let es : List Frame = after_exps fs values in
       let vs : List Variable = map declared_variable names in
@@ -447,9 +441,7 @@ mutual
       (exps_settled values fs gs c x)
       ∙ ap (GenFor line (placed_names (declare_all gs hidden) names) (placed_exps gs values))
       (block_settled block ds (declare_all gs vs) cd (grown_through last gs (declare_all gs vs) open' (grown_declare gs vs)) (declare_all_same es gs vs seen))
-  stat_settled (Label line name) fs gs c g e = refl
-  stat_settled (Goto line name) fs gs c g e = refl
-  stat_settled (Break line) fs gs c g e = refl
+  stat_settled _ fs gs c g e = refl
 
   pub arms_settled : (as' : Arms) (fs gs : List Frame) → Closed fs → Extends (after_arms fs as') gs → settled_arms fs as' ≡ placed_arms gs as'
   arms_settled EndArms fs gs c x = refl

@@ -1,6 +1,6 @@
 -- The effects of walks over all parts of a tree.
 use Rattle.std.proofs.Common.{ℕ, ◌≡◌, Bool, true, false, List, [], ◌∷◌, ◌++◌, refl, sym, ap, ◌∙◌, map, append_assoc}
-use Rattle.tree_core.specs.Tree.{Block, Falls, Returns, Body, BodyOf, Stats, EndStats, MoreStats, Stat, Empty, Local, LocalFunction, Assign, CallStat, Do, While, Repeat, If, IfElse, NumFor, NumForStep, GenFor, Label, Goto, Break, Arms, EndArms, MoreArms, Exps, EndExps, MoreExps, Exp, Nil, True, False, Int, Str, Vararg, Function, Var, Index, Call, Method, Unary, Binary, And, Or, Paren, Table, Fields, EndFields, MoreFields, Field, Item, Keyed}
+use Rattle.tree_core.specs.Tree.{Block, Falls, Returns, Body, BodyOf, Stats, EndStats, MoreStats, Stat, Local, LocalFunction, Assign, CallStat, Do, While, Repeat, If, IfElse, NumFor, NumForStep, GenFor, Arms, EndArms, MoreArms, Exps, EndExps, MoreExps, Exp, Vararg, Function, Var, Index, Call, Method, Unary, Binary, And, Or, Paren, Table, Fields, EndFields, MoreFields, Field, Item, Keyed}
 use Rattle.scope_core.specs.declared.variable.Variable.{Variable}
 use Rattle.scope_core.specs.declared.variable.Variable.TheVariants.{Hidden}
 use Rattle.scope_core.specs.Scopes.{Scope, Frame, bare, declare, declare_all, declared_by, behind, behind_stats, plain_variable, declared_variable}
@@ -52,11 +52,6 @@ regrouped fs gs b as' bs cs p = same_names fs gs b (as' ++ (bs ++ cs)) ((as' ++ 
 
 mutual
   pub exp_effect : (e : Exp) (fs : List Frame) (s : Scope) → s.frames ≡ bare fs → Closed fs → Effect fs (after_exp fs e) (bare fs) (exp_parts s e)
-  exp_effect (Nil line) fs s h c = nothing fs c
-  exp_effect (True line) fs s h c = nothing fs c
-  exp_effect (False line) fs s h c = nothing fs c
-  exp_effect (Int line value) fs s h c = nothing fs c
-  exp_effect (Str line bytes) fs s h c = nothing fs c
   exp_effect (Vararg line) fs s h c = same_names fs fs (bare fs) [] (exp_parts s (Vararg line)) (λ o. refl) (nothing fs c)
   exp_effect (Function line body) fs s h c = body_effect body fs s h c
   exp_effect (Var line name) fs s h c = naming fs s name h c
@@ -69,6 +64,7 @@ mutual
   exp_effect (Or line first second) fs s h c = two s h (exp_effect first fs s h c) (exp_effect second (after_exp fs first) s)
   exp_effect (Paren line inner) fs s h c = exp_effect inner fs s h c
   exp_effect (Table line fields) fs s h c = fields_effect fields fs s h c
+  exp_effect _ fs s h c = nothing fs c
 
   pub exps_effect : (es : Exps) (fs : List Frame) (s : Scope) → s.frames ≡ bare fs → Closed fs → Effect fs (after_exps fs es) (bare fs) (exps_parts s es)
   exps_effect EndExps fs s h c = nothing fs c
@@ -123,7 +119,6 @@ mutual
       (then_also fs gs (after_stats gs ss) (declare_all (bare fs) vs) (behind_stats (bare gs) ss) (stat_parts here stat) (stats_parts (with_variables s vs) (stat ∷ before) ends ss) p q))
 
   pub stat_effect : (t : Stat) (fs : List Frame) (s : Scope) → s.frames ≡ bare fs → Closed fs → Effect fs (after_stat fs t) (declare_all (bare fs) (declared_by t)) (stat_parts s t)
-  stat_effect (Empty line) fs s h c = nothing fs c
   stat_effect (Local line names values) fs s h c =
       let gs : List Frame = after_exps fs values in
       let vs : List Variable = map declared_variable names in
@@ -188,9 +183,7 @@ mutual
       (loop_ended fs es (after_open (declare_all es vs) block) block vs (exps_parts s values) (for_declarations hidden line names) (block_parts inner true block)
       (λ o. sym (names_outside o hidden names)) p
       (open_effect block (declare_all es vs) inner true (loop_frames s.frames es vs (h ∙ sym p.same)) (closed_declare es vs p.closed)))
-  stat_effect (Label line name) fs s h c = nothing fs c
-  stat_effect (Goto line name) fs s h c = nothing fs c
-  stat_effect (Break line) fs s h c = nothing fs c
+  stat_effect _ fs s h c = nothing fs c
 
   pub arms_effect : (as' : Arms) (fs : List Frame) (s : Scope) → s.frames ≡ bare fs → Closed fs → Effect fs (after_arms fs as') (bare fs) (arms_parts s as')
   arms_effect EndArms fs s h c = nothing fs c

@@ -2,7 +2,7 @@
 use Rattle.std.proofs.Common.{rules, arith, ℕ, suc, ◌≡◌, ◌≤◌, Bool, true, false, List, [], ◌∷◌, ◌++◌, refl, sym, ap, ◌∙◌, subst, length, map, drop}
 use Rattle.tree_core.specs.declared.name.Name.{Name}
 use Rattle.tree_core.specs.declared.name.UpName.{UpName}
-use Rattle.tree_core.specs.Tree.{Block, Falls, Returns, Body, BodyOf, Stats, EndStats, MoreStats, Stat, Empty, Local, LocalFunction, Assign, CallStat, Do, While, Repeat, If, IfElse, NumFor, NumForStep, GenFor, Label, Goto, Break, Arms, EndArms, MoreArms, Exps, EndExps, MoreExps, Exp, Nil, True, False, Int, Str, Vararg, Function, Var, Index, Call, Method, Unary, Binary, And, Or, Paren, Table, Fields, EndFields, MoreFields, Field, Item, Keyed}
+use Rattle.tree_core.specs.Tree.{Block, Falls, Returns, Body, BodyOf, Stats, EndStats, MoreStats, Stat, Empty, Local, LocalFunction, Assign, CallStat, Do, While, Repeat, If, IfElse, NumFor, NumForStep, GenFor, Label, Goto, Break, Arms, EndArms, MoreArms, Exps, EndExps, MoreExps, Exp, Function, Var, Index, Call, Method, Unary, Binary, And, Or, Paren, Table, Fields, EndFields, MoreFields, Field, Item, Keyed}
 use Rattle.tree_terms.specs.Bodies.{upvalues_of}
 use Rattle.scope_core.specs.declared.variable.Variable.{Variable}
 use Rattle.scope_core.specs.Scopes.{Scope, Frame, bare, declare_all, declared_by, plain_variable, numeric_hidden, generic_hidden}
@@ -91,12 +91,6 @@ inner_view {gs} {frames} {c} {hidden} {t} {us} params vararg inner ups line oute
 
 mutual
   pub exp_found : (e : Exp) {gs : List Frame} {hidden : List ℕ} {t : ℕ} (c : ℕ) (us : List UpName) (s : Scope) → View gs s.frames c hidden t us → HasAll us (outside_all c (exp_parts s e)) → (v : Bool) → ExpKeeps (placed_exp gs e) v → ExpFinds (placed_exp gs e) hidden t (length us)
-  exp_found (Nil line) c us s w h v k = tt
-  exp_found (True line) c us s w h v k = tt
-  exp_found (False line) c us s w h v k = tt
-  exp_found (Int line value) c us s w h v k = tt
-  exp_found (Str line bytes) c us s w h v k = tt
-  exp_found (Vararg line) c us s w h v k = tt
   exp_found (Function line body) c us s w h v k = body_found body c us s w h k
   exp_found (Var line name) c us s w h v k = place_there name.text w (name_known s name w h)
   exp_found (Index line a b) c us s w h v k =
@@ -114,6 +108,7 @@ mutual
       (exp_found a c us s w (first_has us c (exp_parts s a) (exp_parts s b) h) v k.0, exp_found b c us s w (last_has us c (exp_parts s a) (exp_parts s b) h) v k.1)
   exp_found (Paren line inner) c us s w h v k = exp_found inner c us s w h v k
   exp_found (Table line fields) c us s w h v k = fields_found fields c us s w h v k
+  exp_found _ c us s w h v k = tt
 
   pub exps_found : (es : Exps) {gs : List Frame} {hidden : List ℕ} {t : ℕ} (c : ℕ) (us : List UpName) (s : Scope) → View gs s.frames c hidden t us → HasAll us (outside_all c (exps_parts s es)) → (v : Bool) → ExpsKeep (placed_exps gs es) v → ExpsFind (placed_exps gs es) hidden t (length us)
   exps_found EndExps c us s w h v k = tt

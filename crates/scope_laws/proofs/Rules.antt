@@ -2,7 +2,7 @@
 use Rattle.std.proofs.Common.{arith, ℕ, ◌+◌, ◌≡◌, ◌≤◌, Bool, true, false, List, [], ◌∷◌, ◌++◌, refl, ap, ◌∙◌, length, map}
 use Rattle.std.proofs.lemmas.List.{length-map}
 use Rattle.tree_core.specs.declared.name.Name.{Name}
-use Rattle.tree_core.specs.Tree.{Block, Falls, Returns, Body, BodyOf, Stats, EndStats, MoreStats, Stat, Empty, Local, LocalFunction, Assign, CallStat, Do, While, Repeat, If, IfElse, NumFor, NumForStep, GenFor, Label, Goto, Break, Arms, EndArms, MoreArms, Exps, EndExps, MoreExps, Exp, Nil, True, False, Int, Str, Vararg, Function, Var, Index, Call, Method, Unary, Binary, And, Or, Paren, Table, Fields, EndFields, MoreFields, Field, Item, Keyed}
+use Rattle.tree_core.specs.Tree.{Block, Falls, Returns, Body, BodyOf, Stats, EndStats, MoreStats, Stat, Empty, Local, LocalFunction, Assign, CallStat, Do, While, Repeat, If, IfElse, NumFor, NumForStep, GenFor, Label, Goto, Break, Arms, EndArms, MoreArms, Exps, EndExps, MoreExps, Exp, Vararg, Function, Index, Call, Method, Unary, Binary, And, Or, Paren, Table, Fields, EndFields, MoreFields, Field, Item, Keyed}
 use Rattle.scope_core.specs.Scopes.{Scope, declared_by, plain_variable, numeric_hidden, generic_hidden}
 use Rattle.scope_core.specs.Parts.{Located, Until, Result, at, inside, with_variables, with_block, in_loop_of, loop_scope, scope_behind, name_declarations, declarations, for_declarations, exp_parts, exps_parts, fields_parts, field_parts, body_parts, block_parts, stats_parts, stat_parts, arms_parts}
 use Rattle.scope_core.specs.Held.{held, held_behind, held_stat}
@@ -39,14 +39,8 @@ counts_level s t name h =
 
 mutual
   pub exp_keeps : (e : Exp) (s : Scope) → Kept (exp_parts s e) → ExpKeeps e s.is_vararg
-  exp_keeps (Nil line) s k = tt
-  exp_keeps (True line) s k = tt
-  exp_keeps (False line) s k = tt
-  exp_keeps (Int line value) s k = tt
-  exp_keeps (Str line bytes) s k = tt
   exp_keeps (Vararg line) s k = allowed s.is_vararg line 8 k.0
   exp_keeps (Function line body) s k = body_keeps body s k
-  exp_keeps (Var line name) s k = tt
   exp_keeps (Index line a b) s k =
       (exp_keeps a s (front (exp_parts s a) (exp_parts s b) k), exp_keeps b s (back (exp_parts s a) (exp_parts s b) k))
   exp_keeps (Call line a b) s k =
@@ -62,6 +56,7 @@ mutual
       (exp_keeps a s (front (exp_parts s a) (exp_parts s b) k), exp_keeps b s (back (exp_parts s a) (exp_parts s b) k))
   exp_keeps (Paren line inner) s k = exp_keeps inner s k
   exp_keeps (Table line fields) s k = fields_keep fields s k
+  exp_keeps _ s k = tt
 
   pub exps_keep : (es : Exps) (s : Scope) → Kept (exps_parts s es) → ExpsKeep es s.is_vararg
   exps_keep EndExps s k = tt

@@ -8,7 +8,7 @@ use Rattle.load_rows.specs.Loading.{Builds}
 use Rattle.source_builds.specs.Builds.{BuildsSources, code_builds}
 use Rattle.machine_core.specs.Talk.{State as CodeState}
 use Rattle.machine_core.specs.World.{World}
-use Rattle.lua_meaning.specs.Meaning.{Meaning, Outcome, IsMeaning, has_returned as returned, has_failed as failed, has_spent as out_of_budget, is_suspended as waiting, is_broken}
+use Rattle.lua_meaning.specs.Meaning.{Meaning, Outcome, IsMeaning, is_broken}
 use Rattle.lua_meaning.specs.Opening.{primitives}
 use Rattle.lua_meaning.specs.TreeMeaning.{trees, tree_opening}
 use Rattle.scope_core.specs.Places.{placed}
@@ -43,11 +43,8 @@ not_alike is_suspended W e = absurd e
 
 -- what ends alike is broken as well
 broken_too : (y : Outcome Body State) → EndAlike {A = Body} {B = Body} {S = State} {T = State} is_broken y → y ≡ is_broken
-broken_too returned e = absurd e
-broken_too failed e = absurd e
-broken_too out_of_budget e = absurd e
-broken_too (waiting W) e = absurd e
 broken_too is_broken e = refl
+broken_too _ e = absurd e
 
 module _ (safe : LibraryThatLoadsIsSafe) (builds : Builds Body) (are : BuildsSources builds) (source : List ℕ) (tree : Block) (prelude : List (Entry Body)) (compiled : List (Entry Prototype)) (given : Option (List ℕ)) (input : List (List ℕ)) (budget : ℕ) (k : Begins source tree prelude compiled given input) where
   by_letter : (m : Meaning Body State) → IsMeaning (trees when_declared) (primitives builds) (tree_opening prelude) (script (placed tree) (name_in given) (is_known given)) input budget m → m.outcome ≡ is_broken → ⊥

@@ -1,6 +1,6 @@
 -- Code has the name of its source and its lines, or neither, and so have all functions that are defined in it.
 use Rattle.std.proofs.Common.{ℕ, List, Option, Some, None, refl}
-use Rattle.tree_core.specs.Tree.{Block, Falls, Returns, Body, BodyOf, Stats, EndStats, MoreStats, Stat, Empty, Local, LocalFunction, Assign, CallStat, Do, While, Repeat, If, IfElse, NumFor, NumForStep, GenFor, Label, Goto, Break, Arms, EndArms, MoreArms, Exp, Nil, True, False, Int, Str, Vararg, Function, Var, Index, Call, Method, Unary, Binary, And, Or, Paren, Table, Exps, EndExps, MoreExps, Fields, EndFields, MoreFields, Field, Item, Keyed}
+use Rattle.tree_core.specs.Tree.{Block, Falls, Returns, Body, BodyOf, Stats, EndStats, MoreStats, Stat, Local, LocalFunction, Assign, CallStat, Do, While, Repeat, If, IfElse, NumFor, NumForStep, GenFor, Arms, EndArms, MoreArms, Exp, Function, Index, Call, Method, Unary, Binary, And, Or, Paren, Table, Exps, EndExps, MoreExps, Fields, EndFields, MoreFields, Field, Item, Keyed}
 use Rattle.code_core.specs.Prototype.{Prototypes, none}
 use Rattle.code_of.specs.CodeOf.{parts_of, from_exp, from_exps, from_fields, from_field, from_stat, from_arms, from_stats, from_block, from_body, code_of}
 use Rattle.stat_laws.specs.Fits.{is_known}
@@ -27,13 +27,7 @@ module _ (given : Option (List ℕ)) where
     exp_named (Or line e d) rest r = exp_named e (from_exp given d rest) (exp_named d rest r)
     exp_named (Paren line e) rest r = exp_named e rest r
     exp_named (Table line fs) rest r = fields_named fs rest r
-    exp_named (Nil line) rest r = r
-    exp_named (True line) rest r = r
-    exp_named (False line) rest r = r
-    exp_named (Int line z) rest r = r
-    exp_named (Str line bytes) rest r = r
-    exp_named (Vararg line) rest r = r
-    exp_named (Var line name) rest r = r
+    exp_named _ rest r = r
 
     exps_named : (x : Exps) (rest : Prototypes) → Are rest → Are (from_exps given x rest)
     exps_named EndExps rest r = r
@@ -48,7 +42,6 @@ module _ (given : Option (List ℕ)) where
     field_named (Keyed line e d) rest r = exp_named e (from_exp given d rest) (exp_named d rest r)
 
     stat_named : (x : Stat) (rest : Prototypes) → Are rest → Are (from_stat given x rest)
-    stat_named (Empty line) rest r = r
     stat_named (Local line names es) rest r = exps_named es rest r
     stat_named (LocalFunction line name body) rest r = (parts_named given body, body_named body, r)
     stat_named (Assign line ts es) rest r = exps_named ts (from_exps given es rest) (exps_named es rest r)
@@ -62,9 +55,7 @@ module _ (given : Option (List ℕ)) where
     stat_named (NumForStep line name e d s b) rest r =
         exp_named e (from_exp given d (from_exp given s (from_block given b rest))) (exp_named d (from_exp given s (from_block given b rest)) (exp_named s (from_block given b rest) (block_named b rest r)))
     stat_named (GenFor line names es b) rest r = exps_named es (from_block given b rest) (block_named b rest r)
-    stat_named (Label line name) rest r = r
-    stat_named (Goto line name) rest r = r
-    stat_named (Break line) rest r = r
+    stat_named _ rest r = r
 
     arms_named : (x : Arms) (rest : Prototypes) → Are rest → Are (from_arms given x rest)
     arms_named EndArms rest r = r

@@ -3,7 +3,7 @@ use Rattle.std.proofs.Common.{◌≡◌, ℕ, zero, ◌≤◌, Bool, List, [], �
 use Rattle.std.specs.Prelude.{IsTrue, false, nat_le, map}
 use Rattle.std.specs.List.{list_all}
 use Rattle.int_core.specs.Value.{greatest_string}
-use Rattle.tree_core.specs.Tree.{Block, Falls, Returns, Body, BodyOf, Stats, EndStats, MoreStats, Stat, Empty, Local, LocalFunction, Assign, CallStat, Do, While, Repeat, If, IfElse, NumFor, NumForStep, GenFor, Label, Goto, Break, Arms, EndArms, MoreArms, Exp, Nil, True, False, Int, Str, Vararg, Function, Var, Index, Call, Method, Unary, Binary, And, Or, Paren, Table, Exps, EndExps, MoreExps, Fields, EndFields, MoreFields, Field, Item, Keyed}
+use Rattle.tree_core.specs.Tree.{Block, Falls, Returns, Body, BodyOf, Stats, EndStats, MoreStats, Stat, Local, LocalFunction, Assign, CallStat, Do, While, Repeat, If, IfElse, NumFor, NumForStep, GenFor, Arms, EndArms, MoreArms, Exp, Function, Index, Call, Method, Unary, Binary, And, Or, Paren, Table, Exps, EndExps, MoreExps, Fields, EndFields, MoreFields, Field, Item, Keyed}
 use Rattle.scope_core.specs.Places.{placed}
 use Rattle.code_core.specs.Prototype.{Prototypes, none, more, Prototype, prototypes, list_of}
 use Rattle.code_core.specs.Check.{IsChecked, AllChecked}
@@ -56,13 +56,7 @@ mutual
   exp_fit p (Or line e d) j h = both_fit (exp_bodies e) (exp_bodies d) (exp_fit p e _ h.0) (exp_fit p d _ h.1)
   exp_fit p (Paren line e) j h = exp_fit p e _ h
   exp_fit p (Table line fs) j h = fields_fit p fs _ h
-  exp_fit p (Nil line) j h = tt
-  exp_fit p (True line) j h = tt
-  exp_fit p (False line) j h = tt
-  exp_fit p (Int line z) j h = tt
-  exp_fit p (Str line bytes) j h = tt
-  exp_fit p (Vararg line) j h = tt
-  exp_fit p (Var line name) j h = tt
+  exp_fit p _ j h = tt
 
   exps_fit : (p : Prototype) (x : Exps) (j : ℕ) → InExps None p x j → AllFit (exps_bodies x)
   exps_fit p EndExps j h = tt
@@ -77,7 +71,6 @@ mutual
   field_fit p (Keyed line e d) j h = both_fit (exp_bodies e) (exp_bodies d) (exp_fit p e _ h.0) (exp_fit p d _ h.1)
 
   stat_fit : (p : Prototype) (x : Stat) (j : ℕ) → InStat None p x j → AllFit (stat_bodies x)
-  stat_fit p (Empty line) j h = tt
   stat_fit p (Local line names es) j h = exps_fit p es _ h
   stat_fit p (LocalFunction line name body) j h = (h.1, tt)
   stat_fit p (Assign line ts es) j h = both_fit (exps_bodies ts) (exps_bodies es) (exps_fit p ts _ h.0) (exps_fit p es _ h.1)
@@ -93,9 +86,7 @@ mutual
       both_fit (exp_bodies e ++ exp_bodies d ++ exp_bodies s) (block_bodies b)
       (both_fit (exp_bodies e ++ exp_bodies d) (exp_bodies s) (both_fit (exp_bodies e) (exp_bodies d) (exp_fit p e _ h.0) (exp_fit p d _ h.1.0)) (exp_fit p s _ h.1.1.0)) (block_fit p b _ h.1.1.1)
   stat_fit p (GenFor line names es b) j h = both_fit (exps_bodies es) (block_bodies b) (exps_fit p es _ h.0) (block_fit p b _ h.1)
-  stat_fit p (Label line name) j h = tt
-  stat_fit p (Goto line name) j h = tt
-  stat_fit p (Break line) j h = tt
+  stat_fit p _ j h = tt
 
   arms_fit : (p : Prototype) (x : Arms) (j : ℕ) → InArms None p x j → AllFit (arms_bodies x)
   arms_fit p EndArms j h = tt

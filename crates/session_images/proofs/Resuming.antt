@@ -9,7 +9,7 @@ use Rattle.list_laws.proofs.Tests.{eq_not}
 use Rattle.library_rows.specs.Library.{Entry, all_entries}
 use Rattle.library_rows.specs.PreludeText.{function_keys}
 use Rattle.lua_meaning.specs.Libraries.{environment_table}
-use Rattle.machine_core.specs.World.{Function, Cell, closed, open_at, Wait, running, for_call, for_iterator, for_value, for_truth, dropped, for_concat, for_close, returning, leaving, Frame, lua, pcall, xpcall, handler, closing, Coroutine, fresh, suspended, in_progress, normal, dead, failed, World}
+use Rattle.machine_core.specs.World.{Function, Cell, closed, open_at, Wait, leaving, Frame, lua, pcall, xpcall, handler, closing, Coroutine, fresh, suspended, in_progress, normal, dead, failed, World}
 use Rattle.machine_alike.specs.Agree.{SameNumber, SameCellNumber}
 use Rattle.machine_sound.specs.Sound.{Each, sizes, Valid, OptionOk, Solid, Sound, Standing, runs, resumed_another, apart, standing}
 use Rattle.machine_sound.proofs.Lists.{get_map, map_get}
@@ -73,15 +73,7 @@ module _ (prelude : List (Entry Prototype)) (library : IsLibrary prelude) (W : W
 
   wait_apart : (w : Wait Value) → Every FieldApart (wait_fields w)
   wait_apart (leaving e) = (tt, tt)
-  wait_apart running = tt
-  wait_apart for_call = tt
-  wait_apart for_iterator = tt
-  wait_apart for_value = tt
-  wait_apart for_truth = tt
-  wait_apart dropped = tt
-  wait_apart (for_concat n) = tt
-  wait_apart for_close = tt
-  wait_apart (returning n) = tt
+  wait_apart _ = tt
 
   error_apart : (e : Option Value) → Every FieldApart (error_fields e)
   error_apart None = tt

@@ -4,7 +4,7 @@ use Rattle.int_core.specs.Value.{greatest_string}
 use Rattle.list_laws.proofs.Items.{some_same}
 use Rattle.library_rows.specs.Library.{all_entries}
 use Rattle.machine_core.specs.World.{World}
-use Rattle.machine_core.specs.Moves.{Row, go, returned, asks, calls_primitive, raised, unwinding, spent, main_yielded, main_returned, main_failed, Outcome, trapped, ends}
+use Rattle.machine_core.specs.Moves.{Row, calls_primitive, spent, main_yielded, main_returned, main_failed, Outcome, ends}
 use Rattle.machine_core.specs.PrimitiveRows.{row_numbered}
 use Rattle.machine_sound.specs.Sound.{Each, Sound}
 use Rattle.machine_sound.proofs.Lists.{each_tail, each_append}
@@ -41,19 +41,14 @@ closed_otherwise : (c : Close) (x r : Run) → x.close ≡ c → (c ≡ is_suspe
 closed_otherwise c x r is other e s = other (sym is ∙ (ap (λ (m : Run). m.close) (some_same x r e) ∙ s))
 
 yielded : (o : Outcome) (goes : World → Option Run) (r : Run) → at_end o goes ≡ Some r → r.close ≡ is_suspended → Yields o goes r
-yielded trapped goes r e s = absurd (none_some r e)
 yielded (ends main_yielded V) goes r e s =
     let m = map_some (behind (turn_text main_yielded V)) (goes V) r e in
     record { world = V; rest = m.0; yields = refl; goes_on = m.1; suspended = ap (λ (x : Run). x.close) m.2 ∙ s; last = ap (λ (x : Run). x.last) m.2 }
 yielded (ends main_returned V) goes r e s = absurd (closed_otherwise has_returned (closes main_returned has_returned V) r refl (λ q. absurd (cc)) e s)
 yielded (ends main_failed V) goes r e s = absurd (closed_otherwise has_failed (closes main_failed has_failed V) r refl (λ q. absurd (cc)) e s)
 yielded (ends spent V) goes r e s = absurd (closed_otherwise has_spent (closes spent has_spent V) r refl (λ q. absurd (cc)) e s)
-yielded (ends go V) goes r e s = absurd (none_some r e)
-yielded (ends returned V) goes r e s = absurd (none_some r e)
-yielded (ends asks V) goes r e s = absurd (none_some r e)
 yielded (ends (calls_primitive n) V) goes r e s = absurd (none_some r e)
-yielded (ends raised V) goes r e s = absurd (none_some r e)
-yielded (ends unwinding V) goes r e s = absurd (none_some r e)
+yielded _ goes r e s = absurd (none_some r e)
 
 module _ (build : Row) (fit : IsFit build) (budget : ℕ) where
   pub record Waits (W : World) : Type 0 where

@@ -9,7 +9,7 @@ use Rattle.library_rows.specs.Library.{Entry, all_entries}
 use Rattle.library_rows.specs.PreludeText.{function_keys}
 use Rattle.list_laws.proofs.Items.{some_same}
 use Rattle.machine_core.specs.World.{Frame, Coroutine, suspended, World}
-use Rattle.machine_alike.specs.Agree.{Pairs, SameNumber, Both, Each as EachOf, SameCoroutine, same_fresh, same_suspended, same_in_progress, same_normal, same_dead, same_failed}
+use Rattle.machine_alike.specs.Agree.{Pairs, SameNumber, Both, Each as EachOf, SameCoroutine, same_suspended}
 use Rattle.machine_sound.specs.Sound.{Each, sizes, Valid, Solid, Sound}
 use Rattle.machine_runs.specs.Laws.{MayTurn}
 use Rattle.machine_runs.specs.Opening.{opening, prelude_function}
@@ -40,12 +40,8 @@ use Rattle.sessions_load.specs.Law.{IsLoadable}
 -- the main coroutine of a world that agrees with one in which it has yielded
 
 suspended_so : (p : Pairs) (fs : List Frame) (c d : Coroutine) → c ≡ suspended fs → SameCoroutine p c d → (gs : List Frame) × (d ≡ suspended gs)
-suspended_so p fs _ _ e (same_fresh v w s) = absurd (cc)
 suspended_so p fs _ _ e (same_suspended xs gs s) = (gs, refl)
-suspended_so p fs _ _ e (same_in_progress xs gs s) = absurd (cc)
-suspended_so p fs _ _ e (same_normal xs gs s) = absurd (cc)
-suspended_so p fs _ _ e same_dead = absurd (cc)
-suspended_so p fs _ _ e (same_failed v w vs ws s t) = absurd (cc)
+suspended_so p fs _ _ e _ = absurd (cc)
 
 coroutine_so : (p : Pairs) (fs : List Frame) (a b : Option Coroutine) → a ≡ Some (suspended fs) → Both (SameCoroutine p) a b → (gs : List Frame) × (b ≡ Some (suspended gs))
 coroutine_so p fs None b e s = absurd s

@@ -5,9 +5,9 @@ use Rattle.int_core.specs.Value.{string, Value}
 use Rattle.list_laws.proofs.Items.{some_same}
 use Rattle.lua_meaning.specs.Meaning.{report_text, report_values}
 use Rattle.machine_core.specs.World.{World}
-use Rattle.machine_core.specs.Moves.{Ending, go, returned, asks, calls_primitive, raised, unwinding, spent, main_yielded, main_returned, main_failed, Row, Outcome}
+use Rattle.machine_core.specs.Moves.{Ending, calls_primitive, spent, main_yielded, main_returned, main_failed, Row, Outcome}
 use Rattle.machine_alike.specs.Agree.{Pairs, SameValue, same_known, same_object, SameValues, Agree, AgreeInTurn, Extends}
-use Rattle.machine_alike.specs.Laws.{SameOutcome, both_trap, both_end, NoneMade}
+use Rattle.machine_alike.specs.Laws.{SameOutcome, both_end, NoneMade}
 use Rattle.machine_alike.proofs.Same.{extends_self, extends_on}
 use Rattle.machine_runs.specs.Opening.{handed_line}
 use Rattle.machine_runs.specs.Runs.{turn, report, Close, has_returned, has_failed, has_spent, is_suspended, Run, turn_text, closes, behind, suspends, at_end, run_from, onward, CodeRun, CodeOnward}
@@ -33,13 +33,7 @@ report_same : (p : Pairs) (e : Ending) (vs ws : List Value) → SameValues p vs 
 report_same p main_yielded vs ws h = ap (λ t. codes "yield" ++ t) (values_same p vs ws h)
 report_same p main_returned vs ws h = ap (λ t. codes "return" ++ t) (values_same p vs ws h)
 report_same p main_failed vs ws h = ap (λ t. codes "error" ++ t) (values_same p vs ws h)
-report_same p spent vs ws h = refl
-report_same p go vs ws h = refl
-report_same p returned vs ws h = refl
-report_same p asks vs ws h = refl
-report_same p (calls_primitive n) vs ws h = refl
-report_same p raised vs ws h = refl
-report_same p unwinding vs ws h = refl
+report_same p _ vs ws h = refl
 
 turn_same : (p : Pairs) (e : Ending) (W X : World) → AgreeInTurn p W X → turn_text e W ≡ turn_text e X
 turn_same p e W X a = ap₂ (λ (s t : List ℕ). s ++ t) a.printed (report_same p e W.moving X.moving a.moving)
@@ -68,17 +62,12 @@ behind_same p s t (Some x) u r e h f =
 
 ended_same : (p : Pairs) (o u : Outcome) (goes on : World → Option Run) (r : Run) → SameOutcome p o u → at_end o goes ≡ Some r
     → ((q : Pairs) (W X : World) → Extends p q → AgreeInTurn q W X → (x : Run) → goes W ≡ Some x → Given p x (on X)) → Given p r (at_end u on)
-ended_same p o u goes on r both_trap h f = absurd (cc)
 ended_same p o u goes on r (both_end q main_yielded W X more a) h f = behind_same p (turn_text main_yielded W) (turn_text main_yielded X) (goes W) (on X) r (turn_same q main_yielded W X a) h (f q W X more a)
 ended_same p o u goes on r (both_end q main_returned W X more a) h f = closed_same p q main_returned has_returned W X r more a h
 ended_same p o u goes on r (both_end q main_failed W X more a) h f = closed_same p q main_failed has_failed W X r more a h
 ended_same p o u goes on r (both_end q spent W X more a) h f = closed_same p q spent has_spent W X r more a h
-ended_same p o u goes on r (both_end q go W X more a) h f = absurd (cc)
-ended_same p o u goes on r (both_end q returned W X more a) h f = absurd (cc)
-ended_same p o u goes on r (both_end q asks W X more a) h f = absurd (cc)
 ended_same p o u goes on r (both_end q (calls_primitive n) W X more a) h f = absurd (cc)
-ended_same p o u goes on r (both_end q raised W X more a) h f = absurd (cc)
-ended_same p o u goes on r (both_end q unwinding W X more a) h f = absurd (cc)
+ended_same p o u goes on r _ h f = absurd (cc)
 
 suspended_same : (p q : Pairs) (W X : World) → Extends p q → Agree q W X → (x : Run) → suspends W ≡ Some x → Given p x (suspends X)
 suspended_same p q W X more a x h = (

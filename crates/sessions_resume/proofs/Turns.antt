@@ -3,10 +3,10 @@ use Rattle.std.proofs.Common.{ℕ, List, [], ◌∷◌, ◌++◌, Option, Some, 
 use Rattle.std.specs.Prelude.{slice_get}
 use Rattle.int_core.specs.Value.{a_coroutine, Value}
 use Rattle.machine_core.specs.World.{Frame, Coroutine, World}
-use Rattle.machine_core.specs.Moves.{Made, made, CallShape, is_entered, is_primitive, not_paid, not_entered, TopShape, lua_top, pcall_top, xpcall_top, handler_top, closing_top, no_top, ResumeShape, resumed, refused, put_coroutine, go_into, starts_in, enters, Row, Outcome, run}
+use Rattle.machine_core.specs.Moves.{Made, made, CallShape, is_entered, is_primitive, not_paid, not_entered, TopShape, lua_top, ResumeShape, resumed, refused, put_coroutine, go_into, starts_in, enters, Row, Outcome, run}
 use Rattle.machine_core.specs.MachineStep.{after_resume, and_then, steps}
 use Rattle.machine_core.specs.FrameRows.{handed}
-use Rattle.machine_alike.specs.Agree.{Pairs, SameNumber, SameValues, SameFrames, SameCoroutine, same_fresh, same_suspended, same_in_progress, same_normal, same_dead, same_failed, Agree, AgreeInTurn}
+use Rattle.machine_alike.specs.Agree.{Pairs, SameNumber, SameValues, SameFrames, SameCoroutine, same_fresh, same_suspended, same_in_progress, Agree, AgreeInTurn}
 use Rattle.machine_alike.specs.Laws.{SameOutcome, both_trap, both_end, MadeAlike, Alike, NoneMade}
 use Rattle.machine_alike.proofs.Pairwise.{each_bind, zip_append}
 use Rattle.machine_alike.proofs.Same.{extends_self, coroutine_at}
@@ -21,11 +21,7 @@ use Rattle.machine_runs.specs.Runs.{resumed_main, after_waking, wakes, with_budg
 
 handed_none : (t : TopShape) → NoneMade (handed t)
 handed_none lua_top = tt
-handed_none pcall_top = tt
-handed_none xpcall_top = tt
-handed_none handler_top = tt
-handed_none closing_top = tt
-handed_none (no_top b) = tt
+handed_none _ = tt
 
 resumed_none : (s : ResumeShape) → NoneMade (after_resume s)
 resumed_none (resumed is_entered) = λ n t. handed_none t
@@ -51,10 +47,7 @@ starts p W X i j vs ws a h s c d (same_fresh v w k) =
     (enters_same p (go_into W i []) (go_into X j []) v w vs ws (into_agrees p W X i j [] [] a h tt) k s)
 starts p W X i j vs ws a h s c d (same_suspended fs gs k) =
     made_same p p ResumeShape _ _ [] [] (resumed is_entered) (resumed is_entered) (extends_self p) (moving_agrees p (go_into W i fs) (go_into X j gs) vs ws (into_agrees p W X i j fs gs a h k) s) tt refl
-starts p W X i j vs ws a h s c d (same_in_progress fs gs k) = refuses p W X _ a
-starts p W X i j vs ws a h s c d (same_normal fs gs k) = refuses p W X _ a
-starts p W X i j vs ws a h s c d same_dead = refuses p W X _ a
-starts p W X i j vs ws a h s c d (same_failed v w xs ys k l) = refuses p W X _ a
+starts p W X i j vs ws a h s c d _ = refuses p W X _ a
 
 resumes : (p : Pairs) (W X : World) → AgreeInTurn p W X → Alike p ResumeShape (resumed_main W) (resumed_main X)
 resumes p W X a =

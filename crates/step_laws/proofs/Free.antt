@@ -54,11 +54,7 @@ prepares_never (m ∷ ms) r h = λ n t. prepares_never ms r h
 
 pub handed_never : (top : TopShape) → NeverSpends (handed top)
 handed_never lua_top = λ s. s
-handed_never pcall_top = λ s. s
-handed_never xpcall_top = λ s. s
-handed_never handler_top = λ s. s
-handed_never closing_top = λ s. s
-handed_never (no_top in_main) = λ s. s
+handed_never _ = λ s. s
 
 pub raises_never : (text : List ℕ) → NeverSpends (raises text)
 raises_never text = λ n t s. s

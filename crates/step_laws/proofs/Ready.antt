@@ -5,7 +5,7 @@ use Rattle.int_core.specs.Value.{Value}
 use Rattle.code_core.specs.Prototype.{Prototype}
 use Rattle.code_core.specs.Check.{at}
 use Rattle.machine_core.specs.World.{Function, Wait, running, Place}
-use Rattle.machine_core.specs.Moves.{Ending, go, returned, asks, calls_primitive, raised, unwinding, spent, main_yielded, main_returned, main_failed}
+use Rattle.machine_core.specs.Moves.{Ending, go, calls_primitive, spent, main_yielded, main_returned, main_failed}
 use Rattle.machine_sound.specs.Sound.{sizes, waits_at, waiting_size, LuaWaits, Solid, TopIs, RunsOrWaits, FitsIfRuns, Settled, StackWaits, Rests, idle, on_top, all_wait, Sound}
 use Rattle.machine_sound.specs.Safe.{EndIs}
 use Rattle.machine_sound.specs.Laws.{StepGood}
@@ -41,15 +41,12 @@ sound_by n W f g s = record { solid = solid_by n W f g s.solid; rests = rests_by
 
 end_by : (n : ℕ) (e : Ending) (W : Memory) (f g : ℕ) → Solid n (plain W f) → EndIs n e (plain W f) → EndIs n e (plain W g)
 end_by n go W f g s k = settled_by n W f g s k
-end_by n returned W f g s k = waits_by n W f g k
 end_by n (calls_primitive m) W f g s k = record { all = waits_by n W f g k.all; there = k.there }
-end_by n asks W f g s k = waits_by n W f g k
-end_by n raised W f g s k = waits_by n W f g k
-end_by n unwinding W f g s k = waits_by n W f g k
 end_by n spent W f g s k = tt
 end_by n main_yielded W f g s k = k
 end_by n main_returned W f g s k = k
 end_by n main_failed W f g s k = k
+end_by n _ W f g s k = waits_by n W f g k
 
 pub ready_by_fuel : ReadyByFuel
 ready_by_fuel n e W f g s = record { sound = sound_by n W f g s.sound; ready = end_by n e W f g s.sound.solid s.ready }

@@ -5,11 +5,11 @@ use Rattle.int_core.specs.Ask.{values}
 use Rattle.int_core.specs.Value.{Value, last}
 use Rattle.code_core.specs.Prototype.{Prototype}
 use Rattle.code_core.specs.Instruction.{opcode_of}
-use Rattle.machine_core.specs.World.{LuaFrame, Stack, stack_of, Place, place_of, World, Wait, running, for_call, for_iterator, for_value, for_truth, dropped, for_concat, for_close, returning, leaving}
+use Rattle.machine_core.specs.World.{LuaFrame, Stack, stack_of, Place, place_of, World, Wait, running}
 use Rattle.machine_core.specs.Text.{Text, trap}
 use Rattle.machine_core.specs.InstructionRows.{text_at, text_by, rest_at, rest_by, told_values}
 use Rattle.machine_core.specs.FrameRows.{expand, goes_on_by, asked_row, raised_row, unwound, handed_to, results_row, unwinding_row}
-use Rattle.machine_core.specs.Moves.{Ending, go, returned, asks, calls_primitive, raised, unwinding, spent, main_yielded, main_returned, main_failed, see_top, Row, act, Outcome, trapped, run}
+use Rattle.machine_core.specs.Moves.{Ending, go, spent, main_yielded, main_returned, main_failed, see_top, Row, act, Outcome, trapped, run}
 use Rattle.machine_core.specs.MachineStep.{woken, lua_step, top_step, from_world}
 use Rattle.machine_sound.specs.Sound.{Solid, StackWaits}
 use Rattle.machine_sound.specs.Safe.{waiting, Safe, Good}
@@ -92,15 +92,7 @@ answer_is_safe old woken k s w = record {
 
 waiting_step_is : (W : World) (s : Stack) (f : LuaFrame) (p : Prototype) (wait : Wait Value) → (wait ≡ running → ⊥) → lua_step W s f p wait ≡ run (goes_on_by (rest_at wait p f.own.pc)) (told_values wait (values W.moving)) (woken W s f)
 waiting_step_is W s f p running r = absurd (r refl)
-waiting_step_is W s f p (leaving e) r = refl
-waiting_step_is W s f p for_call r = refl
-waiting_step_is W s f p for_iterator r = refl
-waiting_step_is W s f p for_value r = refl
-waiting_step_is W s f p for_truth r = refl
-waiting_step_is W s f p dropped r = refl
-waiting_step_is W s f p (for_concat c) r = refl
-waiting_step_is W s f p for_close r = refl
-waiting_step_is W s f p (returning c) r = refl
+waiting_step_is W s f p _ r = refl
 
 pub answer_is_step : AnswerIsStep
 answer_is_step rows old awake new fuel to k w l = record {
@@ -176,13 +168,8 @@ pub primitive_is_step : PrimitiveIsStep
 primitive_is_step rows n old new fuel left to s = record { is = s.is }
 
 pub end_stays : EndStays
-end_stays rows go W fuel e = absurd (cc)
-end_stays rows returned W fuel e = absurd (cc)
-end_stays rows asks W fuel e = absurd (cc)
-end_stays rows (calls_primitive n) W fuel e = absurd (cc)
-end_stays rows raised W fuel e = absurd (cc)
-end_stays rows unwinding W fuel e = absurd (cc)
 end_stays rows spent W fuel e = record { is = refl }
 end_stays rows main_yielded W fuel e = record { is = refl }
 end_stays rows main_returned W fuel e = record { is = refl }
 end_stays rows main_failed W fuel e = record { is = refl }
+end_stays rows _ W fuel e = absurd (cc)

@@ -42,16 +42,12 @@ unpaid_never (quick (write_upvalue u x) k) h = λ n b. unpaid_never (k n) (h n)
 unpaid_never (quick make_table k) h = λ n b. unpaid_never (k n) (h n)
 unpaid_never (quick (make_function m) k) h = λ n b. unpaid_never (k n) (h n)
 unpaid_never (quick (fill_table x last slot) k) h = λ n b. unpaid_never (k n) (h n)
-unpaid_never (quick pay k) h = absurd h
-unpaid_never (operate op xs wait prepared t) h = absurd h
-unpaid_never (call f slot wait prepared) h = absurd h
-unpaid_never (tail_call f slot) h = absurd h
-unpaid_never (close v e wait prepared) h = absurd h
 unpaid_never (closable v name t) h = closable_never t name (unpaid_never t h)
 unpaid_never (raise text) h = raises_never text
 unpaid_never (leave (results slot)) h = λ n top. handed_never top
 unpaid_never (leave (thrown x)) h = λ n top s. s
 unpaid_never trap h = tt
+unpaid_never _ h = absurd h
 
 -- the forms that are so
 

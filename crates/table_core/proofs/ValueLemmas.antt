@@ -22,12 +22,7 @@ pub value_eq-refl : (a : Value) → value_eq a a ≡ true
 value_eq-refl Nil = refl
 value_eq-refl (Boolean true) = refl
 value_eq-refl (Boolean false) = refl
-value_eq-refl (Int a) = grind (arith, nat_tests)
-value_eq-refl (Str a) = grind (arith, nat_tests)
-value_eq-refl (Prim a) = grind (arith, nat_tests)
-value_eq-refl (Table a) = grind (arith, nat_tests)
-value_eq-refl (Func a) = grind (arith, nat_tests)
-value_eq-refl (Coro a) = grind (arith, nat_tests)
+value_eq-refl _ = grind (arith, nat_tests)
 
 pub lua_values-AreValues : AreValues lua_values
 lua_values-AreValues = record { same_equal = value_eq-equal; same_refl = value_eq-refl; integer_own = λ m n e. cc }
@@ -35,10 +30,4 @@ lua_values-AreValues = record { same_equal = value_eq-equal; same_refl = value_e
 -- nil equals no other value
 pub nil-other : (v : Value) → (v ≡ Nil → ⊥) → value_eq Nil v ≡ false
 nil-other Nil h = absurd (h refl)
-nil-other (Boolean a) h = refl
-nil-other (Int a) h = refl
-nil-other (Str a) h = refl
-nil-other (Prim a) h = refl
-nil-other (Table a) h = refl
-nil-other (Func a) h = refl
-nil-other (Coro a) h = refl
+nil-other _ h = refl

@@ -5,7 +5,7 @@ use Rattle.std.specs.List.{list_any, AllByRecursion, IsDistinct}
 use Rattle.std.specs.Map.{keys_of}
 use Rattle.std.proofs.lemmas.Bool.{and_parts, or_parts, not-true, false_from_ne_true}
 use Rattle.int_core.specs.Rows.{AreRows, has_row}
-use Rattle.int_core.specs.Value.{nil, boolean, integer, string, primitive, Kind, a_table, a_function, a_coroutine, Value, known, object, same, same_kind, table_values, bind}
+use Rattle.int_core.specs.Value.{nil, Kind, a_table, a_function, a_coroutine, Value, known, object, same, same_kind, table_values, bind}
 use Rattle.int_core.proofs.Equality.{kind_is, flipped}
 use Rattle.list_laws.proofs.Tests.{eq_true, eq_refl}
 use Rattle.image_core.specs.Image.{PermKey, Perm, Item, plain, numbered, permanent, environment, Record}
@@ -84,25 +84,17 @@ module _ (perms : List Perm) (env : ℕ) (T : Target) (home : IsHome perms env T
 
   sort_no_nil : (kind : Kind) (v : Value) → is_sort kind (sort_of_object v) ≡ true → same (known nil) v ≡ false
   sort_no_nil kind (known nil) h = absurd (cc)
-  sort_no_nil kind (known (boolean b)) h = refl
-  sort_no_nil kind (known (integer n)) h = refl
-  sort_no_nil kind (known (string s)) h = refl
-  sort_no_nil kind (known (primitive n)) h = refl
-  sort_no_nil kind (object k n) h = refl
+  sort_no_nil kind _ h = refl
 
   no_nil : (i : Item) → ItemRead R i → is_nil_item R i ≡ false → same (known nil) (made i) ≡ false
   no_nil (plain nil) h k = absurd (cc)
-  no_nil (plain (boolean b)) h k = refl
-  no_nil (plain (integer n)) h k = refl
-  no_nil (plain (string s)) h k = refl
-  no_nil (plain (primitive n)) h k = refl
   no_nil (numbered n) h k = by (meant (numbered n) h)
     where
       by : Meant (numbered n) → same (known nil) (made (numbered n)) ≡ false
       by (as_value v old e m) = absurd (cc)
       by (as_record n kind r e i d m) = ap (same (known nil)) m
   no_nil (permanent kind key) h k = ap (same (known nil)) (home.named kind key) ∙ sort_no_nil kind (object_named perms key) h
-  no_nil environment h k = refl
+  no_nil _ h k = refl
 
   -- rows
 

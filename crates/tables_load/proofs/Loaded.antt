@@ -11,7 +11,7 @@ use Rattle.library_rows.specs.PreludeText.{function_keys}
 use Rattle.lua_meaning.specs.Libraries.{environment_table}
 use Rattle.machine_core.specs.World.{World}
 use Rattle.machine_runs.specs.Opening.{prelude_function, opening}
-use Rattle.image_core.specs.Image.{PermKey, Perm, Record, table_record, function_record, closed_record, open_record, fresh_record, suspended_record, dead_record, failed_record, no_record, Image}
+use Rattle.image_core.specs.Image.{PermKey, Perm, Record, table_record, Image}
 use Rattle.image_core.specs.Loading.{is_of, Target, count_in, value_made, row_made, table_made, chosen, loaded}
 use Rattle.image_core.proofs.Lists.{get_split, chosen_from}
 use Rattle.image_core.proofs.Making.{table_yes, table_no}
@@ -46,14 +46,7 @@ module _ (perms : List Perm) (env : ℕ) (T : Target) (V : World) (home : IsHome
       rows_in : Option Table → List (Value × Value)
       rows_in None = []
       rows_in (Some t) = t.rows
-  record_is (function_record code cells) t a b e = absurd (cc)
-  record_is (closed_record i) t a b e = absurd (cc)
-  record_is (open_record co frame register) t a b e = absurd (cc)
-  record_is (fresh_record body) t a b e = absurd (cc)
-  record_is (suspended_record frames) t a b e = absurd (cc)
-  record_is dead_record t a b e = absurd (cc)
-  record_is (failed_record x pending) t a b e = absurd (cc)
-  record_is no_record t a b e = absurd (cc)
+  record_is _ t a b e = absurd (cc)
 
   made_is : (j : ℕ) (t : Table) → slice_get (chosen (table_made T I.records) I.records) j ≡ Some t → AreRows table_values t.rows
   made_is j t e =

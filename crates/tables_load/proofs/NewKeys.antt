@@ -109,14 +109,7 @@ keys_on R s t seen (row ∷ rows) h = (h.0, keys_on R s t (row.0 ∷ seen) rows 
 
 rows_on : (R : Reader) (s t : List ℕ) (r : Record) → RowsNew (with_sorts R s) r → RowsNew (with_sorts R t) r
 rows_on R s t (table_record rows m) h = keys_on R s t [] rows h
-rows_on R s t (function_record code cells) h = tt
-rows_on R s t (closed_record i) h = tt
-rows_on R s t (open_record co frame register) h = tt
-rows_on R s t (fresh_record body) h = tt
-rows_on R s t (suspended_record frames) h = tt
-rows_on R s t dead_record h = tt
-rows_on R s t (failed_record e pending) h = tt
-rows_on R s t no_record h = tt
+rows_on R s t _ h = tt
 
 all_on : (R : Reader) (s t : List ℕ) (rs : List Record) → All (RowsNew (with_sorts R s)) rs → All (RowsNew (with_sorts R t)) rs
 all_on R s t [] h = tt

@@ -2,7 +2,7 @@
 use Rattle.std.proofs.Common.{ℕ, zero, suc, ◌-◌, List, [], ◌∷◌, ◌++◌, refl, ◌≡◌, map, length, Option, Some, None, Bool, true, false, Result, Ok, Err}
 use Rattle.std.specs.Prelude.{ℤ, pos, negsuc, cond, nat_lt, codes}
 use Rattle.std.specs.List.{list_all}
-use Rattle.int_core.specs.Value.{Plain, nil, boolean, integer, string, primitive, a_table, a_function, a_coroutine, Value, known, object, Shape, is_known, is_object, shape, holds, nth}
+use Rattle.int_core.specs.Value.{Plain, nil, boolean, integer, string, primitive, a_table, a_function, a_coroutine, Value, known, Shape, is_known, is_object, shape, holds, nth}
 use Rattle.library_rows.specs.Look.{read, written, look, write_field, Look, gives, gives_all, refuses, raises, count, does, looked}
 use Rattle.library_rows.specs.Plainly.{Outcome, results, error, too_large, fits_length, told_as, sees, plainly}
 use Rattle.library_rows.specs.Arguments.{argument, bad_argument, wrong_type, plain_of, is_absent, is_table, integer_argument, text_argument, with_look, one}
@@ -183,11 +183,7 @@ expand_writes = λ r. with_writes (text_argument (codes "expand") 1 r) _ (λ tex
 
 not_absent : (v : Value) → is_absent (shape v) ≡ false → NotNil v
 not_absent (known nil) e = absurd (cc)
-not_absent (known (boolean b)) e = refl
-not_absent (known (integer n)) e = refl
-not_absent (known (string s)) e = refl
-not_absent (known (primitive n)) e = refl
-not_absent (object kind n) e = refl
+not_absent _ e = refl
 
 raw_set_keeps : LookKeeps Base.raw_set
 raw_set_keeps env H h = by (is_table (shape (nth env 0)))

@@ -1,7 +1,7 @@
 -- Library functions that look at values and tables alone: one lemma an operation. A value is written at a key that is written out, and that is no nil.
 use Rattle.std.proofs.Common.{ℕ, ◌≡◌, List, [], ◌∷◌, ◌++◌, Option, Some, None, refl, length, drop}
 use Rattle.std.specs.Prelude.{slice_get, slice_set}
-use Rattle.int_core.specs.Value.{Plain, nil, boolean, integer, string, primitive, a_table, a_function, a_coroutine, Value, known, object, Shape, nth}
+use Rattle.int_core.specs.Value.{Plain, nil, a_table, a_function, a_coroutine, Value, known, object, Shape, nth}
 use Rattle.int_core.specs.Heap.{Table, Heap}
 use Rattle.library_rows.specs.Look.{Arg, read, written, args_of, HeapOp, look, compare, read_field, write_field, read_metatable, write_metatable, border_of, row_after, make_table, put_field, put_metatable, put_meta, row_step, row_in, does_op, Look, gives, gives_all, refuses, raises, count, does}
 use Rattle.machine_sound.proofs.Lists.{each_set}
@@ -43,15 +43,11 @@ module _ (H : Heap) (h : AreTables H) where
   row_kept (Some (Some row)) = h
 
   pub op_kept : (op : HeapOp) (vs : List Value) → KeyIs op vs → AreTables (does_op op H vs).heap
-  op_kept look vs k = h
-  op_kept compare vs k = h
-  op_kept read_field vs k = h
   op_kept write_field vs k = write_kept (nth vs 0) (nth vs 1) (nth vs 2) k
-  op_kept read_metatable vs k = h
   op_kept write_metatable vs k = put_meta_kept (nth vs 0) (nth vs 1)
-  op_kept border_of vs k = h
   op_kept row_after vs k = row_kept (row_in H (nth vs 0) (nth vs 1))
   op_kept make_table vs k = new_kept H h
+  op_kept _ vs k = h
 
 -- a key that is written out
 
@@ -61,10 +57,7 @@ PlainKey p = Unit {0}
 
 plain_key : (p : Plain) → PlainKey p → NotNil (known p)
 plain_key nil k = absurd k
-plain_key (boolean b) k = refl
-plain_key (integer n) k = refl
-plain_key (string s) k = refl
-plain_key (primitive n) k = refl
+plain_key _ k = refl
 
 abbrev pub KeyWritten : List Arg → Type 0
 KeyWritten (o ∷ written p ∷ xs) = PlainKey p

@@ -1,7 +1,7 @@
 -- Tables stay tables in each move.
 use Rattle.std.proofs.Common.{ℕ, zero, suc, Bool, true, false, cond, List, [], ◌∷◌, Option, Some, None, length}
 use Rattle.std.specs.Prelude.{slice_get, slice_set, drop, flat_map, ◌&&◌, nat_lt, codes}
-use Rattle.int_core.specs.Value.{nil, boolean, integer, string, primitive, a_table, a_function, a_coroutine, Value, known, object, bind, last, without_last, error_or_nil}
+use Rattle.int_core.specs.Value.{primitive, a_function, Value, known, object, bind, last, without_last, error_or_nil}
 use Rattle.int_core.specs.Heap.{Heap, filled_table}
 use Rattle.int_core.specs.Limits.{greatest_resumes}
 use Rattle.int_core.specs.Operations.{Settled, found, ask, fault, cannot_arise, does, Callee, callee, not_callable, callee_of, greatest_chain, is_function}
@@ -10,7 +10,7 @@ use Rattle.code_core.specs.Prototype.{Prototype, list_of}
 use Rattle.code_core.specs.Check.{at}
 use Rattle.machine_core.specs.World.{Cell, closed, open_at, Wait, leaving, Frame, lua, pcall, xpcall, handler, closing, Coroutine, fresh, suspended, in_progress, normal, dead, failed, World, Stack, stack_of, Place, place_of, put_frames, put_top, push, pop, read_cell, write_cell, write_in_coroutine}
 use Rattle.machine_core.specs.Text.{arg, args_of, Own, close_cells, keep_pending, Quick, read_upvalue, write_upvalue, make_table, make_function, fill_table, pay, given_values, fits}
-use Rattle.machine_core.specs.Moves.{frame_over, Move, on_own, move_pc, open_register, outside, settle, enter, enter_tail, await, find_close, is_closable, begin_leaving, leave_frame, take_moving, look, give, give_with, blame, place_text, push_frame, call_value, see_top, see_catcher, pop_frame, take_closing, set_error, end_coroutine, fail_coroutine, suspend, resume, begin_closing, consult, create, see_status, see_running, print, make_loaded, Made, made, CallShape, not_paid, one_left, resumed, refused, runs_main, bytes_in, named, blamed, with_own, place_from, captured, own_cell, do_outside, new_frame, push_all, has_room, enters, enters_paid, called, popped, called_tail, top_now, next_closing, with_error, pending_values, put_coroutine, awake, back_to_resumer, bury, ends_as, suspend_running, wait_for_another, go_into, starts_in, can_start, resumes, closes_in, closes_coroutine, coroutine_number, add_coroutine, add_printed, add_loaded, environment_in, consulted, settled, move}
+use Rattle.machine_core.specs.Moves.{frame_over, Move, on_own, move_pc, open_register, outside, settle, enter, enter_tail, await, begin_leaving, leave_frame, push_frame, call_value, see_top, see_catcher, pop_frame, take_closing, set_error, end_coroutine, fail_coroutine, suspend, resume, begin_closing, consult, create, see_status, see_running, print, make_loaded, Made, made, CallShape, not_paid, one_left, resumed, refused, runs_main, bytes_in, named, blamed, with_own, place_from, captured, own_cell, do_outside, new_frame, push_all, has_room, enters, enters_paid, called, popped, called_tail, top_now, next_closing, with_error, pending_values, put_coroutine, awake, back_to_resumer, bury, ends_as, suspend_running, wait_for_another, go_into, starts_in, can_start, resumes, closes_in, closes_coroutine, coroutine_number, add_coroutine, add_printed, add_loaded, environment_in, consulted, settled, move}
 use Rattle.tables_stay.specs.Laws.{AreTables, TablesWhenDone, MayMove}
 use Rattle.tables_stay.proofs.Heaps.{TablesIfSome, SettledKeeps, new_kept, filled_kept, does_kept}
 
@@ -64,12 +64,7 @@ all_kept (f ∷ fs) W h = by (stack_of W) (λ s. all_kept fs (push W s f) (push_
 enters_kept : (W : World) (v : Value) (vs : List Value) → AreTables W.heap → TablesIfMade (enters W v vs)
 enters_kept W (known (primitive n)) vs h = h
 enters_kept W (object a_function n) vs h = kept_bind (slice_get W.functions n) _ (λ f. kept_cond (has_room W 1) _ _ (all_kept (new_frame n f.code vs ∷ []) W h) h)
-enters_kept W (known nil) vs h = tt
-enters_kept W (known (boolean b)) vs h = tt
-enters_kept W (known (integer n)) vs h = tt
-enters_kept W (known (string s)) vs h = tt
-enters_kept W (object a_table n) vs h = tt
-enters_kept W (object a_coroutine n) vs h = tt
+enters_kept W _ vs h = tt
 
 paid_kept : (W P : World) (c : Callee) → AreTables W.heap → AreTables P.heap → TablesIfMade (enters_paid W P c)
 paid_kept W P (not_callable text) h k = k
@@ -138,10 +133,7 @@ next_kept W s handler h = tt
 
 error_kept : (W : World) (s : Stack) (f : Frame) (v : Value) → AreTables W.heap → TablesIfMade (with_error W s f v)
 error_kept W s (closing e left) v h = top_kept W s (closing (Some v) left) h
-error_kept W s (lua f) v h = tt
-error_kept W s pcall v h = tt
-error_kept W s (xpcall w) v h = tt
-error_kept W s handler v h = tt
+error_kept W s _ v h = tt
 
 -- coroutines
 
@@ -181,10 +173,7 @@ starts_kept W co (fresh v) vs h = by (enters (go_into W co []) v vs) (enters_kep
     by None k = tt
     by (Some d) k = k
 starts_kept W co (suspended fs) vs h = into_kept W co fs h
-starts_kept W co (in_progress fs) vs h = h
-starts_kept W co (normal fs) vs h = h
-starts_kept W co dead vs h = h
-starts_kept W co (failed e xs) vs h = h
+starts_kept W co _ vs h = h
 
 resumes_kept : (W : World) (s : Stack) (co : ℕ) (c : Coroutine) (vs : List Value) → AreTables W.heap → TablesIfMade (resumes W s co c vs)
 resumes_kept W s co c vs h =
@@ -250,16 +239,8 @@ moves_keep (enter f slot wait prepared) may env W h =
     kept_bind (place_of W) _ (λ p. called_kept W (with_own W p (named env wait) prepared env) (arg env f) (drop slot env) h (own_kept W p (named env wait) prepared env h))
 moves_keep (enter_tail f slot) may env W h = kept_bind (place_of W) _ (λ p. tail_kept W p (callee_of greatest_chain W.heap (arg env f) (drop slot env)) h)
 moves_keep (await f slot wait prepared) may env W h = kept_bind (place_of W) _ (λ p. own_kept W p (named env wait) prepared env h)
-moves_keep (find_close v e) may env W h = h
-moves_keep (is_closable v) may env W h = h
 moves_keep (begin_leaving text) may env W h = kept_bind (place_of W) _ (λ p. own_kept W p (leaving (blamed W text)) (close_cells 0 ∷ keep_pending ∷ []) [] h)
 moves_keep (leave_frame given) may env W h = kept_bind (place_of W) _ (λ p. kept_bind (top_now (record (popped W p) { moving = given_values env given })) _ (λ top. popped_kept W p h))
-moves_keep take_moving may env W h = h
-moves_keep (look x) may env W h = h
-moves_keep (give xs) may env W h = h
-moves_keep (give_with xs slot) may env W h = h
-moves_keep (blame text) may env W h = h
-moves_keep (place_text x level) may env W h = h
 moves_keep (push_frame over) may env W h = kept_cond (has_room W 1) _ _ (all_kept (frame_over over env ∷ []) W h) h
 moves_keep (call_value f slot) may env W h = called_kept W W (arg env f) (drop slot env) h h
 moves_keep see_top may env W h = kept_bind (top_now W) _ (λ top. h)
@@ -278,3 +259,4 @@ moves_keep (see_status x) may env W h = kept_bind (coroutine_number (arg env x))
 moves_keep see_running may env W h = kept_bind (last W.chain) _ (λ co. h)
 moves_keep (print x) may env W h = print_kept W (bytes_in (arg env x)) h
 moves_keep (make_loaded p x) may env W h = loaded_kept W p (environment_in W env x) h
+moves_keep _ may env W h = h

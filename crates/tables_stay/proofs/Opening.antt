@@ -11,7 +11,7 @@ use Rattle.int_core.specs.Value.{nil, string, Value, known, same, table_values}
 use Rattle.int_core.specs.Heap.{Table}
 use Rattle.int_core.specs.Operations.{before}
 use Rattle.code_core.specs.Prototype.{Prototype}
-use Rattle.library_rows.specs.Library.{Library, of_globals, of_coroutine, of_string, of_table, of_math, of_utf8, of_prelude, Entry}
+use Rattle.library_rows.specs.Library.{Library, of_globals, of_coroutine, of_string, of_table, of_math, of_utf8, Entry}
 use Rattle.library_rows.specs.PreludeText.{prelude_functions}
 use Rattle.lua_meaning.specs.Libraries.{functions_from, primitive_values, constant_values, function_values, library_values, same_library, put_by_name, by_name, row_of_entry, table_of, is_in, library_table, is_named, first_of_each, environment, strings_meta}
 use Rattle.lua_meaning.specs.Opening.{entries_of, prelude_of}
@@ -183,12 +183,7 @@ all_places codes =
 all_apart : (l : Library) → are_apart (names_in l (front ++ prelude_functions)) ≡ true
 unfolding constant_values primitive_values
 all_apart of_globals = refl
-all_apart of_coroutine = refl
-all_apart of_string = refl
-all_apart of_table = refl
-all_apart of_math = refl
-all_apart of_utf8 = refl
-all_apart of_prelude = refl
+all_apart _ = refl
 
 library_is : (l : Library) (codes : List Prototype) → IsTable (library_table l (prelude_of codes))
 unfolding library_table

@@ -26,11 +26,7 @@ cond_keeps false r s h k = k
 
 handed_keeps : (t : TopShape) → RowKeeps (handed t)
 handed_keeps lua_top = tt
-handed_keeps pcall_top = tt
-handed_keeps xpcall_top = tt
-handed_keeps handler_top = tt
-handed_keeps closing_top = tt
-handed_keeps (no_top b) = tt
+handed_keeps _ = tt
 
 hand_over_keeps : RowKeeps hand_over
 hand_over_keeps = (tt, λ n t. handed_keeps t)
@@ -95,11 +91,7 @@ fails_keep = (tt, λ e t. (tt, λ n u. (tt, λ m v. hand_over_keeps)))
 raised_to_keep : (t : TopShape) (h : ℕ) → RowKeeps (raised_to t h)
 raised_to_keep xpcall_top h = (tt, λ e t. (tt, λ n room. cond_keeps room _ gives_up (tt, λ m u. tt) gives_up_keeps))
 raised_to_keep (no_top false) h = fails_keep
-raised_to_keep (no_top true) h = tt
-raised_to_keep lua_top h = tt
-raised_to_keep pcall_top h = tt
-raised_to_keep handler_top h = tt
-raised_to_keep closing_top h = tt
+raised_to_keep _ h = tt
 
 caught_keeps : RowKeeps caught
 caught_keeps = (tt, λ e t. (tt, λ n u. (tt, λ m v. hand_over_keeps)))
@@ -107,10 +99,7 @@ caught_keeps = (tt, λ e t. (tt, λ n u. (tt, λ m v. hand_over_keeps)))
 refused_keeps : (t : TopShape) (text : List ℕ) → RowKeeps (refused_under t text)
 refused_keeps lua_top text = raises_keep text
 refused_keeps handler_top text = gives_up_keeps
-refused_keeps pcall_top text = blames_keep text
-refused_keeps xpcall_top text = blames_keep text
-refused_keeps closing_top text = blames_keep text
-refused_keeps (no_top b) text = blames_keep text
+refused_keeps _ text = blames_keep text
 
 after_asked_keeps : (s : CallShape) → RowKeeps (after_asked s)
 after_asked_keeps is_entered = tt

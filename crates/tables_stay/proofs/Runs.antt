@@ -5,7 +5,7 @@ use Rattle.int_core.specs.Value.{Value, bind, last}
 use Rattle.int_core.specs.Ask.{values}
 use Rattle.code_core.specs.Prototype.{Prototype}
 use Rattle.list_laws.proofs.Items.{some_same}
-use Rattle.machine_core.specs.World.{Wait, running, for_call, for_iterator, for_value, for_truth, dropped, for_concat, for_close, returning, leaving, LuaFrame, Frame, lua, pcall, xpcall, handler, closing, Coroutine, World, Stack, stack_of, put_top, put_frames}
+use Rattle.machine_core.specs.World.{Wait, running, for_call, for_iterator, for_value, for_truth, dropped, for_concat, for_close, returning, leaving, LuaFrame, Frame, lua, Coroutine, World, Stack, stack_of, put_top, put_frames}
 use Rattle.machine_core.specs.InstructionRows.{text_at, after, told_values}
 use Rattle.machine_core.specs.Moves.{Made, Told, ResumeShape, Ending, go, returned, asks, calls_primitive, raised, unwinding, spent, main_yielded, main_returned, main_failed, Row, traps, stop, only, act, Outcome, trapped, ends, starts_in, move, run}
 use Rattle.machine_core.specs.FrameRows.{at_once, by_asking, expand, goes_on_by, asked_row, raised_row, results_row, unwinding_row}
@@ -65,23 +65,13 @@ there_bind (Some a) f h = h a
 
 frame_kept : (W : World) (s : Stack) (f : Frame) → AreTables W.heap → TablesIfThere (frame_step W s f)
 frame_kept W s (lua f) h = there_bind (slice_get W.functions f.function) _ (λ g. lua_kept W s f g.code f.wait h)
-frame_kept W s pcall h = tt
-frame_kept W s (xpcall v) h = tt
-frame_kept W s handler h = tt
-frame_kept W s (closing e left) h = tt
+frame_kept W s _ h = tt
 
 from_kept : (W : World) (o : Outcome) → AreTables W.heap → TablesAtEnd o → TablesAtEnd (from_world W o)
 from_kept W trapped h k = tt
 from_kept W (ends spent V) h k = h
-from_kept W (ends main_yielded V) h k = k
-from_kept W (ends main_returned V) h k = k
-from_kept W (ends main_failed V) h k = k
-from_kept W (ends go V) h k = k
-from_kept W (ends returned V) h k = k
-from_kept W (ends asks V) h k = k
 from_kept W (ends (calls_primitive n) V) h k = k
-from_kept W (ends raised V) h k = k
-from_kept W (ends unwinding V) h k = k
+from_kept W _ h k = k
 
 then_kept : (o : Outcome) (f : Ending → World → Outcome) → TablesAtEnd o → ((e : Ending) (V : World) → AreTables V.heap → TablesAtEnd (f e V)) → TablesAtEnd (and_then o f)
 then_kept trapped f h k = tt
@@ -99,10 +89,7 @@ module _ (primitives : ℕ → Row) (keep : AllKeep primitives) where
   by_kept (calls_primitive n) W h = rows_keep (primitives n) (keep n) [] W h
   by_kept raised W h = rows_keep raised_row raised_keeps [] W h
   by_kept unwinding W h = rows_keep unwinding_row (tt, λ n top. unwound_keeps top) [] W h
-  by_kept spent W h = h
-  by_kept main_yielded W h = h
-  by_kept main_returned W h = h
-  by_kept main_failed W h = h
+  by_kept _ W h = h
 
   steps_kept : (count : ℕ) (e : Ending) (W : World) → AreTables W.heap → TablesAtEnd (steps primitives count e W)
   steps_kept zero e W h = h
@@ -142,19 +129,14 @@ module _ (primitives : ℕ → Row) (keep : AllKeep primitives) where
   closed_kept x r h e = subst (λ (r : Run). AreTables r.last.heap) (some_same x r e) h
 
   end_kept : (o : Outcome) (goes : World → Option Run) (r : Run) → TablesAtEnd o → at_end o goes ≡ Some r → ((V : World) (y : Run) → AreTables V.heap → goes V ≡ Some y → AreTables y.last.heap) → AreTables r.last.heap
-  end_kept trapped goes r h e f = absurd (none_some r e)
   end_kept (ends main_yielded V) goes r h e f =
       let m = map_some (behind (turn_text main_yielded V)) (goes V) r e in
       subst (λ (r : Run). AreTables r.last.heap) m.2 (f V m.0 h m.1)
   end_kept (ends main_returned V) goes r h e f = closed_kept (closes main_returned has_returned V) r h e
   end_kept (ends main_failed V) goes r h e f = closed_kept (closes main_failed has_failed V) r h e
   end_kept (ends spent V) goes r h e f = closed_kept (closes spent has_spent V) r h e
-  end_kept (ends go V) goes r h e f = absurd (none_some r e)
-  end_kept (ends returned V) goes r h e f = absurd (none_some r e)
-  end_kept (ends asks V) goes r h e f = absurd (none_some r e)
   end_kept (ends (calls_primitive n) V) goes r h e f = absurd (none_some r e)
-  end_kept (ends raised V) goes r h e f = absurd (none_some r e)
-  end_kept (ends unwinding V) goes r h e f = absurd (none_some r e)
+  end_kept _ goes r h e f = absurd (none_some r e)
 
   suspended_kept : (V : World) (y : Run) → AreTables V.heap → suspends V ≡ Some y → AreTables y.last.heap
   suspended_kept V y h e = closed_kept (record { printed = []; close = is_suspended; last = V }) y h e

@@ -11,12 +11,8 @@ limit zero = 128
 limit (suc i) = limit i * 64
 
 pub limit_is_small : (i : ℕ) → i < 5 → limit i ≤ 2147483648
-limit_is_small zero h = omega arith
-limit_is_small (suc zero) h = omega arith
-limit_is_small (suc (suc zero)) h = omega arith
-limit_is_small (suc (suc (suc zero))) h = omega arith
-limit_is_small (suc (suc (suc (suc zero)))) h = omega arith
 limit_is_small (suc (suc (suc (suc (suc i))))) h = absurd (omega arith)
+limit_is_small _ h = omega arith
 
 pub continues : (b : ℕ) → is_continuation b ≡ true → (128 ≤ b) × (b < 192)
 continues b h = (grind (arith, nat_tests), grind (arith, nat_tests))

@@ -22,12 +22,8 @@ use Rattle.lua_parse.proofs.Steps.{Comes, Leads, starts, picked, passed, turned,
 use Rattle.lua_parse.proofs.suffix.string_argument.Goals as goal
 
 no_string : (t : Token) → ((x : Bytes) → t ≡ token.Str x → ⊥) → string_of t ≡ None
-no_string (token.Name x) h = refl
-no_string (token.Int x) h = refl
 no_string (token.Str x) h = absurd (h x refl)
-no_string (token.Keyword x) h = refl
-no_string (token.Mark x) h = refl
-no_string token.End h = refl
+no_string _ h = refl
 
 pub returns-in_default : goal.returns-in_default
 returns-in_default c =

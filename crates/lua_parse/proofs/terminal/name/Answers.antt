@@ -11,11 +11,7 @@ use Rattle.lua_parse.proofs.terminal.name.Goals as goal
 
 no_name : (t : Token) → ((x : Bytes) → t ≡ token.Name x → ⊥) → name_of t ≡ None
 no_name (token.Name x) h = absurd (h x refl)
-no_name (token.Int x) h = refl
-no_name (token.Str x) h = refl
-no_name (token.Keyword x) h = refl
-no_name (token.Mark x) h = refl
-no_name token.End h = refl
+no_name _ h = refl
 
 pub returns-in_default : goal.returns-in_default
 returns-in_default c =
