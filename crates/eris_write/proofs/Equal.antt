@@ -11,7 +11,6 @@ use Rattle.image_core.specs.Image.{PermKey, number_key, text_key, Perm}
 use Rattle.lua_stack.proofs.Parts.{take_next}
 use Rattle.graph_core.specs.Inverse.{KeysAreOnce}
 use Rattle.graph_core.proofs.Meeting.{map_more}
-use Rattle.graph_core.proofs.Pairs.{number_in, text_in}
 use Rattle.eris_write.specs.declared.keys.Key.{Key}
 use Rattle.eris_write.specs.declared.keys.Key.TheVariants.{Number, Text}
 use Rattle.eris_write.specs.contracts.keys.KeyPartialEq.TheImpl as key_impl
@@ -35,6 +34,14 @@ key_same (Number m) (Number n) h = ap number_key (integers_same m n h)
 key_same (Text s) (Text t) h = ap text_key ((bytes_eq-Decides s.now t.now).0 h)
 key_same (Number m) (Text t) h = absurd (cc)
 key_same (Text s) (Number n) h = absurd (cc)
+
+number_in : PermKey → ℤ → ℤ
+number_in (number_key n) m = n
+number_in (text_key s) m = m
+
+text_in : PermKey → List ℕ → List ℕ
+text_in (text_key s) t = s
+text_in (number_key n) t = t
 
 same_key : (a b : Key) → shown a ≡ shown b → key_eq a b ≡ true
 unfolding number_in text_in

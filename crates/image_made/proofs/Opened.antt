@@ -14,6 +14,9 @@ use Rattle.image_made.specs.Stacks.{Lists, Opens}
 same_number : (m n : ℕ) → nat_eq m n ≡ true → m ≡ n
 same_number m n h = grind (arith, nat_tests)
 
+number_same : (m n : ℕ) → m ≡ n → nat_eq m n ≡ true
+number_same m n h = grind (arith, nat_tests)
+
 pub no_cells : (own : CoroId) (openings : List Opening) (from : ℕ) → Lists own openings from from []
 no_cells own openings from = record {
   order = omega arith;

@@ -84,14 +84,14 @@ module _ (row : Shape → ℕ → Row) (name : List ℕ) (plainly : (p : Plain) 
 
 -- the first of the values that move, as it is read from them
 
-pub first_is : (texts : List (List ℕ)) (v : Kept) (read items : List Kept) (co : CoroId) → value texts v ≡ nth (map (value texts) read) 0 → read ≡ items → coroutine_in v ≡ Some co
+pub first_is : (texts : List (List ℕ)) (v : Kept) (taken items : List Kept) (co : CoroId) → value texts v ≡ nth (map (value texts) taken) 0 → taken ≡ items → coroutine_in v ≡ Some co
     → nth (map (value texts) items) 0 ≡ object a_coroutine co.0
-first_is texts v read items co e moved is = sym (e ∙ ap (λ l. nth (map (value texts) l) 0) moved) ∙ ap (value texts) (first_coroutine v co is)
+first_is texts v taken items co e moved is = sym (e ∙ ap (λ l. nth (map (value texts) l) 0) moved) ∙ ap (value texts) (first_coroutine v co is)
 
 pub refuses_first : {old new : Memory} {ending : Ending} (row : Shape → ℕ → Row) (name : List ℕ) (plainly : (p : Plain) → row (is_known p) 0 ≡ not_coroutine name (is_known p)) (table : row (is_object a_table) 0 ≡ not_coroutine name (is_object a_table))
-    (function : row (is_object a_function) 0 ≡ not_coroutine name (is_object a_function)) (v : Kept) (read : List Kept) → value old.strings v ≡ nth (map (value old.strings) read) 0 → read ≡ old.moving.items → coroutine_in v ≡ None
+    (function : row (is_object a_function) 0 ≡ not_coroutine name (is_object a_function)) (v : Kept) (taken : List Kept) → value old.strings v ≡ nth (map (value old.strings) taken) 0 → taken ≡ old.moving.items → coroutine_in v ≡ None
     → ((env : List Value) → Leads (blames (wrong_type 1 name (codes "coroutine") (shape (value old.strings v)))) env old new ending) → Leads (looks row) [] old new ending
-refuses_first {old} row name plainly table function v read e moved is =
+refuses_first {old} row name plainly table function v taken e moved is =
     let first : value old.strings v ≡ nth (map (value old.strings) old.moving.items) 0 = e ∙ ap (λ l. nth (map (value old.strings) l) 0) moved in
     refuses row (wrong_type 1 name (codes "coroutine") (shape (value old.strings v))) (ap (λ v. row (shape v) 0) (sym first) ∙ wrong row name plainly table function old.strings v is)
 
