@@ -22,7 +22,7 @@ pub fn source_tree(alloc: Global, source: &[u8]) -> Result<Resolved, TextFault>
     ensures refused { IfErr result (λ fault. IsRefused source.now fault) }
 {
     let tokens = tokens(alloc, source)?;
-    let block = parse(alloc, &tokens)?;
+    let block = parse(alloc, tokens)?;
     let resolved = resolve(alloc, block)?;
     Ok(resolved)
 }

@@ -155,7 +155,7 @@ static STATEMENTS: [(&[u8], &[u8]); 9] = [
 // The line of the refusal, or 0 where the source has a tree.
 fn refused_line(alloc: Global, source: &[u8]) -> Result<u32, Fail> {
     let list = tokens(alloc, source)?;
-    match parse(alloc, &list) {
+    match parse(alloc, list) {
         Ok(_) => Ok(0),
         Err(ParseFault::Refused { line }) => Ok(line),
         Err(fault) => Err(Fail::from(fault)),
@@ -320,7 +320,7 @@ fn stat_letter(stat: &Stat) -> u8 {
 
 fn tree(alloc: Global, source: &[u8]) -> Result<Block, Fail> {
     let list = tokens(alloc, source)?;
-    match parse(alloc, &list) {
+    match parse(alloc, list) {
         Ok(block) => Ok(block),
         Err(fault) => Err(Fail::from(fault)),
     }

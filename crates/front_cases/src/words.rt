@@ -7,7 +7,7 @@ use token_cursor::{Cursor, word};
 fn words_are_spelled_as_they_are_named(rt: HostRuntime) -> Result<(), Fail> {
     let source = b"and while // ~= ( ... ::";
     let list = tokens(rt.alloc(), source.as_slice())?;
-    let mut cursor = Cursor::new(&list);
+    let mut cursor = Cursor::new(list);
     for wanted in [
         word::AND,
         word::WHILE,

@@ -1,4 +1,4 @@
--- The longest mark at the front of a text.
+-- The longest mark at the front of a text, and what no keyword is.
 use Rattle.std.proofs.Common.{◌≡◌, ℕ, ◌+◌, ◌<◌, ◌≤◌, List, [], ◌∷◌, ◌++◌, length, take, drop, Bool, true, false, Some, None, refl, ap, sym, ◌∙◌, arith, nat_eq, ⊎_elim, length-append, take-append-drop, length-take-le}
 use Rattle.std.specs.Prelude.{◌&&◌, ◌||◌, ◌==◌, nat_lt, nat_le, slice_index, Option}
 use Rattle.std.specs.List.{position_from, list_all}
@@ -6,10 +6,10 @@ use Rattle.std.specs.Cmp.Lexicographic.{pointwise, same_text}
 use Rattle.std.proofs.lemmas.List.{take_at, get_or-take}
 use Rattle.std.proofs.lemmas.Bool.{cases_lt}
 use Rattle.std.proofs.lemmas.Bool.Decides.{nat_tests}
-use Rattle.lua_lex.specs.Words.{marks, place_of}
+use Rattle.lua_lex.specs.Words.{keywords, marks, place_of}
 use Rattle.lua_lex.specs.Classes.{is_in_mark}
 use Rattle.lua_lex.specs.Lexical.{IsMark}
-use Rattle.lua_lex.specs.Inner.{NoneFrom}
+use Rattle.lua_lex.specs.Inner.{NoneFrom, may_be_keyword}
 
 pub and-left : (a b : Bool) → a && b ≡ true → a ≡ true
 and-left true b h = refl
@@ -45,6 +45,11 @@ unplaced test words word all fails = by_place (place_of words word) refl where
   by_place : (place : Option ℕ) → place_of words word ≡ place → place_of words word ≡ None
   by_place None found = found
   by_place (Some place) found = let bad : true ≡ false = sym (placed_passes test words word 0 place all found) ∙ fails in absurd cc
+
+-- what does not begin as a keyword is none
+pub no_keyword : (word : List ℕ) → may_be_keyword word ≡ false → place_of keywords word ≡ None
+unfolding keywords
+no_keyword word fails = unplaced may_be_keyword keywords word refl fails
 
 goes_on : List ℕ → Bool
 goes_on word = nat_le (length word) 1 || is_in_mark (slice_index word 1)

@@ -1,5 +1,5 @@
--- What the private functions say: the bytes of a run's class, what is known of a text by its kind, and how long a mark may be.
-use Rattle.std.specs.Prelude.{◌≡◌, ℕ, ◌<◌, ◌≤◌, Bool, true, List, length, take, drop, ◌+◌, ◌==◌, ◌&&◌, slice_index, None}
+-- What the private functions say: the bytes of a run's class, what is known of a text by its kind, how long a mark may be and how a keyword begins.
+use Rattle.std.specs.Prelude.{◌≡◌, ℕ, ◌<◌, ◌≤◌, Bool, true, List, length, take, drop, ◌+◌, ◌==◌, ◌&&◌, ◌||◌, if◌then◌else◌, nat_lt, false, slice_index, None}
 use Rattle.std.specs.Char.{is_ascii_digit}
 use Rattle.int_core.specs.Numeral.{is_space}
 use Rattle.lua_lex.specs.declared.class.Class.{Class}
@@ -38,3 +38,22 @@ pub record IsContent (text : List ℕ) (level len : ℕ) : Type 0 where
 -- from this length on, no front of the text is a mark
 abbrev pub NoneFrom : List ℕ → ℕ → Type 0
 NoneFrom text len = (longer : ℕ) → len < longer → longer ≤ 3 → longer ≤ length text → place_of marks (take longer text) ≡ None
+
+-- by these two bytes a keyword begins
+abbrev pub begins_keyword : ℕ → ℕ → Bool
+begins_keyword first second =
+    if first == 97 || first == 117 then second == 110
+    else if first == 98 || first == 111 then second == 114
+    else if first == 100 || (first == 103 || first == 108) then second == 111
+    else if first == 101 then second == 108 || second == 110
+    else if first == 102 then second == 97 || (second == 111 || second == 117)
+    else if first == 105 then second == 102 || second == 110
+    else if first == 110 then second == 105 || second == 111
+    else if first == 114 then second == 101
+    else if first == 116 then second == 104 || second == 114
+    else if first == 119 then second == 104
+    else false
+
+-- a word of two bytes at least by whose first two a keyword begins
+abbrev pub may_be_keyword : List ℕ → Bool
+may_be_keyword word = nat_lt 1 (length word) && begins_keyword (slice_index word 0) (slice_index word 1)

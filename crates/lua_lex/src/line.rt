@@ -84,8 +84,20 @@ fn push_line(out: &mut Vec<u8>, text: &[u8]) -> Result<usize, AllocError>
     Ok(len)
 }
 
-// How many ends of lines the text has.
+// How many ends of lines the text has. Most texts that stand between tokens have one byte or none.
 fn line_ends(text: &[u8]) -> usize
+    ensures count { result ≡ line_ends text.now }
+    ensures bound { result ≤ length text.now }
+{
+    match text {
+        [] => 0,
+        [byte] => usize::from(is_line_end(*byte)),
+        _ => found_line_ends(text),
+    }
+}
+
+// How many ends of lines the text has, found one after another.
+fn found_line_ends(text: &[u8]) -> usize
     ensures count { result ≡ line_ends text.now }
     ensures bound { result ≤ length text.now }
 {

@@ -1,9 +1,11 @@
 // What a token is, and the list of a source's tokens with their lines.
-ghost use Rattle.std.specs.Prelude.{◌≡◌, ◌<◌, length, slice_get, Some};
+ghost use Rattle.std.specs.Prelude.{◌≡◌, ◌<◌, length, slice_get, slice_set, Some};
 ghost use Rattle.std.specs.Option.{option_map};
+ghost use Rattle.lua_lex.specs.declared.token.Token.TheVariants.{End};
 
 use int_core::Bytes;
 use std::marker::Model;
+use std::mem;
 
 /// A token (Lua 5.4 manual, 3.1).
 #[derive(Debug, PartialEq, Eq, Drop)]
@@ -67,5 +69,14 @@ impl Tokens {
         ensures { option_map (λ pair. pair.1) (slice_get self.now at) ≡ Some result }
     {
         self.items[at].1
+    }
+
+    /// Takes the token at a place with its line. The end on line 0 stands there then.
+    pub fn take(&mut self, at: usize) -> (Token, u32)
+        requires { at < length self.old }
+        ensures is { slice_get self.old at ≡ Some result }
+        ensures left { self.new ≡ slice_set self.old at (End, 0) }
+    {
+        mem::replace(&mut self.items[at], (Token::End, 0))
     }
 }

@@ -2,6 +2,7 @@
 ghost use Rattle.std.specs.Prelude.{◌≡◌, ◌<◌, [], ◌∷◌, length, nat_eq};
 ghost use Rattle.std.specs.List.{position_from};
 ghost use Rattle.std.specs.Cmp.Lexicographic.{pointwise};
+ghost use Rattle.lua_lex.specs.Inner.{begins_keyword, may_be_keyword};
 ghost use Rattle.lua_lex.specs.Words.{keywords, marks, place_of};
 
 use crate::mark;
@@ -43,11 +44,39 @@ pub const MARKS: [&[u8]; 31] = [
 pub const LONGEST_MARK: usize = 3;
 
 /// The place of a word among the keywords.
-#[tactic(auto, unfolding(crate::specs::Words::keywords))]
+#[tactic(auto, unfolding(crate::specs::Words::keywords), using(crate::proofs::WordLemmas::no_keyword))]
 pub fn keyword_number(word: &[u8]) -> Option<u8>
     ensures { result ≡ place_of keywords word.now }
 {
+    if !may_be_keyword(word) {
+        return None;
+    }
     place_of(&KEYWORDS, word)
+}
+
+/// Whether a keyword begins by the first two bytes of a word. Few names do, so most are not looked for in the list.
+fn may_be_keyword(word: &[u8]) -> bool
+    ensures { result ≡ may_be_keyword word.now }
+{
+    word.len() > 1 && begins_keyword(word[0], word[1])
+}
+
+fn begins_keyword(first: u8, second: u8) -> bool
+    ensures { result ≡ begins_keyword first second }
+{
+    match first {
+        b'a' | b'u' => second == b'n',
+        b'b' | b'o' => second == b'r',
+        b'd' | b'g' | b'l' => second == b'o',
+        b'e' => matches!(second, b'l' | b'n'),
+        b'f' => matches!(second, b'a' | b'o' | b'u'),
+        b'i' => matches!(second, b'f' | b'n'),
+        b'n' => matches!(second, b'i' | b'o'),
+        b'r' => second == b'e',
+        b't' => matches!(second, b'h' | b'r'),
+        b'w' => second == b'h',
+        _ => false,
+    }
 }
 
 /// The place of a spelling among the marks.

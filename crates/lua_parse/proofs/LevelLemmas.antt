@@ -9,11 +9,12 @@ use Rattle.lua_parse.specs.declared.fault.Fault.TheVariants.{Refused, Memory}
 use Rattle.lua_parse.specs.Answers.{Answers}
 use Rattle.token_cursor.specs.declared.level.Level.{Level}
 use Rattle.token_cursor.specs.declared.level.Level.TheVariants.{Or, And, Comparison, BitOr, BitXor, BitAnd, Shift, Concat, Sum, Product}
-use Rattle.token_cursor.specs.Words.{Lexeme, rank, looser}
+use Rattle.token_cursor.specs.Words.{Lexeme, first, may_join, rank, looser}
 use Rattle.lua_parse.specs.Moves.{Piece, an_exp, chain, behind}
-use Rattle.lua_parse.specs.Grammar.{expects, operand}
+use Rattle.lua_parse.specs.Grammar.{expects, operand, operator_move}
 use Rattle.lua_parse.specs.Reading.{Outcome, whole, stuck, Reads, within_stuck}
-use Rattle.lua_parse.proofs.Steps.{Leads, starts, found, into}
+use Rattle.token_cursor.proofs.OperatorLemmas.{none_joins}
+use Rattle.lua_parse.proofs.Steps.{Comes, Leads, starts, picked, turned, found, ended, into}
 
 -- a level of this rank
 of_rank : ℕ → Level
@@ -71,6 +72,22 @@ failed_operators {room = room} {tokens = tokens} {between = between} {rest = res
     let next : Reads (expects room (operand (looser l))) tokens (stuck rest) = subst (λ p. Reads (expects room p) tokens (stuck rest)) (sym (operand_looser l (omega (arith, h)))) here in
     record { tells = stuck_chain (looser l) m room tokens rest (omega (arith, h, rank_looser l)) next }
 failed_operators l m h r Memory b = record { tells = tt }
+
+-- an operand that no operator follows is all that is read of its level
+alone : (l : Level) (room : ℕ) (tokens rest : List Lexeme) (e : Exp) (height : ℕ) → Comes rest → may_join (first rest).0 ≡ false → Reads (expects room (operand l)) tokens (whole (an_exp e) height rest) → Reads (expects room (chain l)) tokens (whole (an_exp e) height rest)
+alone l room tokens rest e height comes h r =
+    let nothing = turned (picked (starts (behind l e height) room rest) comes) (ap (operator_move room l e height (first rest).1) (none_joins l (first rest).0 h)) in
+    (chain_leads l room tokens rest e height r).leads _ (ended nothing)
+
+alone_round : (n : ℕ) (l m : Level) (room : ℕ) (tokens rest : List Lexeme) (e : Exp) (height : ℕ) → rank l ≡ rank m + n → Comes rest → may_join (first rest).0 ≡ false → Reads (expects room (operand l)) tokens (whole (an_exp e) height rest) → Reads (expects room (chain m)) tokens (whole (an_exp e) height rest)
+alone_round zero l m room tokens rest e height is comes h r = subst (λ k. Reads (expects room (chain k)) tokens (whole (an_exp e) height rest)) (same_rank l m (is ∙ omega arith)) (alone l room tokens rest e height comes h r)
+alone_round (suc n) l m room tokens rest e height is comes h r =
+    let next : Reads (expects room (operand (looser l))) tokens (whole (an_exp e) height rest) = subst (λ p. Reads (expects room p) tokens (whole (an_exp e) height rest)) (sym (operand_looser l (omega (arith, is)))) (alone l room tokens rest e height comes h r) in
+    alone_round n (looser l) m room tokens rest e height (rank_looser l ∙ omega (arith, is)) comes h next
+
+-- it is all that is read of each level that binds less, too
+pub alone_chain : (l m : Level) (room : ℕ) (tokens rest : List Lexeme) (e : Exp) (height : ℕ) → rank m ≤ rank l → Comes rest → may_join (first rest).0 ≡ false → Reads (expects room (operand l)) tokens (whole (an_exp e) height rest) → Reads (expects room (chain m)) tokens (whole (an_exp e) height rest)
+alone_chain l m room tokens rest e height h = alone_round (rank l - rank m) l m room tokens rest e height (omega (arith, h))
 
 -- the chain of a level is an operand of the next one
 pub next_operand : (l k : Level) (room : ℕ) (tokens : List Lexeme) (o : Outcome) → k ≡ looser l → 0 < rank l → Reads (expects room (chain l)) tokens o → Reads (expects room (operand k)) tokens o

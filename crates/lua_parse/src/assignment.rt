@@ -41,7 +41,7 @@ fn function_name(alloc: Global, cursor: &mut Cursor, room: u32) -> Parsed<Target
     ensures low { IfOk result (λ found. found.height ≤ room) }
     ensures taken { IfOk result (λ _. length cursor.new < length cursor.old) }
 {
-    let first = name(alloc, cursor)?;
+    let first = name(cursor)?;
     let first = tree_making::variable(alloc, first)?;
     let exp = path(alloc, cursor, first, room)?;
     let line = cursor.line();
@@ -114,7 +114,7 @@ fn local_function(alloc: Global, cursor: &mut Cursor, line: u32, room: u32) -> P
     ensures taken { IfOk result (λ _. length cursor.new < length cursor.old) }
 {
     let own_line = expect(cursor, FUNCTION)?;
-    let name = name(alloc, cursor)?;
+    let name = name(cursor)?;
     let body = body(alloc, cursor, own_line, Vec::new(alloc), room)?;
     Ok(tree_making::local_function(alloc, line, name, body)?)
 }
@@ -127,7 +127,7 @@ fn local_names(alloc: Global, cursor: &mut Cursor, line: u32, room: u32) -> Pars
     ensures low { IfOk result (λ found. found.height ≤ room) }
     ensures taken { IfOk result (λ _. length cursor.new < length cursor.old) }
 {
-    let first = declared(alloc, cursor)?;
+    let first = declared(cursor)?;
     let names = more_declared(alloc, cursor, first)?;
     let values = values(alloc, cursor, room)?;
     Ok(tree_making::local(line, names, values))
@@ -146,18 +146,18 @@ fn more_declared(
     names.push(first)?;
     while cursor.is(COMMA) {
         cursor.skip();
-        let next = declared(alloc, cursor)?;
+        let next = declared(cursor)?;
         names.push(next)?;
     }
     Ok(names)
 }
 
 /// Name [`<` Name `>`].
-fn declared(alloc: Global, cursor: &mut Cursor) -> Result<Declared, Fault>
+fn declared(cursor: &mut Cursor) -> Result<Declared, Fault>
     ensures reads { Answers given_declared declared 0 cursor.old result cursor.new }
     ensures taken { IfOk result (λ _. length cursor.new < length cursor.old) }
 {
-    let variable = name(alloc, cursor)?;
+    let variable = name(cursor)?;
     if !cursor.is(LESS) {
         let attrib_line = variable.line;
         return Ok(Declared {
@@ -167,7 +167,7 @@ fn declared(alloc: Global, cursor: &mut Cursor) -> Result<Declared, Fault>
         });
     }
     cursor.skip();
-    let word = name(alloc, cursor)?;
+    let word = name(cursor)?;
     expect(cursor, GREATER)?;
     let attrib_line = word.line;
     Ok(Declared {

@@ -15,11 +15,11 @@ use tree_core::Block;
 
 /// The tree of the tokens, the last of which is the end (Lua 5.4 manual, 9). A refusal has the
 /// line of the first token that can't stand where it does.
-pub fn parse(alloc: Global, tokens: &Tokens) -> Result<Block, ParseFault>
-    requires { EndsOnce tokens.now }
-    ensures found { IfOk result (λ block. Derives tokens.now (plain_block block)) }
-    ensures only { IfOk result (λ block. IsOnlyTree tokens.now (plain_block block)) }
-    ensures refused { IfErr result (λ fault. Refuses tokens.now fault) }
+pub fn parse(alloc: Global, tokens: Tokens) -> Result<Block, ParseFault>
+    requires { EndsOnce tokens }
+    ensures found { IfOk result (λ block. Derives tokens (plain_block block)) }
+    ensures only { IfOk result (λ block. IsOnlyTree tokens (plain_block block)) }
+    ensures refused { IfErr result (λ fault. Refuses tokens fault) }
 {
     // The tokens of a block are counted in 32 bits.
     if tokens.len() > u32::MAX as usize {

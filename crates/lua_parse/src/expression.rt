@@ -16,7 +16,7 @@ use crate::table::table;
 use crate::terminal::copy;
 use lua_lex::Token;
 use std::alloc::{AllocError, Global};
-use token_cursor::token::{is_word, operator, unary_operator};
+use token_cursor::token::{is_word, may_join, operator, unary_operator};
 use token_cursor::word::{COMMA, DOTS, FALSE, FUNCTION, NIL, OPEN_CURLY, TRUE};
 use token_cursor::{Cursor, Level};
 use tree_core::{Exp, ExpNode};
@@ -63,6 +63,10 @@ fn chain(alloc: Global, cursor: &mut Cursor, level: Level, room: u32) -> Parsed<
     let mut left = unary(alloc, cursor, room)?;
     let mut current = Level::Product;
     while current.binds_more(level) {
+        // Most operands have no operator behind them.
+        if !may_join(cursor.peek()) {
+            return Ok(left);
+        }
         left = operators(alloc, cursor, current, left, room)?;
         current = current.looser();
     }

@@ -28,7 +28,7 @@ pub fn body(
     ensures taken { IfOk result (λ _. length cursor.new < length cursor.old) }
 {
     open(cursor, OPEN_ROUND, 0, room)?;
-    let params = params(alloc, cursor, own)?;
+    let params = params(cursor, own)?;
     open(cursor, CLOSE_ROUND, 0, room - 1)?;
     let inner = block(alloc, cursor, room - 1 - 1)?;
     expect(cursor, END)?;
@@ -36,7 +36,7 @@ pub fn body(
 }
 
 /// What stands between the parentheses of a function.
-fn params(alloc: Global, cursor: &mut Cursor, own: Vec<Name>) -> Result<Params, Fault>
+fn params(cursor: &mut Cursor, own: Vec<Name>) -> Result<Params, Fault>
     ensures reads { Answers given_params (params own.items) 0 cursor.old result cursor.new }
     ensures kept { IfOk result (λ _. length cursor.new ≤ length cursor.old) }
 {
@@ -48,7 +48,7 @@ fn params(alloc: Global, cursor: &mut Cursor, own: Vec<Name>) -> Result<Params, 
     }
     let mut names = own;
     while !cursor.is(DOTS) {
-        let name = name(alloc, cursor)?;
+        let name = name(cursor)?;
         names.push(name)?;
         if !cursor.is(COMMA) {
             return Ok(Params {

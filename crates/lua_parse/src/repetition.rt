@@ -22,7 +22,7 @@ pub fn for_stat(alloc: Global, cursor: &mut Cursor, room: u32) -> Parsed<Stat>
     ensures taken { IfOk result (λ _. length cursor.new < length cursor.old) }
 {
     let line = expect(cursor, FOR)?;
-    let first = name(alloc, cursor)?;
+    let first = name(cursor)?;
     if cursor.is(ASSIGN) {
         return numeric(alloc, cursor, line, first, room);
     }
@@ -93,7 +93,7 @@ fn names(alloc: Global, cursor: &mut Cursor, first: Name) -> Result<Vec<Name>, F
     names.push(first)?;
     while cursor.is(COMMA) {
         cursor.skip();
-        let next = name(alloc, cursor)?;
+        let next = name(cursor)?;
         names.push(next)?;
     }
     Ok(names)

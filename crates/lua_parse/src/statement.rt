@@ -34,8 +34,8 @@ pub fn statement(alloc: Global, cursor: &mut Cursor, room: u32) -> Parsed<Stat>
             cursor.skip();
             Ok(tree_making::bare_stat(line, StatNode::Break))
         }
-        Start::Label => label_stat(alloc, cursor, room),
-        Start::Goto => goto_stat(alloc, cursor, room),
+        Start::Label => label_stat(cursor, room),
+        Start::Goto => goto_stat(cursor, room),
         Start::Do => do_stat(alloc, cursor, room),
         Start::While => while_stat(alloc, cursor, room),
         Start::Repeat => repeat_stat(alloc, cursor, room),
@@ -48,25 +48,25 @@ pub fn statement(alloc: Global, cursor: &mut Cursor, room: u32) -> Parsed<Stat>
 }
 
 /// `::` Name `::`.
-fn label_stat(alloc: Global, cursor: &mut Cursor, room: u32) -> Parsed<Stat>
+fn label_stat(cursor: &mut Cursor, room: u32) -> Parsed<Stat>
     ensures reads { Answers given_stat label_stat room cursor.old result cursor.new }
     ensures low { IfOk result (λ found. found.height ≤ room) }
     ensures taken { IfOk result (λ _. length cursor.new < length cursor.old) }
 {
     let line = expect(cursor, LABEL)?;
-    let name = name(alloc, cursor)?;
+    let name = name(cursor)?;
     expect(cursor, LABEL)?;
     Ok(tree_making::bare_stat(line, StatNode::Label(name)))
 }
 
 /// `goto` Name.
-fn goto_stat(alloc: Global, cursor: &mut Cursor, room: u32) -> Parsed<Stat>
+fn goto_stat(cursor: &mut Cursor, room: u32) -> Parsed<Stat>
     ensures reads { Answers given_stat goto_stat room cursor.old result cursor.new }
     ensures low { IfOk result (λ found. found.height ≤ room) }
     ensures taken { IfOk result (λ _. length cursor.new < length cursor.old) }
 {
     let line = expect(cursor, GOTO)?;
-    let name = name(alloc, cursor)?;
+    let name = name(cursor)?;
     Ok(tree_making::bare_stat(line, StatNode::Goto(name)))
 }
 

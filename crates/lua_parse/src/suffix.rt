@@ -46,7 +46,7 @@ fn primary(alloc: Global, cursor: &mut Cursor, room: u32) -> Parsed<Box<Exp>>
     if cursor.is(OPEN_ROUND) {
         return paren(alloc, cursor, room);
     }
-    let name = name(alloc, cursor)?;
+    let name = name(cursor)?;
     Ok(tree_making::variable(alloc, name)?)
 }
 
@@ -100,7 +100,7 @@ pub fn dotted(
     ensures taken { IfOk result (λ _. length cursor.new < length cursor.old) }
 {
     let line = open(cursor, wanted, left.height, room)?;
-    let name = name(alloc, cursor)?;
+    let name = name(cursor)?;
     Ok(tree_making::dotted(alloc, line, left, name)?)
 }
 
@@ -129,7 +129,7 @@ fn method(alloc: Global, cursor: &mut Cursor, left: Found<Box<Exp>>, room: u32) 
     ensures taken { IfOk result (λ _. length cursor.new < length cursor.old) }
 {
     open(cursor, COLON, left.height, room)?;
-    let name = name(alloc, cursor)?;
+    let name = name(cursor)?;
     let line = cursor.line();
     let arguments = method_arguments(alloc, cursor, room - 1)?;
     Ok(tree_making::method(alloc, line, left, name, arguments)?)

@@ -5,7 +5,6 @@ ghost use Rattle.lua_parse.specs.Answers.{Answers, given_line, given_name};
 
 use crate::fault::Fault;
 use int_core::Bytes;
-use lua_lex::Token;
 use std::alloc::{AllocError, Global};
 use token_cursor::{Cursor, Word};
 use tree_core::{Name, Place};
@@ -39,16 +38,14 @@ pub fn open(cursor: &mut Cursor, wanted: Word, height: u32, room: u32) -> Result
 }
 
 /// Passes a name.
-pub fn name(alloc: Global, cursor: &mut Cursor) -> Result<Name, Fault>
+pub fn name(cursor: &mut Cursor) -> Result<Name, Fault>
     ensures reads { Answers given_name name 0 cursor.old result cursor.new }
     ensures taken { IfOk result (λ _. length cursor.new < length cursor.old) }
 {
     let line = cursor.line();
-    let Token::Name(text) = cursor.peek() else {
+    let Some(text) = cursor.take_name() else {
         return Err(Fault::Refused);
     };
-    let text = copy(alloc, text)?;
-    cursor.skip();
     Ok(Name {
         text,
         line,

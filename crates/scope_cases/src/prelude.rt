@@ -8,7 +8,7 @@ use std::test::Fail;
 fn the_prelude_is_accepted(rt: HostRuntime) -> Result<(), Fail> {
     let alloc = rt.alloc();
     let list = tokens(alloc, lua_prelude::text().as_bytes())?;
-    let block = parse(alloc, &list)?;
+    let block = parse(alloc, list)?;
     let resolved = resolve(alloc, block);
     assert!(rt; resolved.is_ok());
     Ok(())

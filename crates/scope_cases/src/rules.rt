@@ -212,7 +212,7 @@ static PLACES: [(&[u8], Place); 8] = [
 
 fn tree(alloc: Global, source: &[u8]) -> Result<Block, Fail> {
     let list = tokens(alloc, source)?;
-    match parse(alloc, &list) {
+    match parse(alloc, list) {
         Ok(block) => Ok(block),
         Err(fault) => Err(Fail::from(fault)),
     }

@@ -1,14 +1,14 @@
 -- The tokens that are left from a place on.
-use Rattle.std.proofs.Common.{◌≡◌, ℕ, ◌+◌, List, [], ◌∷◌, drop, Option, Some, None, false, refl, sym, ap, subst, ◌∙◌, arith, get_or}
-use Rattle.std.specs.Prelude.{slice_get}
+use Rattle.std.proofs.Common.{◌≡◌, ℕ, ◌+◌, List, [], ◌∷◌, drop, Option, Some, None, true, false, refl, sym, ap, subst, ◌∙◌, arith, get_or}
+use Rattle.std.specs.Prelude.{is_some, slice_get}
 use Rattle.std.specs.Option.{option_map}
 use Rattle.std.proofs.lemmas.List.{drop-drop, get_or-drop}
 use Rattle.std.proofs.lemmas.Option.{get_or_from_slice_get}
 use Rattle.lua_lex.specs.declared.token.Token.{Token}
+use Rattle.lua_lex.specs.declared.token.Token.TheVariants as token
 use Rattle.lua_lex.specs.declared.token.Token.TheVariants.{End}
 use Rattle.lua_lex.specs.Lexical.{EndsOnce, LastWhere, is_end}
-use Rattle.token_cursor.specs.Words.{Lexeme}
-use Rattle.token_cursor.specs.Words.{first}
+use Rattle.token_cursor.specs.Words.{Lexeme, first, name_of}
 
 first_of : (ts : List Lexeme) → first ts ≡ get_or ts 0 (End, 0)
 first_of [] = refl
@@ -37,6 +37,12 @@ ends_later (t ∷ ts) once not_end = subst (λ b. LastWhere b ts (EndsOnce ts)) 
 
 pub ends_behind : (at : ℕ) (ts : List Lexeme) → EndsOnce (drop at ts) → is_end (first (drop at ts)).0 ≡ false → EndsOnce (drop (at + 1) ts)
 ends_behind at ts once not_end = subst EndsOnce (drop-drop 1 at ts) (ends_later (drop at ts) once not_end)
+
+-- a name is not the end
+
+pub name_not_end : (t : Token) → is_some (name_of t) ≡ true → is_end t ≡ false
+name_not_end token.End h = absurd cc
+name_not_end _ h = refl
 
 pub drop_more : (at : ℕ) (ts : List Lexeme) → drop (at + 1) ts ≡ drop 1 (drop at ts)
 drop_more at ts = sym (drop-drop 1 at ts)

@@ -1,6 +1,6 @@
 -- A token that cannot join two operands is an operator of no level.
-use Rattle.std.proofs.Common.{◌≡◌, ℕ, Bool, true, false, Option, None, refl, ap, sym, ◌∙◌}
-use Rattle.std.specs.Prelude.{◌==◌, ◌||◌, nat_le}
+use Rattle.std.proofs.Common.{◌≡◌, ℕ, Bool, true, false, None, refl, ap, sym, ◌∙◌}
+use Rattle.std.specs.Prelude.{◌==◌}
 use Rattle.std.proofs.lemmas.Bool.{eqb-true}
 use Rattle.lua_lex.specs.declared.token.Token.{Token}
 use Rattle.lua_lex.specs.declared.token.Token.TheVariants as token

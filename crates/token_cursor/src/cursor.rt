@@ -1,45 +1,45 @@
 // A place in the list of tokens.
-ghost use Rattle.std.specs.Prelude.{◌≡◌, ◌<◌, ◌^◌, ◌∷◌, length, drop, false, if◌then◌else◌};
+ghost use Rattle.std.specs.Prelude.{◌≡◌, ◌<◌, ◌^◌, ◌∷◌, length, drop, false, is_some, if◌then◌else◌};
 ghost use Rattle.lua_lex.specs.Lexical.{EndsOnce, is_end};
-ghost use Rattle.token_cursor.specs.Words.{is_word};
-ghost use Rattle.token_cursor.specs.Words.{first};
+ghost use Rattle.token_cursor.specs.Words.{first, is_word, name_of};
 
 use crate::token;
 use crate::word::Word;
+use int_core::Bytes;
 use lua_lex::{Token, Tokens};
 use std::marker::Model;
 
 /// The tokens from a place on, the last of which is the end.
 #[derive(Drop)]
-pub struct Cursor<'a> {
-    tokens: &'a Tokens,
+pub struct Cursor {
+    tokens: Tokens,
     at: usize,
 }
 
-impl<'a> Model for Cursor<'a> {
+impl Model for Cursor {
     ghost use Rattle.std.specs.Prelude.{◌<◌, ◌^◌, ℕ, List, length, drop};
     ghost use Rattle.lua_lex.specs.declared.token.Token.{Token};
     ghost use Rattle.lua_lex.specs.Lexical.{EndsOnce};
 
     ghost Value = { List (Token × ℕ) };
 
-    ghost view = { λ c. drop c.at c.tokens.now };
+    ghost view = { λ c. drop c.at c.tokens };
 
-    ghost invariant = { λ c. EndsOnce (drop c.at c.tokens.now) × (length c.tokens.now < 2 ^ 32) };
+    ghost invariant = { λ c. EndsOnce (drop c.at c.tokens) × (length c.tokens < 2 ^ 32) };
 }
 
-impl<'a> Cursor<'a> {
+impl Cursor {
     /// All the tokens.
-    pub fn new(tokens: &'a Tokens) -> Cursor<'a>
-        requires ends { EndsOnce tokens.now }
-        requires short { length tokens.now < 2 ^ 32 }
-        ensures { result ≡ tokens.now }
+    pub fn new(tokens: Tokens) -> Cursor
+        requires ends { EndsOnce tokens }
+        requires short { length tokens < 2 ^ 32 }
+        ensures { result ≡ tokens }
     {
         Cursor { tokens, at: 0 }
     }
 
     /// The token that comes next.
-    pub fn peek(&self) -> &'a Token
+    pub fn peek(&self) -> &Token
         ensures is { result.now ≡ (first self.now).0 }
         ensures more { self.now ≡ first self.now ∷ drop 1 self.now }
     {
@@ -81,6 +81,20 @@ impl<'a> Cursor<'a> {
             self.skip();
         }
         comes
+    }
+
+    /// Passes the name that comes next and answers its bytes, where one comes.
+    pub fn take_name(&mut self) -> Option<Bytes>
+        ensures is { result ≡ name_of (first self.old).0 }
+        ensures more { self.old ≡ first self.old ∷ drop 1 self.old }
+        ensures passed { self.new ≡ (if is_some (name_of (first self.old).0) then drop 1 self.old else self.old) }
+    {
+        if !token::is_name(self.peek()) {
+            return None;
+        }
+        let (token, _) = self.tokens.take(self.at);
+        self.at += 1;
+        token::into_name(token)
     }
 
     /// How many tokens are left.

@@ -1,8 +1,8 @@
 // What a token is for the grammar.
-ghost use Rattle.std.specs.Prelude.{◌≡◌, ◌||◌};
+ghost use Rattle.std.specs.Prelude.{◌≡◌, ◌||◌, is_some};
 ghost use Rattle.lua_lex.specs.Lexical.{is_end};
 ghost use Rattle.token_cursor.specs.declared.level.Level.TheVariants.{Comparison, Shift, Sum, Product};
-ghost use Rattle.token_cursor.specs.Words.{is_word, is_string, ends_block, begins_suffix, is_separator, may_join, operator_of, unary_of, start_of};
+ghost use Rattle.token_cursor.specs.Words.{is_word, is_string, name_of, ends_block, begins_suffix, is_separator, may_join, operator_of, unary_of, start_of};
 
 use crate::level::Level;
 use crate::start::Start;
@@ -12,6 +12,7 @@ use crate::word::{
     LESS_EQUAL, LOCAL, MINUS, NOT, NOT_EQUAL, OPEN_CURLY, OPEN_ROUND, OPEN_SQUARE, OR, PERCENT,
     PLUS, REPEAT, RETURN, SEMICOLON, SHIFT_LEFT, SHIFT_RIGHT, STAR, TILDE, UNTIL, WHILE, Word,
 };
+use int_core::Bytes;
 use lua_lex::{Token, keyword, mark};
 use tree_core::{BinOp, UnOp};
 use tree_making::Infix;
@@ -39,6 +40,23 @@ pub fn is_string(token: &Token) -> bool
     ensures { result ≡ is_string token.now }
 {
     matches!(token, Token::Str(_))
+}
+
+/// Whether this is a name.
+pub fn is_name(token: &Token) -> bool
+    ensures { result ≡ is_some (name_of token.now) }
+{
+    matches!(token, Token::Name(_))
+}
+
+/// The bytes of the token, where it is a name.
+pub fn into_name(token: Token) -> Option<Bytes>
+    ensures { result ≡ name_of token }
+{
+    match token {
+        Token::Name(text) => Some(text),
+        _ => None,
+    }
 }
 
 /// Whether a block ends before this.
@@ -101,8 +119,8 @@ pub fn operator(token: &Token, level: Level) -> Option<Infix>
     is_word(token, word).then_some(infix)
 }
 
-/// Whether the token may be an operator of some level. Most that stand behind an operand are none, and all levels are asked there.
-fn may_join(token: &Token) -> bool
+/// Whether the token may be an operator of some level. Most that stand behind an operand are none.
+pub fn may_join(token: &Token) -> bool
     ensures { result ≡ may_join token.now }
 {
     match token {

@@ -9,11 +9,11 @@ use Rattle.lua_parse.specs.Grammar.{expects}
 use Rattle.lua_parse.proofs.Steps.{Leads}
 use Rattle.lua_parse.proofs.repetition.names.Given as goal
 
-abbrev pub invariant-loop-alloc : goal.invariant-loop-alloc
-invariant-loop-alloc l = record {
+abbrev pub invariant-loop-cursor : goal.invariant-loop-cursor
+invariant-loop-cursor l = record {
   leads : Leads (expects 0 (more_names (l.fn.first ∷ []))) l.fn.cursor (expects 0 (more_names l.names.items)) l.cursor;
   kept : length l.cursor ≤ length l.fn.cursor;
 }
 
-abbrev pub decreases-loop-alloc : goal.decreases-loop-alloc
-decreases-loop-alloc l = length l.cursor
+abbrev pub decreases-loop-cursor : goal.decreases-loop-cursor
+decreases-loop-cursor l = length l.cursor

@@ -1,6 +1,6 @@
 use Rattle.std.proofs.Common.{length, get_or, drop, ◌-◌, ◌≡◌, ◌≤◌, ◌<◌, ◌+◌, true}
 use Rattle.lua_lex.specs.Classes.{is_line_end, line_ends}
-use Rattle.lua_lex.proofs.line.line_ends.Given as goal
+use Rattle.lua_lex.proofs.line.found_line_ends.Given as goal
 
 abbrev pub invariant-loop-at : goal.invariant-loop-at
 invariant-loop-at l = record {

@@ -3,7 +3,7 @@ use Rattle.std.proofs.Common.{◌≡◌, ◌<◌, ◌+◌, get_or, drop, length,
 use Rattle.std.specs.List.{position_or_len}
 use Rattle.lua_lex.specs.Classes.{is_line_end, end_len, line_ends}
 use Rattle.lua_lex.proofs.LineLemmas.{line_ends-end, line_ends-plain, at_line_end}
-use Rattle.lua_lex.proofs.line.line_ends.Goals as goal
+use Rattle.lua_lex.proofs.line.found_line_ends.Goals as goal
 
 pub loop-at-init : goal.loop-at-init
 loop-at-init c =
