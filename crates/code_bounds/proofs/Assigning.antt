@@ -1,5 +1,6 @@
 -- The code of an assignment takes the registers that are counted for it.
-use Rattle.std.proofs.Common.{◌≡◌, ℕ, ◌+◌, ◌*◌, ◌<◌, ◌≤◌, max, Bool, true, false, List, [], ◌∷◌, ◌++◌, Option, Some, None, refl, sym, ap, subst, lit≤, arith}
+use Rattle.std.proofs.Common.{◌≡◌, ℕ, ◌+◌, ◌*◌, ◌<◌, ◌≤◌, ◌^◌, max, Bool, true, false, List, [], ◌∷◌, ◌++◌, Option, Some, None, refl, sym, ap, subst, lit≤, arith}
+use Rattle.tree_core.specs.declared.name.Name.{Name}
 use Rattle.tree_core.specs.declared.name.Place.{Place}
 use Rattle.tree_core.specs.declared.name.Place.TheVariants.{Unset, Upvalue, GlobalIn, GlobalOf, Local as LocalPlace}
 use Rattle.tree_core.specs.Tree.{Exp, Str, Var, Index, Exps, EndExps, MoreExps}
@@ -9,21 +10,22 @@ use Rattle.code_core.specs.declared.proto.Const.TheVariants.{Str as StrConst}
 use Rattle.code_of.specs.Coded.{Coded, with_abc}
 use Rattle.code_of.specs.Constants.{number_in, loads}
 use Rattle.code_of.specs.Expressions.{made_by, made_in, count, exp_code, exps_code}
-use Rattle.code_of.specs.Operands.{is_direct, assigned}
-use Rattle.code_of.proofs.Operands.{assigned_is}
-use Rattle.code_of.specs.Parts.{name_target, target_code, targets_code, name_store, store_code, stores_code, direct_code, first_direct, first_field, stored_code, kept_code, store_by, assign_by, assign_code}
+use Rattle.code_of.specs.Operands.{is_direct, assigned, second_assigned}
+use Rattle.code_of.proofs.Operands.{assigned_is, second_is}
+use Rattle.code_of.specs.Parts.{name_target, target_code, targets_code, name_store, store_code, stores_code, direct_code, first_direct, first_field, stored_code, kept_code, store_by, assign_by, assign_code, two_code, first_two, two_by}
 use Rattle.code_of.specs.Stores.{key_code, stores_field}
 use Rattle.code_of.proofs.Stores.{stores_field_is}
+use Rattle.code_of.proofs.StoredValues.{StoredIn}
 use Rattle.code_of.specs.Targets.{waiting_key, text_key, single_store}
 use Rattle.code_of.proofs.Targets.{key_waits, single_store_is}
 use Rattle.scope_core.specs.Held.{held, held_behind, held_targets}
-use Rattle.code_of.specs.Rooms.{room_of_name, room_of_direct, room_of_assigned, room_of_first, room_of_list}
+use Rattle.code_of.specs.Rooms.{room_of_name, room_of_direct, room_of_assigned, room_of_first, room_of_list, room_of, room_of_two}
 use Rattle.scope_laws.specs.Finding.{PlaceIsThere, ExpFinds, ExpsFind}
-use Rattle.code_bounds.specs.Registers.{TargetHasRoom, TargetsHaveRoom, KeptHasRoom, StoreHasRoom, AssignHasRoom}
-use Rattle.code_bounds.proofs.Tops.{top, one, top_more, top_append, one_a, one_ab}
+use Rattle.code_bounds.specs.Registers.{TargetHasRoom, TargetsHaveRoom, KeptHasRoom, StoreHasRoom, AssignHasRoom, TwoHasRoom}
+use Rattle.code_bounds.proofs.Tops.{top, one, top_more, top_append, one_a, one_ab, third_room}
 use Rattle.code_bounds.proofs.Pieces.{loads_top}
 use Rattle.code_bounds.proofs.Holding.{name_two, held_shifted, exp_held}
-use Rattle.code_bounds.proofs.Expressions.{direct_takes, direct_less, local_found}
+use Rattle.code_bounds.proofs.Expressions.{direct_takes, direct_less, local_found, some_room}
 use Rattle.code_bounds.proofs.Room.{HasRoom, room_as, room_append, room_of_top}
 use Rattle.code_bounds.proofs.Simple.{exp_room, exps_room, filled}
 use Rattle.code_bounds.proofs.FieldStores.{field_room}
@@ -121,43 +123,85 @@ module _ (cs : List Const) (hidden : List ℕ) (ups : ℕ) where
         by r n v full go room is within = (go (omega arith), (omega arith, omega arith))
 
     -- a value that goes straight to a local's register
-    direct_room : (e : Exp) → is_direct e ≡ true → (r t j : ℕ) → ExpFinds e hidden t ups → r < t → t + held e ≤ 250 → t + 1 ≤ 250 → HasRoom stack (direct_code cs e r t j) (t ≤ stack → t + room_of_direct cs e ≤ stack)
-    direct_room e is r t j known low few fits =
+    direct_room : (e : Exp) → is_direct e ≡ true → (r size t j : ℕ) → ExpFinds e hidden size ups → size ≤ t → r < t → t + held e ≤ 250 → t + 1 ≤ 250 → HasRoom stack (direct_code cs e r t j) (t ≤ stack → t + room_of_direct cs e ≤ stack)
+    direct_room e is r size t j known above low few fits =
         let h = exp_held cs e 2 in
         let less = direct_less cs e in
-        let all = direct_takes cs hidden ups e is r t t j known (omega arith) low (omega (arith, h, less)) in
+        let all = direct_takes cs hidden ups e is r size t j known above low (omega (arith, h, less)) in
         record { below = omega (arith, h, less, fits, all.0); gives = λ small within. omega (arith, all.1, small, within) }
+
+    -- two values, of which the second one goes straight to a local's register
+    two_room : (l : ℕ) (x : Exp) (name : Name) (e d : Exp) (r t j : ℕ) → name.place ≡ LocalPlace r → is_direct d ≡ true → ExpFinds x hidden t ups → ExpFinds e hidden t ups → ExpFinds d hidden t ups → r < t
+        → t + held x ≤ 250 → t + 2 + held e ≤ 250 → t + 3 + held d ≤ 250 → t + 4 ≤ 250
+        → HasRoom stack (two_code cs x e d r t j) (t ≤ stack → TargetsHaveRoom cs stack (MoreExps x (MoreExps (Var l name) EndExps)) t × (t + max (2 + room_of cs e 2) (3 + room_of_direct cs d) ≤ stack))
+    two_room l x name e d r t j place direct known_x known_e known_d low x_few e_few d_few fits =
+        let aims = target_code cs x t j in
+        let first = exp_code cs e (t + 2) (j + made_by x) 2 in
+        let second = direct_code cs d r (t + 3) (j + made_by x + made_by e) in
+        let last = store_code cs x t (t + 2) in
+        let some = some_room cs e 2 (omega arith) in
+        let h = target_room x t t j known_x (omega arith) x_few (omega (arith, fits)) in
+        let k = exp_room cs hidden ups stack e t (t + 2) (j + made_by x) 2 known_e (omega arith) e_few (omega (arith, fits)) (lit≤ tt) in
+        let q = direct_room d direct r t (t + 3) (j + made_by x + made_by e) known_d (omega arith) (omega (arith, low)) d_few (omega (arith, fits)) in
+        let z = room_of_top {stack = stack} last (store_top x t t (t + 2) 250 known_x (omega (arith, fits)) (omega (arith, fits)) (omega (arith, fits)) (lit≤ tt)) in
+        room_as (room_append aims (first ++ (second ++ last)) h (room_append first (second ++ last) k (room_append second last q z)))
+        (λ all small.
+        let value : t + 2 + room_of cs e 2 ≤ max (t + 2) stack = all.1.0 in
+        let within : t + 3 ≤ stack = omega (arith, value, some) in
+        let behind = all.1.1.0 within in
+        ((all.0 (omega (arith, within)), (subst (λ p. t + 2 + room_of_name cs p name.text ≤ stack) (sym place) (omega (arith, within)), tt)), omega (arith, value, within, behind)))
+
+    -- a value that a store names is a constant of a field, or stands below the free registers
+    stored_low : (e : Exp) (constant : Bool) (v t : ℕ) → StoredIn cs e constant v → ExpFinds e hidden t ups → t ≤ 250 → (v < 2 ^ 8) × (third_room constant v ≤ t)
+    stored_low e true v t is known small = let short = is.short in (omega (arith, short), omega arith)
+    stored_low e false v t is known small = let below = local_found hidden ups e v t is known in (omega (arith, below, small), omega (arith, below))
 
     pub assign_room : (targets es : Exps) (t j line : ℕ) → ups ≤ 255 → ExpsFind targets hidden t ups → ExpsFind es hidden t ups → t + held_targets 0 targets ≤ 250 → t + held_behind (2 * count targets) es ≤ 250 → t + 3 * count targets ≤ 250 →
         HasRoom stack (assign_code cs targets es t j line) (t ≤ stack → AssignHasRoom cs stack (assigned targets es) targets es t)
     assign_room targets es t j line few_ups known_targets known few values many = by (assigned targets es) refl
       where
         by : (o : Option ℕ) → assigned targets es ≡ o → HasRoom stack (assign_by cs o targets es t j line) (t ≤ stack → AssignHasRoom cs stack o targets es t)
-        by None is = by_field (stores_field targets es) refl
+        by None is = by_two (second_assigned targets es) refl
           where
-            by_field : (b : Bool) → stores_field targets es ≡ b → HasRoom stack (store_by cs b targets es t j line) (t ≤ stack → StoreHasRoom cs stack b targets es t)
-            by_field false is = by_store (single_store cs targets es) refl
+            by_two : (o : Option ℕ) → second_assigned targets es ≡ o → HasRoom stack (two_by cs o targets es t j line) (t ≤ stack → TwoHasRoom cs stack o targets es t)
+            by_two None is = by_field (stores_field targets es) refl
               where
-                by_store : (o : Option Coded) → single_store cs targets es ≡ o → HasRoom stack (kept_code cs o targets es t j line) (t ≤ stack → KeptHasRoom cs stack o targets es t)
-                by_store None is = stored_room targets es t j line known_targets known few values many
-                by_store (Some x) is =
-                    let form = single_store_is cs targets es x is in
+                by_field : (b : Bool) → stores_field targets es ≡ b → HasRoom stack (store_by cs b targets es t j line) (t ≤ stack → StoreHasRoom cs stack b targets es t)
+                by_field false is = by_store (single_store cs targets es) refl
+                  where
+                    by_store : (o : Option Coded) → single_store cs targets es ≡ o → HasRoom stack (kept_code cs o targets es t j line) (t ≤ stack → KeptHasRoom cs stack o targets es t)
+                    by_store None is = stored_room targets es t j line known_targets known few values many
+                    by_store (Some x) is =
+                        let form = single_store_is cs targets es x is in
+                        let found = subst (λ z. ExpsFind z hidden t ups) form.target known_targets in
+                        let value_known = subst (λ z. ExpsFind z hidden t ups) form.values known in
+                        let seat = stored_low form.value form.constant form.field t form.is value_known.0 (omega (arith, many)) in
+                        record { below = local_top cs hidden ups form.name.place (number_in cs (StrConst form.name.text)) form.constant form.field form.line t x form.store found.0 form.short seat.0 seat.1 (omega (arith, many)) few_ups; gives = λ h small. tt }
+                by_field true is =
+                    let form = stores_field_is targets es is in
+                    let after = j + made_in targets in
+                    let target = MoreExps (Index form.line form.object form.key) EndExps in
                     let found = subst (λ z. ExpsFind z hidden t ups) form.target known_targets in
                     let value_known = subst (λ z. ExpsFind z hidden t ups) form.values known in
-                    let below = local_found hidden ups form.value form.local t form.is value_known.0 in
-                    record { below = local_top cs hidden ups form.name.place (number_in cs (StrConst form.name.text)) form.local form.line t x form.store found.0 form.short below (omega (arith, many)) few_ups; gives = λ h small. tt }
-            by_field true is =
-                let form = stores_field_is targets es is in
-                let after = j + made_in targets in
-                let target = MoreExps (Index form.line form.object form.key) EndExps in
-                let found = subst (λ z. ExpsFind z hidden t ups) form.target known_targets in
+                    let held_target = ap (held_targets 0) form.target in
+                    let held_value = ap (held_behind (2 * count targets)) form.values in
+                    let counted = ap count form.target in
+                    subst (λ z. HasRoom stack (first_field cs z es t j after) (t ≤ stack → t + room_of_first cs z es ≤ stack)) (sym form.target)
+                    (subst (λ z. HasRoom stack (first_field cs target z t j after) (t ≤ stack → t + room_of_first cs target z ≤ stack)) (sym form.values)
+                    (field_room cs hidden ups stack form.line form.object form.key form.value t j after found.0.0 found.0.1 value_known.0 (omega (arith, few, held_target)) (omega (arith, few, held_target)) (omega (arith, values, held_value, counted)) (omega (arith, many, counted))))
+            by_two (Some r) is =
+                let form = second_is targets es r is in
+                let both = MoreExps form.target (MoreExps (Var form.line form.name) EndExps) in
+                let found = subst (λ z. ExpsFind z hidden t ups) form.targets_are known_targets in
+                let there = subst (λ p. PlaceIsThere hidden t ups p) form.place found.1.0 in
                 let value_known = subst (λ z. ExpsFind z hidden t ups) form.values known in
-                let held_target = ap (held_targets 0) form.target in
+                let held_target = ap (held_targets 0) form.targets_are in
                 let held_value = ap (held_behind (2 * count targets)) form.values in
-                let counted = ap count form.target in
-                subst (λ z. HasRoom stack (first_field cs z es t j after) (t ≤ stack → t + room_of_first cs z es ≤ stack)) (sym form.target)
-                (subst (λ z. HasRoom stack (first_field cs target z t j after) (t ≤ stack → t + room_of_first cs target z ≤ stack)) (sym form.values)
-                (field_room cs hidden ups stack form.line form.object form.key form.value t j after found.0.0 found.0.1 value_known.0 (omega (arith, few, held_target)) (omega (arith, few, held_target)) (omega (arith, values, held_value, counted)) (omega (arith, many, counted))))
+                let counted = ap count form.targets_are in
+                subst (λ z. HasRoom stack (first_two cs z es r t j) (t ≤ stack → TargetsHaveRoom cs stack z t × (t + room_of_two cs z es ≤ stack))) (sym form.targets_are)
+                (subst (λ z. HasRoom stack (first_two cs both z r t j) (t ≤ stack → TargetsHaveRoom cs stack both t × (t + room_of_two cs both z ≤ stack))) (sym form.values)
+                (two_room form.line form.target form.name form.first form.second r t j form.place form.direct found.0 value_known.0 value_known.1.0 there.0
+                (omega (arith, few, held_target)) (omega (arith, values, held_value, counted)) (omega (arith, values, held_value, counted)) (omega (arith, many, counted))))
         by (Some r) is =
             let form = assigned_is targets es r is in
             let found = subst (λ z. ExpsFind z hidden t ups) form.target known_targets in
@@ -165,4 +209,4 @@ module _ (cs : List Const) (hidden : List ℕ) (ups : ℕ) where
             let value_known = subst (λ z. ExpsFind z hidden t ups) form.values known in
             let held_so = ap (held_behind (2 * count targets)) form.values in
             subst (λ z. HasRoom stack (first_direct cs z r t (j + made_in targets)) (t ≤ stack → t + room_of_assigned cs z ≤ stack)) (sym form.values)
-            (direct_room form.value form.direct r t (j + made_in targets) value_known.0 there.0 (omega (arith, values, held_so)) (let counted = ap count form.target in omega (arith, many, counted)))
+            (direct_room form.value form.direct r t t (j + made_in targets) value_known.0 (omega arith) there.0 (omega (arith, values, held_so)) (let counted = ap count form.target in omega (arith, many, counted)))

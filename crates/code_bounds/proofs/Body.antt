@@ -7,7 +7,7 @@ use Rattle.code_core.specs.declared.opcode.Opcode.TheVariants.{VarArgPrep}
 use Rattle.code_of.specs.Coded.{words}
 use Rattle.code_of.specs.Constants.{of_block}
 use Rattle.code_of.specs.Statements.{whole_code}
-use Rattle.code_of.specs.CodeOf.{back_field, opening, body_code, room}
+use Rattle.code_of.specs.CodeOf.{leaving_of, opening, body_code, room}
 use Rattle.scope_laws.specs.Finding.{BlockFinds}
 use Rattle.scope_laws.specs.Keeping.{BlockKeeps}
 use Rattle.code_bounds.specs.Registers.{BlockHasRoom, RegistersAreEnough}
@@ -23,7 +23,7 @@ body_room : (stack : ℕ) (params : List Name) (vararg : Bool) (inner : Block) (
     HasRoom stack (body_code (BodyOf params vararg inner ups line)) (length params ≤ stack → BlockHasRoom (of_block inner []) stack inner (length params))
 body_room stack params vararg inner ups line few_ups known few keeps =
     let begin = opening vararg (length params) line in
-    let back = back_field vararg (length params) in
+    let back = leaving_of vararg (length params) inner in
     room_as
     (room_append begin (whole_code (of_block inner []) back inner (length params) (length begin)) (room_of_top begin (opening_top vararg (length params) line))
     (whole_room (of_block inner []) stack back (length ups) few_ups vararg inner (length params) (length begin) known few keeps))

@@ -5,20 +5,19 @@ use Rattle.tree_core.specs.declared.operator.UnOp.TheVariants.{Neg, BitNot, Not 
 use Rattle.tree_core.specs.declared.operator.BinOp.{BinOp}
 use Rattle.tree_core.specs.declared.operator.BinOp.TheVariants.{Add as Plus, Sub as Minus, Mul as Times, Mod as Modulo, Idiv, Band, Bor, Bxor, Shl as ShiftLeft, Shr as ShiftRight, Concat as Join, Eq as Equal, Ne, Lt as Less, Le as AtMost, Gt, Ge}
 use Rattle.tree_core.specs.Tree.{Exp, Nil, True, False, Int, Str, Vararg, Function, Var, Index, Call, Method, Unary, Binary, And, Or, Paren, Table}
-use Rattle.tree_terms.specs.Weight.{weight}
 use Rattle.code_core.specs.declared.opcode.Opcode.{Opcode}
 use Rattle.code_core.specs.declared.opcode.Opcode.TheVariants.{Jmp, Test, Eq, Lt, Le, EqK, EqI, LtI, LeI, GtI, GeI}
 use Rattle.code_core.specs.declared.proto.Const.{Const}
 use Rattle.code_core.specs.Instruction.{abc}
 use Rattle.code_of.specs.Coded.{Coded, jump_over}
 use Rattle.code_of.specs.Expressions.{made_by, exp_code}
-use Rattle.code_of.specs.Conditions.{jump_if, pick, compared, line_of, value_test, test_code}
+use Rattle.code_of.specs.Truths.{jump_if, pick, compared, line_of}
+use Rattle.code_of.specs.Conditions.{value_test, test_code}
 use Rattle.code_of.specs.Operands.{local_of, operand_code, Second, a_number, a_local, made, second_of, first_of, operands_code, operands_room, seat, unless}
 use Rattle.code_of.specs.Operators.{number_opcode}
 use Rattle.code_of.specs.FieldReads.{object_room}
-use Rattle.code_of.proofs.Operands.{second_local, first_local, operand_short}
+use Rattle.code_of.proofs.Operands.{second_local, first_local}
 use Rattle.code_of.specs.Operations.{constant_in, operation_by, operation_room}
-use Rattle.code_of.proofs.Operations.{operation_short}
 use Rattle.code_bounds.proofs.Expressions.{local_found}
 use Rattle.code_of.specs.Rooms.{room_of, room_of_test}
 use Rattle.scope_core.specs.Held.{held}
@@ -26,96 +25,14 @@ use Rattle.scope_laws.specs.Finding.{ExpFinds}
 use Rattle.code_bounds.proofs.Tops.{one, ax_is, one_a, one_ab}
 use Rattle.code_bounds.proofs.Holding.{some_held}
 use Rattle.code_bounds.proofs.Room.{HasRoom, room_end, room_as, room_append, room_more}
-use Rattle.code_bounds.proofs.ShortExpressions.{exp_short}
+use Rattle.code_bounds.proofs.ShortTests.{Short}
+use Rattle.code_bounds.proofs.ShortExpressions.{exp_short, tested_short}
 use Rattle.code_bounds.proofs.Simple.{exp_room}
 
--- a test and its jump pay for what an expression leaves over
+-- a condition is short
 
-module _ (cs : List Const) where
-  abbrev pub Short : Exp → Type 0
-  Short e = (k : Bool) (ahead t j : ℕ) → length (test_code cs e k ahead t j) ≤ 6 * weight e
-
-  value_short : (e : Exp) (k : Bool) (ahead t j : ℕ) → length (value_test cs e k ahead t j) ≤ 6 * weight e
-  value_short e k ahead t j = omega (arith, exp_short cs e t j 2, operand_short (local_of e) (exp_code cs e t j 2) t (λ x. jump_if Test x 0 (not k) ahead (line_of e)) 2 (λ x. omega arith))
-
-  not_short : (line : ℕ) (op : UnOp) (e : Exp) → Short e → Short (Unary line op e)
-  not_short line Negation e h k ahead t j = let a = h (not k) ahead t j in omega (arith, a)
-  not_short line Neg e h k ahead t j = value_short (Unary line Neg e) k ahead t j
-  not_short line BitNot e h k ahead t j = value_short (Unary line BitNot e) k ahead t j
-  not_short line Length e h k ahead t j = value_short (Unary line Length e) k ahead t j
-
-  binary_short : (line : ℕ) (op : BinOp) (e d : Exp) → Short (Binary line op e d)
-  binary_short line op e d k ahead t j = by op
-    where
-      first_code : List Coded
-      first_code = exp_code cs e t j 2
-
-      code : List Coded
-      code = exp_code cs d (t + 1) (j + made_by e) 2
-
-      compare_short : (x y : ℕ → ℕ → ℕ) (opcode number_op : Opcode) (field : Bool)
-          → length (operation_by (constant_in cs op d) op e d first_code code t (λ m n. jump_if EqK m n field ahead line) (λ m n. jump_if opcode (x m n) (y m n) field ahead line) (λ m n. jump_if number_op m (n + 127) field ahead line)) ≤ 6 * weight (Binary line op e d)
-      compare_short x y opcode number_op field =
-          omega (
-            arith,
-            exp_short cs e t j 2,
-            exp_short cs d (t + 1) (j + made_by e) 2,
-            operation_short (constant_in cs op d) op e d first_code code t (λ m n. jump_if EqK m n field ahead line) (λ m n. jump_if opcode (x m n) (y m n) field ahead line) (λ m n. jump_if number_op m (n + 127) field ahead line) 2 (λ m n. omega arith) (λ m n. omega arith) (λ m n. omega arith),
-          )
-
-      by : (o : BinOp) → length (compared o (value_test cs (Binary line op e d) k ahead t j)
-          (λ opcode swapped wanted. operation_by (constant_in cs op d) op e d first_code code t
-          (λ x n. jump_if EqK x n (cond wanted (not k) k) ahead line)
-          (λ x y. jump_if opcode (pick swapped x y) (pick swapped y x) (cond wanted (not k) k) ahead line)
-          (λ x n. jump_if (number_opcode op) x (n + 127) (cond wanted (not k) k) ahead line))) ≤ 6 * weight (Binary line op e d)
-      by Equal = compare_short (λ x y. x) (λ x y. y) Eq (number_opcode op) (not k)
-      by Ne = compare_short (λ x y. x) (λ x y. y) Eq (number_opcode op) k
-      by Less = compare_short (λ x y. x) (λ x y. y) Lt (number_opcode op) (not k)
-      by AtMost = compare_short (λ x y. x) (λ x y. y) Le (number_opcode op) (not k)
-      by Gt = compare_short (λ x y. y) (λ x y. x) Lt (number_opcode op) (not k)
-      by Ge = compare_short (λ x y. y) (λ x y. x) Le (number_opcode op) (not k)
-      by Plus = value_short (Binary line op e d) k ahead t j
-      by Minus = value_short (Binary line op e d) k ahead t j
-      by Times = value_short (Binary line op e d) k ahead t j
-      by Modulo = value_short (Binary line op e d) k ahead t j
-      by Idiv = value_short (Binary line op e d) k ahead t j
-      by Band = value_short (Binary line op e d) k ahead t j
-      by Bor = value_short (Binary line op e d) k ahead t j
-      by Bxor = value_short (Binary line op e d) k ahead t j
-      by ShiftLeft = value_short (Binary line op e d) k ahead t j
-      by ShiftRight = value_short (Binary line op e d) k ahead t j
-      by Join = value_short (Binary line op e d) k ahead t j
-
-  true_short : (line : ℕ) → Short (True line)
-  true_short line true ahead t j = omega arith
-  true_short line false ahead t j = omega arith
-
-  pub test_short : (e : Exp) → Short e
-  test_short (Paren line e) k ahead t j = let a = test_short e k ahead t j in omega (arith, a)
-  test_short (Unary line op e) k ahead t j = not_short line op e (test_short e) k ahead t j
-  test_short (And line e d) k ahead t j =
-      let second = test_code cs d k ahead t (j + made_by e) in
-      let a = test_short e true (length second + cond k ahead 0) t j in
-      let b = test_short d k ahead t (j + made_by e) in
-      omega (arith, a, b, length-append (test_code cs e true (length second + cond k ahead 0) t j) second)
-  test_short (Or line e d) k ahead t j =
-      let second = test_code cs d k ahead t (j + made_by e) in
-      let a = test_short e false (length second + cond k 0 ahead) t j in
-      let b = test_short d k ahead t (j + made_by e) in
-      omega (arith, a, b, length-append (test_code cs e false (length second + cond k 0 ahead) t j) second)
-  test_short (Binary line op e d) k ahead t j = binary_short line op e d k ahead t j
-  test_short (True line) k ahead t j = true_short line k ahead t j
-  test_short (Nil line) k ahead t j = value_short (Nil line) k ahead t j
-  test_short (False line) k ahead t j = value_short (False line) k ahead t j
-  test_short (Int line z) k ahead t j = value_short (Int line z) k ahead t j
-  test_short (Str line bytes) k ahead t j = value_short (Str line bytes) k ahead t j
-  test_short (Vararg line) k ahead t j = value_short (Vararg line) k ahead t j
-  test_short (Function line body) k ahead t j = value_short (Function line body) k ahead t j
-  test_short (Var line name) k ahead t j = value_short (Var line name) k ahead t j
-  test_short (Index line object key) k ahead t j = value_short (Index line object key) k ahead t j
-  test_short (Call line f es) k ahead t j = value_short (Call line f es) k ahead t j
-  test_short (Method line object name es) k ahead t j = value_short (Method line object name es) k ahead t j
-  test_short (Table line fs) k ahead t j = value_short (Table line fs) k ahead t j
+pub test_short : (cs : List Const) (e : Exp) → Short cs e
+test_short cs e = tested_short cs e (λ t j. exp_short cs e t j 2)
 
 -- registers
 

@@ -7,7 +7,7 @@ use Rattle.tree_core.specs.Tree.{Block, Falls, Returns, Stats, EndStats, MoreSta
 use Rattle.code_core.specs.declared.proto.Const.{Const}
 use Rattle.code_core.specs.declared.proto.Const.TheVariants.{Int as IntConst, Str as StrConst}
 use Rattle.code_of.specs.Constants.{same_constant, number_in, with_constant, is_small, with_any, of_name, of_exp, of_exps, of_fields, of_field, of_stat, of_arms, of_stats, of_block, Found}
-use Rattle.code_of.specs.ConstantOperands.{constant_of}
+use Rattle.code_of.specs.ConstantOperands.{any_constant, constant_of, stored_constant}
 use Rattle.code_bounds.specs.Constants.{Has, NameHas, ExpHas, ExpsHave, FieldsHave, FieldHas, StatHas, ArmsHave, StatsHave, BlockHas, ConstantsAreNumbered}
 use Rattle.code_of.proofs.Constants.{same_int, same_text, same_is}
 
@@ -113,14 +113,16 @@ mutual
 
   keeps_field : (f : Field) (cs : List Const) → Keeps cs (of_field f cs)
   keeps_field (Item e) cs x h = keeps_exp e cs x h
-  keeps_field (Keyed line e d) cs x h = keeps_exp d (of_exp e cs) x (keeps_exp e cs x h)
+  keeps_field (Keyed line e d) cs x h =
+      keeps_exp d (with_any (any_constant d) (of_exp e cs)) x (any_keeps (any_constant d) (of_exp e cs) x (keeps_exp e cs x h))
 
 mutual
   keeps_stat : (s : Stat) (cs : List Const) → Keeps cs (of_stat s cs)
   keeps_stat (Empty line) cs x h = h
   keeps_stat (Local line names es) cs x h = keeps_exps es cs x h
   keeps_stat (LocalFunction line name body) cs x h = h
-  keeps_stat (Assign line targets es) cs x h = keeps_exps es (of_exps targets cs) x (keeps_exps targets cs x h)
+  keeps_stat (Assign line targets es) cs x h =
+      keeps_exps es (with_any (stored_constant targets es) (of_exps targets cs)) x (any_keeps (stored_constant targets es) (of_exps targets cs) x (keeps_exps targets cs x h))
   keeps_stat (CallStat line e) cs x h = keeps_exp e cs x h
   keeps_stat (Do line block) cs x h = keeps_block block cs x h
   keeps_stat (While line e block) cs x h = keeps_block block (of_exp e cs) x (keeps_exp e cs x h)
@@ -203,7 +205,10 @@ mutual
 
   field_has : (f : Field) (cs ds : List Const) → Keeps (of_field f cs) ds → FieldHas ds f
   field_has (Item e) cs ds k = exp_has e cs ds k
-  field_has (Keyed line e d) cs ds k = (exp_has e cs ds (λ x h. k x (keeps_exp d (of_exp e cs) x h)), exp_has d (of_exp e cs) ds k)
+  field_has (Keyed line e d) cs ds k =
+      let value = with_any (any_constant d) (of_exp e cs) in
+      let kept : Keeps value ds = λ x h. k x (keeps_exp d value x h) in
+      (exp_has e cs ds (λ x h. kept x (any_keeps (any_constant d) (of_exp e cs) x h)), exp_has d value ds k)
 
 mutual
   stat_has : (s : Stat) (cs ds : List Const) → Keeps (of_stat s cs) ds → StatHas ds s
@@ -211,7 +216,9 @@ mutual
   stat_has (Local line names es) cs ds k = exps_have es cs ds k
   stat_has (LocalFunction line name body) cs ds k = tt
   stat_has (Assign line targets es) cs ds k =
-      (exps_have targets cs ds (λ x h. k x (keeps_exps es (of_exps targets cs) x h)), exps_have es (of_exps targets cs) ds k)
+      let value = with_any (stored_constant targets es) (of_exps targets cs) in
+      let kept : Keeps value ds = λ x h. k x (keeps_exps es value x h) in
+      (exps_have targets cs ds (λ x h. kept x (any_keeps (stored_constant targets es) (of_exps targets cs) x h)), exps_have es value ds k)
   stat_has (CallStat line e) cs ds k = exp_has e cs ds k
   stat_has (Do line block) cs ds k = block_has block cs ds k
   stat_has (While line e block) cs ds k = (exp_has e cs ds (λ x h. k x (keeps_block block (of_exp e cs) x h)), block_has block (of_exp e cs) ds k)

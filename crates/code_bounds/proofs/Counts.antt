@@ -6,7 +6,7 @@ use Rattle.tree_core.specs.Tree.{Block, Falls, Returns, Body, BodyOf, Stats, End
 use Rattle.code_core.specs.declared.proto.Const.{Const}
 use Rattle.code_core.specs.declared.proto.Const.TheVariants.{Int as IntConst, Str as StrConst}
 use Rattle.code_of.specs.Constants.{same_constant, with_constant, with_any, is_small, of_name, of_exp, of_exps, of_fields, of_field, of_stat, of_arms, of_stats, of_block}
-use Rattle.code_of.specs.ConstantOperands.{constant_of}
+use Rattle.code_of.specs.ConstantOperands.{any_constant, constant_of, stored_constant}
 use Rattle.code_of.specs.Expressions.{made_by, made_in, made_in_fields, made_by_field}
 use Rattle.code_of.specs.Levels.{made_by_stat, made_in_arms, made_in_stats, made_in_block}
 use Rattle.tree_terms.specs.FunctionCount.{functions, functions_in_exps, functions_in_fields, functions_in_field, functions_in_stat, functions_in_arms, functions_in_stats, functions_in_block, functions_in_body}
@@ -206,14 +206,17 @@ mutual
 
   few_field : (f : Field) (cs : List Const) → length (of_field f cs) ≤ length cs + weight_of_field f
   few_field (Item e) cs = few_exp e cs
-  few_field (Keyed line e d) cs = omega (arith, few_exp e cs, few_exp d (of_exp e cs))
+  few_field (Keyed line e d) cs =
+      omega (arith, few_exp e cs, any_more (any_constant d) (of_exp e cs), few_exp d (with_any (any_constant d) (of_exp e cs)))
 
 mutual
   few_stat : (s : Stat) (cs : List Const) → length (of_stat s cs) ≤ length cs + weight_of_stat s
   few_stat (Empty line) cs = omega arith
   few_stat (Local line names es) cs = omega (arith, few_exps es cs)
   few_stat (LocalFunction line name body) cs = omega arith
-  few_stat (Assign line targets es) cs = omega (arith, few_exps targets cs, few_exps es (of_exps targets cs))
+  few_stat (Assign line targets es) cs =
+      let named = with_any (stored_constant targets es) (of_exps targets cs) in
+      omega (arith, few_exps targets cs, any_more (stored_constant targets es) (of_exps targets cs), few_exps es named)
   few_stat (CallStat line e) cs = few_exp e cs
   few_stat (Do line block) cs = omega (arith, few_block block cs)
   few_stat (While line e block) cs = omega (arith, few_exp e cs, few_block block (of_exp e cs))

@@ -1,35 +1,43 @@
 -- The code of an expression takes the registers that are counted for it.
-use Rattle.std.proofs.Common.{◌≡◌, ℕ, zero, suc, ◌+◌, ◌-◌, ◌<◌, ◌≤◌, ◌^◌, ◌⊎◌, inl, inr, max, Bool, true, false, cond, List, [], ◌∷◌, ◌++◌, Option, Some, None, refl, sym, ap, ◌∙◌, lit<, arith}
+use Rattle.std.proofs.Common.{◌≡◌, ℕ, zero, suc, ◌+◌, ◌-◌, ◌<◌, ◌≤◌, ◌^◌, ◌⊎◌, inl, inr, max, Bool, true, false, cond, not, List, [], ◌∷◌, ◌++◌, length, Option, Some, None, refl, sym, ap, ◌∙◌, subst, lit<, arith}
 use Rattle.tree_core.specs.declared.name.Place.{Place}
 use Rattle.tree_core.specs.declared.name.Place.TheVariants.{Unset, Upvalue, GlobalIn, GlobalOf, Local as LocalPlace}
 use Rattle.tree_core.specs.declared.operator.UnOp.{UnOp}
+use Rattle.tree_core.specs.declared.operator.UnOp.TheVariants.{Neg, BitNot, Not as Negation, Len as Length}
 use Rattle.tree_core.specs.declared.operator.BinOp.{BinOp}
+use Rattle.tree_core.specs.declared.operator.BinOp.TheVariants.{Add as Plus, Sub as Minus, Mul as Times, Mod as Modulo, Idiv, Band, Bor, Bxor, Shl as ShiftLeft, Shr as ShiftRight, Concat as Join, Eq as Equal, Ne, Lt as Less, Le as AtMost, Gt, Ge}
 use Rattle.tree_core.specs.Tree.{Exp, Nil, True, False, Int, Str, Vararg, Function, Var, Index, Call, Method, Unary, Binary, And, Or, Paren, Table, Exps, EndExps, MoreExps, Fields, EndFields, MoreFields, Item, Keyed}
 use Rattle.tree_terms.specs.Bodies.{line_of_body}
-use Rattle.code_core.specs.declared.opcode.Opcode.TheVariants.{LoadFalse, LoadTrue, GetTable, GetI, GetField, NewTable, Closure, ExtraArg, Call as CallCode}
+use Rattle.code_core.specs.declared.opcode.Opcode.TheVariants.{LoadFalse, LoadTrue, GetTable, GetI, GetField, NewTable, Concat, Closure, ExtraArg, Call as CallCode, Jmp, Test, TestSet, Eq, Lt, Le, EqK, EqI, LtI, LeI, GtI, GeI}
 use Rattle.code_core.specs.declared.proto.Const.{Const}
 use Rattle.code_core.specs.declared.proto.Const.TheVariants.{Int as IntConst, Str as StrConst}
-use Rattle.code_core.specs.Instruction.{op_ax}
-use Rattle.code_of.specs.Coded.{Coded, with_abc}
+use Rattle.code_core.specs.Instruction.{abc, op_ax}
+use Rattle.code_of.specs.Coded.{Coded, with_abc, jump_over}
+use Rattle.code_of.specs.Truths.{jump_if, line_of, set_if, load_truth}
+use Rattle.code_of.specs.Conditions.{value_test, test_code, keep_code}
 use Rattle.code_of.specs.Constants.{is_small, small_field}
 use Rattle.code_of.specs.Operands.{local_at, local_of, is_direct, Second, a_number, a_local, made, second_of, key_operand, first_of, seat, unless, operands_code, operands_room, joins}
 use Rattle.code_of.specs.Stores.{name_in, is_quiet, field_key}
+use Rattle.code_of.specs.StoredValues.{stored_value}
 use Rattle.code_of.proofs.Stores.{field_key_stands}
+use Rattle.code_of.proofs.StoredValues.{value_stands, stands_local, stands_constant}
 use Rattle.code_of.specs.FieldReads.{read_code, object_room, read_room}
 use Rattle.code_of.proofs.FieldReads.{some_read, read_less}
 use Rattle.code_of.specs.Operators.{prefix_code, operator_code, number_code}
-use Rattle.code_of.specs.Operations.{constant_in, constant_code, operation_code, operation_room}
+use Rattle.code_of.specs.Operations.{constant_in, constant_code, operation_by, operation_code, operation_room}
 use Rattle.code_of.proofs.Operations.{constant_is, operand_form, some_operation, operation_less}
+use Rattle.code_of.specs.Chains.{continues, links, unjoined, chain_code}
+use Rattle.code_of.proofs.Chains.{links_some, links_room, joined_last, join_room}
 use Rattle.code_of.proofs.Operands.{some_is, Stands, second_number, joins_made, operator_stands, key_stands, local_not_made, first_local, computes_no_join}
-use Rattle.code_of.specs.Expressions.{made_by, count, is_open, is_last_open, ends_open, list_field, Wanted, results_field, one_less, field_of, wanted_after, is_last_item, set_list, exp_code, exps_code, fields_code}
+use Rattle.code_of.specs.Expressions.{made_by, count, is_open, is_last_open, ends_open, list_field, Wanted, results_field, one_less, field_of, wanted_after, is_last_item, set_list, exp_code, exps_code, fields_code, kept_value}
 use Rattle.code_of.specs.Parts.{direct_code}
-use Rattle.code_of.specs.Rooms.{room_of_values, room_of_nils, room_of_direct, room_of, room_of_list, room_of_fields, room_of_self}
+use Rattle.code_of.specs.Rooms.{room_of_values, room_of_nils, room_of_direct, room_of_test, room_of_keep, room_of, room_of_list, room_of_fields, room_of_self}
 use Rattle.code_of.proofs.Rooms.{name_room, self_room, local_room, name_less}
 use Rattle.code_of.specs.Operators.{self_code}
 use Rattle.scope_laws.specs.Finding.{PlaceIsThere, ExpFinds, ExpsFind, FieldsFind}
-use Rattle.code_bounds.proofs.Tops.{top, top_more, top_append, ax_is, one_a, one_ab, one_abc, one_ax, one_nil, one_call, rest_below, rest_above}
+use Rattle.code_bounds.proofs.Tops.{top, top_more, top_append, ax_is, one_a, one_ab, one_abc, one_ax, one_nil, one_call, one_chain, rest_below, rest_above}
 use Rattle.code_bounds.proofs.KeyedFields.{keyed_take}
-use Rattle.code_bounds.proofs.Pieces.{self_top, Takes, ListTakes, takes_one, loads_top, integer_top, name_takes, prefix_top, operator_top, operator_above, operator_here, number_top, number_here, two_take, one_takes, either_takes, nils_take, more_take, call_takes, method_takes, set_top, name_below}
+use Rattle.code_bounds.proofs.Pieces.{self_top, Takes, ListTakes, takes_one, loads_top, integer_top, name_takes, prefix_top, operator_top, operator_above, operator_here, number_top, number_here, two_take, one_takes, join_takes, pair_top, nils_take, more_take, call_takes, method_takes, set_top, name_below}
 use Rattle.code_bounds.proofs.ConstantPieces.{constant_top, constant_here}
 
 -- fields of calls and `...`
@@ -114,8 +122,8 @@ module _ (cs : List Const) where
   some_room (Method line object name es) field some = omega arith
   some_room (Unary line op e) field some = some_room e 2 (omega arith)
   some_room (Binary line op e d) field some = some_operation (constant_in cs op d) op e d (room_of cs e 2) (room_of cs d 2) (some_room e 2 (omega arith))
-  some_room (And line e d) field some = let left = some_room e 2 (omega arith) in omega (arith, left)
-  some_room (Or line e d) field some = let left = some_room e 2 (omega arith) in omega (arith, left)
+  some_room (And line e d) field some = let right = some_room d 2 (omega arith) in omega (arith, right)
+  some_room (Or line e d) field some = let right = some_room d 2 (omega arith) in omega (arith, right)
   some_room (Paren line e) field some = some_room e 2 (omega arith)
   some_room (Table line fs) field some = omega arith
 
@@ -212,9 +220,52 @@ module _ (cs : List Const) where
       named_take : t + object_room own (local_of e) (room_of cs e 2) ≤ 255 → Takes t (object_room own (local_of e) (room_of cs e 2)) (unless (local_of e) (exp_code cs e t j 2) ++ by_register (seat (local_of e) t))
       named_take small = named_by (local_of e) refl small
 
+    -- a chain of `..`, whose right operand names as many registers as it does with its own CONCAT
+    chain_top : (line : ℕ) (d : Exp) (t j : ℕ) → t + suc (links line d) ≤ 255
+        → top (unjoined (continues line d) (exp_code cs d (t + 1) j 2) ++ with_abc Concat t (suc (links line d)) 0 line ∷ []) ≡ max (top (exp_code cs d (t + 1) j 2)) (t + suc (links line d))
+    chain_top line d t j fits = by (continues line d) refl
+      where
+        by : (b : Bool) → continues line d ≡ b
+            → top (unjoined b (exp_code cs d (t + 1) j 2) ++ with_abc Concat t (suc (links line d)) 0 line ∷ []) ≡ max (top (exp_code cs d (t + 1) j 2)) (t + suc (links line d))
+        by true more =
+            let second = exp_code cs d (t + 1) j 2 in
+            let rest = unjoined true second in
+            let own = with_abc Concat (t + 1) (links line d) 0 line ∷ [] in
+            let last = with_abc Concat t (suc (links line d)) 0 line ∷ [] in
+            let a : top second ≡ top (rest ++ own) = ap top (joined_last cs line d (t + 1) j 2 more) in
+            let b = top_append rest own in
+            let e = one_chain (t + 1) (links line d) (omega (arith, fits)) (omega (arith, fits)) in
+            let f = top_append rest last in
+            let g = one_chain t (suc (links line d)) (omega (arith, fits)) (omega (arith, fits)) in
+            let some = links_some line d in
+            omega (arith, a, b, e, f, g, some)
+        by false ends =
+            let second = exp_code cs d (t + 1) j 2 in
+            let f = top_append second (with_abc Concat t (suc (links line d)) 0 line ∷ []) in
+            let g = one_chain t (suc (links line d)) (omega (arith, fits)) (omega (arith, fits)) in
+            omega (arith, f, g)
+
+    chain_takes : (line : ℕ) (e d : Exp) → ExpTakes e → ExpTakes d → (size t j : ℕ) → ExpFinds e hidden size ups → ExpFinds d hidden size ups → size ≤ t → t + max (room_of cs e 2) (1 + room_of cs d 2) ≤ 255
+        → Takes t (max (room_of cs e 2) (1 + room_of cs d 2)) (chain_code line d (exp_code cs e t j 2) (exp_code cs d (t + 1) (j + made_by e) 2) t)
+    chain_takes line e d law_e law_d size t j known_e known_d in_scope small =
+        let first = exp_code cs e t j 2 in
+        let second = exp_code cs d (t + 1) (j + made_by e) 2 in
+        let behind = unjoined (continues line d) second ++ with_abc Concat t (suc (links line d)) 0 line ∷ [] in
+        let few = links_room cs line d own_room in
+        let some = own_room d in
+        let h = law_e size t j 2 known_e in_scope (lit< tt) (omega (arith, small)) in
+        let k = law_d size (t + 1) (j + made_by e) 2 known_d (omega (arith, in_scope)) (lit< tt) (omega (arith, small)) in
+        let a = top_append first behind in
+        let b = chain_top line d t (j + made_by e) (omega (arith, small, few)) in
+        by (top first) (top second) (links line d) (room_of cs e 2) (room_of cs d 2) (top (first ++ behind)) (omega (arith, a, b)) few some h.0 h.1 k.0 k.1
+      where
+        by : (m n l x y all : ℕ) → all ≡ max m (max n (t + suc l)) → l ≤ y → 1 ≤ y → m ≤ t + x → t + x ≤ max t m → n ≤ t + 1 + y → t + 1 + y ≤ max (t + 1) n
+            → (all ≤ t + max x (1 + y)) × (t + max x (1 + y) ≤ max t all)
+        by m n l x y all is few some a b c e = (omega arith, omega arith)
+
     binary_takes : (line : ℕ) (op : BinOp) (e d : Exp) → ExpTakes e → ExpTakes d → (size t j : ℕ) → ExpFinds (Binary line op e d) hidden size ups → size ≤ t → t + room_of cs (Binary line op e d) 2 ≤ 255
         → Takes t (room_of cs (Binary line op e d) 2) (exp_code cs (Binary line op e d) t j 2)
-    binary_takes line op e d law_e law_d size t j known in_scope small = by (constant_in cs op d) refl small
+    binary_takes line op e d law_e law_d size t j known in_scope small = whole (joins op) refl
       where
         by : (o : Option ℕ) → constant_in cs op d ≡ o → t + operation_room 1 o op e d (room_of cs e 2) (room_of cs d 2) ≤ 255
             → Takes t (operation_room 1 o op e d (room_of cs e 2) (room_of cs d 2)) (operation_code o op e d (exp_code cs e t j 2) (exp_code cs d (t + 1) (j + made_by e) 2) t t line)
@@ -230,6 +281,14 @@ module _ (cs : List Const) where
             (λ x n is x_below fits. let o = number_here op d x n t line (second_number op d n is) x_below fits in omega (arith, o))
             (λ x y other x_below y_below fits. let o = operator_here op x y t line (λ joined. other (joins_made op d joined)) (omega (arith, x_below)) (omega (arith, y_below)) fits in (omega (arith, o), omega (arith, o)))
             (λ x n is x_below fits. let o = number_here op d x n t line (second_number op d n is) (omega (arith, x_below)) fits in (omega (arith, o), omega (arith, o))) small
+
+        whole : (b : Bool) → joins op ≡ b
+            → Takes t (room_of cs (Binary line op e d) 2) (cond b (chain_code line d (exp_code cs e t j 2) (exp_code cs d (t + 1) (j + made_by e) 2) t) (operation_code (constant_in cs op d) op e d (exp_code cs e t j 2) (exp_code cs d (t + 1) (j + made_by e) 2) t t line))
+        whole true joined =
+            let room = join_room cs 1 op e d (room_of cs e 2) (room_of cs d 2) joined in
+            subst (λ n. Takes t n (chain_code line d (exp_code cs e t j 2) (exp_code cs d (t + 1) (j + made_by e) 2) t)) (sym room)
+            (chain_takes line e d law_e law_d size t j known.0 known.1 in_scope (omega (arith, small, room)))
+        whole false apart = by (constant_in cs op d) refl small
 
     index_takes : (line : ℕ) (object key : Exp) → ExpTakes object → ExpTakes key → (size t j : ℕ) → ExpFinds (Index line object key) hidden size ups → size ≤ t → t + room_of cs (Index line object key) 2 ≤ 255
         → Takes t (room_of cs (Index line object key) 2) (exp_code cs (Index line object key) t j 2)
@@ -282,6 +341,180 @@ module _ (cs : List Const) where
         by None is = let h = law size t j 2 known in_scope (lit< tt) small in let high = h.1 in (h.0, omega (arith, high))
         by (Some x) is = let one = local_room cs e x is in (omega (arith, one), omega (arith, one))
 
+    -- a condition, and a first operand whose value is kept
+
+    abbrev TestTakes : Exp → Type 0
+    TestTakes e = (k : Bool) (ahead size t j : ℕ) → ExpFinds e hidden size ups → size ≤ t → t + room_of_test cs e ≤ 255 → Takes t (room_of_test cs e) (test_code cs e k ahead t j)
+
+    abbrev KeepTakes : Exp → Type 0
+    KeepTakes e = (k : Bool) (ahead size t j : ℕ) → ExpFinds e hidden size ups → size ≤ t → t + room_of_keep cs e k ≤ 255 → Takes t (room_of_keep cs e k) (keep_code cs e k ahead t j)
+
+    value_tests : (e : Exp) → ExpTakes e → (k : Bool) (ahead size t j : ℕ) → ExpFinds e hidden size ups → size ≤ t → t + object_room 0 (local_of e) (room_of cs e 2) ≤ 255
+        → Takes t (object_room 0 (local_of e) (room_of cs e 2)) (value_test cs e k ahead t j)
+    value_tests e law k ahead size t j known in_scope small =
+        named_take 0 e (λ x. jump_if Test x 0 (not k) ahead (line_of e)) law size t j known in_scope
+        (λ fits. let o = pair_top (abc Test t 0 0 (not k)) ahead (line_of e) in let p = one_a Test t 0 0 (not k) refl fits in omega (arith, o, p))
+        (λ x x_below fits. let o = pair_top (abc Test x 0 0 (not k)) ahead (line_of e) in let p = one_a Test x 0 0 (not k) refl (omega (arith, x_below, fits)) in (omega (arith, o, p, x_below), omega arith)) small
+
+    not_tests : (line : ℕ) (op : UnOp) (e : Exp) → ExpTakes (Unary line op e) → TestTakes e → TestTakes (Unary line op e)
+    not_tests line Negation e value law k ahead size t j known in_scope small = law (not k) ahead size t j known in_scope small
+    not_tests line Neg e value law k ahead size t j known in_scope small = value_tests (Unary line Neg e) value k ahead size t j known in_scope small
+    not_tests line BitNot e value law k ahead size t j known in_scope small = value_tests (Unary line BitNot e) value k ahead size t j known in_scope small
+    not_tests line Length e value law k ahead size t j known in_scope small = value_tests (Unary line Length e) value k ahead size t j known in_scope small
+
+    -- a comparison, whose ways to be written name no register but those of its operands
+    compare_tests : (op : BinOp) (e d : Exp) (by_constant by_registers by_number : (x y : ℕ) → List Coded) → ExpTakes e → ExpTakes d → (size t j : ℕ) → ExpFinds e hidden size ups → ExpFinds d hidden size ups → size ≤ t
+        → ((x n : ℕ) → x < 2 ^ 8 → top (by_constant x n) ≡ x + 1) → ((x y : ℕ) → x < 2 ^ 8 → y < 2 ^ 8 → top (by_registers x y) ≡ max (x + 1) (y + 1)) → ((x n : ℕ) → x < 2 ^ 8 → top (by_number x n) ≡ x + 1)
+        → t + operation_room 0 (constant_in cs op d) op e d (room_of cs e 2) (room_of cs d 2) ≤ 255
+        → Takes t (operation_room 0 (constant_in cs op d) op e d (room_of cs e 2) (room_of cs d 2))
+        (operation_by (constant_in cs op d) op e d (exp_code cs e t j 2) (exp_code cs d (t + 1) (j + made_by e) 2) t by_constant by_registers by_number)
+    compare_tests op e d by_constant by_registers by_number law_e law_d size t j known_e known_d in_scope constants registers numbers small = by (constant_in cs op d) small
+      where
+        by : (o : Option ℕ) → t + operation_room 0 o op e d (room_of cs e 2) (room_of cs d 2) ≤ 255
+            → Takes t (operation_room 0 o op e d (room_of cs e 2) (room_of cs d 2)) (operation_by o op e d (exp_code cs e t j 2) (exp_code cs d (t + 1) (j + made_by e) 2) t by_constant by_registers by_number)
+        by (Some number) small =
+            named_take 0 e (λ x. by_constant x number) law_e size t j known_e in_scope
+            (λ fits. let o = constants t number fits in omega (arith, o))
+            (λ x x_below fits. let o = constants x number (omega (arith, x_below, fits)) in (omega (arith, o, x_below), omega arith)) small
+        by None small =
+            operands_take 0 (second_of op d) 128 e d (operator_stands op d) by_registers by_number law_e law_d size t j known_e known_d in_scope
+            (λ fits. let o = registers t (t + 1) (omega (arith, fits)) fits in omega (arith, o))
+            (λ x y other x_below y_below fits. let o = registers x y (omega (arith, x_below, fits)) (omega (arith, y_below, fits)) in omega (arith, o, x_below, y_below))
+            (λ x n is x_below fits. let o = numbers x n (omega (arith, x_below, fits)) in omega (arith, o, x_below))
+            (λ x y other x_below y_below fits. let o = registers x y (omega (arith, x_below, fits)) (omega (arith, y_below, fits)) in (omega (arith, o, x_below, y_below), omega arith))
+            (λ x n is x_below fits. let o = numbers x n (omega (arith, x_below, fits)) in (omega (arith, o, x_below), omega arith)) small
+
+    binary_tests : (line : ℕ) (op : BinOp) (e d : Exp) → ExpTakes (Binary line op e d) → ExpTakes e → ExpTakes d → TestTakes (Binary line op e d)
+    binary_tests line Equal e d value law_e law_d k ahead size t j known in_scope small = compare_tests Equal e d _ _ _ law_e law_d size t j known.0 known.1 in_scope
+        (λ x n xf. pair_top (abc EqK x n 0 (not k)) ahead line ∙ one_a EqK x n 0 (not k) refl xf)
+        (λ x y xf yf. let o = pair_top (abc Eq x y 0 (not k)) ahead line in let p = one_ab Eq x y 0 (not k) refl xf yf in omega (arith, o, p))
+        (λ x n xf. pair_top (abc EqI x (n + 127) 0 (not k)) ahead line ∙ one_a EqI x (n + 127) 0 (not k) refl xf) small
+    binary_tests line Ne e d value law_e law_d k ahead size t j known in_scope small = compare_tests Ne e d _ _ _ law_e law_d size t j known.0 known.1 in_scope
+        (λ x n xf. pair_top (abc EqK x n 0 k) ahead line ∙ one_a EqK x n 0 k refl xf)
+        (λ x y xf yf. let o = pair_top (abc Eq x y 0 k) ahead line in let p = one_ab Eq x y 0 k refl xf yf in omega (arith, o, p))
+        (λ x n xf. pair_top (abc EqI x (n + 127) 0 k) ahead line ∙ one_a EqI x (n + 127) 0 k refl xf) small
+    binary_tests line Less e d value law_e law_d k ahead size t j known in_scope small = compare_tests Less e d _ _ _ law_e law_d size t j known.0 known.1 in_scope
+        (λ x n xf. pair_top (abc EqK x n 0 (not k)) ahead line ∙ one_a EqK x n 0 (not k) refl xf)
+        (λ x y xf yf. let o = pair_top (abc Lt x y 0 (not k)) ahead line in let p = one_ab Lt x y 0 (not k) refl xf yf in omega (arith, o, p))
+        (λ x n xf. pair_top (abc LtI x (n + 127) 0 (not k)) ahead line ∙ one_a LtI x (n + 127) 0 (not k) refl xf) small
+    binary_tests line AtMost e d value law_e law_d k ahead size t j known in_scope small = compare_tests AtMost e d _ _ _ law_e law_d size t j known.0 known.1 in_scope
+        (λ x n xf. pair_top (abc EqK x n 0 (not k)) ahead line ∙ one_a EqK x n 0 (not k) refl xf)
+        (λ x y xf yf. let o = pair_top (abc Le x y 0 (not k)) ahead line in let p = one_ab Le x y 0 (not k) refl xf yf in omega (arith, o, p))
+        (λ x n xf. pair_top (abc LeI x (n + 127) 0 (not k)) ahead line ∙ one_a LeI x (n + 127) 0 (not k) refl xf) small
+    binary_tests line Gt e d value law_e law_d k ahead size t j known in_scope small = compare_tests Gt e d _ _ _ law_e law_d size t j known.0 known.1 in_scope
+        (λ x n xf. pair_top (abc EqK x n 0 (not k)) ahead line ∙ one_a EqK x n 0 (not k) refl xf)
+        (λ x y xf yf. let o = pair_top (abc Lt y x 0 (not k)) ahead line in let p = one_ab Lt y x 0 (not k) refl yf xf in omega (arith, o, p))
+        (λ x n xf. pair_top (abc GtI x (n + 127) 0 (not k)) ahead line ∙ one_a GtI x (n + 127) 0 (not k) refl xf) small
+    binary_tests line Ge e d value law_e law_d k ahead size t j known in_scope small = compare_tests Ge e d _ _ _ law_e law_d size t j known.0 known.1 in_scope
+        (λ x n xf. pair_top (abc EqK x n 0 (not k)) ahead line ∙ one_a EqK x n 0 (not k) refl xf)
+        (λ x y xf yf. let o = pair_top (abc Le y x 0 (not k)) ahead line in let p = one_ab Le y x 0 (not k) refl yf xf in omega (arith, o, p))
+        (λ x n xf. pair_top (abc GeI x (n + 127) 0 (not k)) ahead line ∙ one_a GeI x (n + 127) 0 (not k) refl xf) small
+    binary_tests line Plus e d value law_e law_d k ahead size t j known in_scope small = value_tests (Binary line Plus e d) value k ahead size t j known in_scope small
+    binary_tests line Minus e d value law_e law_d k ahead size t j known in_scope small = value_tests (Binary line Minus e d) value k ahead size t j known in_scope small
+    binary_tests line Times e d value law_e law_d k ahead size t j known in_scope small = value_tests (Binary line Times e d) value k ahead size t j known in_scope small
+    binary_tests line Modulo e d value law_e law_d k ahead size t j known in_scope small = value_tests (Binary line Modulo e d) value k ahead size t j known in_scope small
+    binary_tests line Idiv e d value law_e law_d k ahead size t j known in_scope small = value_tests (Binary line Idiv e d) value k ahead size t j known in_scope small
+    binary_tests line Band e d value law_e law_d k ahead size t j known in_scope small = value_tests (Binary line Band e d) value k ahead size t j known in_scope small
+    binary_tests line Bor e d value law_e law_d k ahead size t j known in_scope small = value_tests (Binary line Bor e d) value k ahead size t j known in_scope small
+    binary_tests line Bxor e d value law_e law_d k ahead size t j known in_scope small = value_tests (Binary line Bxor e d) value k ahead size t j known in_scope small
+    binary_tests line ShiftLeft e d value law_e law_d k ahead size t j known in_scope small = value_tests (Binary line ShiftLeft e d) value k ahead size t j known in_scope small
+    binary_tests line ShiftRight e d value law_e law_d k ahead size t j known in_scope small = value_tests (Binary line ShiftRight e d) value k ahead size t j known in_scope small
+    binary_tests line Join e d value law_e law_d k ahead size t j known in_scope small = value_tests (Binary line Join e d) value k ahead size t j known in_scope small
+
+    true_tests : (line : ℕ) → TestTakes (True line)
+    true_tests line true ahead size t j known in_scope small = (omega arith, omega arith)
+    true_tests line false ahead size t j known in_scope small =
+        let a = top_more (jump_over ahead line) [] in
+        let b = ax_is Jmp (16777215 + ahead) refl in
+        (omega (arith, a, b), omega arith)
+
+    and_tests : (line : ℕ) (e d : Exp) → TestTakes e → TestTakes d → TestTakes (And line e d)
+    and_tests line e d law_e law_d k ahead size t j known in_scope small =
+        let second = test_code cs d k ahead t (j + made_by e) in
+        let far : ℕ = length second + cond k ahead 0 in
+        join_takes t (room_of_test cs e) (room_of_test cs d) (test_code cs e true far t j) second
+        (law_e true far size t j known.0 in_scope (omega (arith, small))) (law_d k ahead size t (j + made_by e) known.1 in_scope (omega (arith, small)))
+
+    or_tests : (line : ℕ) (e d : Exp) → TestTakes e → TestTakes d → TestTakes (Or line e d)
+    or_tests line e d law_e law_d k ahead size t j known in_scope small =
+        let second = test_code cs d k ahead t (j + made_by e) in
+        let far : ℕ = length second + cond k 0 ahead in
+        join_takes t (room_of_test cs e) (room_of_test cs d) (test_code cs e false far t j) second
+        (law_e false far size t j known.0 in_scope (omega (arith, small))) (law_d k ahead size t (j + made_by e) known.1 in_scope (omega (arith, small)))
+
+    -- a value that is made in t, or goes there from a local
+    leaf_takes : (e : Exp) → ExpTakes e → (k : Bool) (ahead size t j : ℕ) → ExpFinds e hidden size ups → size ≤ t → t + room_of cs e 2 ≤ 255 → Takes t (room_of cs e 2) (kept_value e (exp_code cs e t j 2) k ahead t)
+    leaf_takes e law k ahead size t j known in_scope small = by (local_of e) refl
+      where
+        some : 1 ≤ room_of cs e 2
+        some = own_room e
+
+        by : (at : Option ℕ) → local_of e ≡ at → Takes t (room_of cs e 2) (unless at (exp_code cs e t j 2) ++ set_if at k ahead t (line_of e))
+        by None is =
+            one_takes t (room_of cs e 2) (exp_code cs e t j 2) (set_if None k ahead t (line_of e)) some (law size t j 2 known in_scope (lit< tt) small)
+            (let o = pair_top (abc Test t 0 0 k) ahead (line_of e) in let p = one_a Test t 0 0 k refl (omega (arith, some, small)) in omega (arith, o, p))
+        by (Some x) is =
+            let found = local_found hidden ups e x size is known in
+            let one = local_room cs e x is in
+            let o = pair_top (abc TestSet t x 0 k) ahead (line_of e) in
+            let p = one_ab TestSet t x 0 k refl (omega (arith, some, small)) (omega (arith, found, in_scope, some, small)) in
+            (omega (arith, o, p, one, found, in_scope), omega (arith, o, p, one))
+
+    -- the condition, and what loads its truth
+    truth_takes : (e : Exp) → TestTakes e → (k : Bool) (ahead size t j : ℕ) → ExpFinds e hidden size ups → size ≤ t → t + max (room_of_test cs e) 1 ≤ 255
+        → Takes t (max (room_of_test cs e) 1) (test_code cs e k 2 t j ++ load_truth k ahead t (line_of e))
+    truth_takes e law k ahead size t j known in_scope small =
+        join_takes t (room_of_test cs e) 1 (test_code cs e k 2 t j) (load_truth k ahead t (line_of e)) (law k 2 size t j known in_scope (omega (arith, small))) (load_takes k)
+      where
+        load_takes : (k : Bool) → Takes t 1 (load_truth k ahead t (line_of e))
+        load_takes true = let o = pair_top (abc LoadTrue t 0 0 false) ahead (line_of e) in let p = one_a LoadTrue t 0 0 false refl (omega (arith, small)) in (omega (arith, o, p), omega (arith, o, p))
+        load_takes false = let o = pair_top (abc LoadFalse t 0 0 false) ahead (line_of e) in let p = one_a LoadFalse t 0 0 false refl (omega (arith, small)) in (omega (arith, o, p), omega (arith, o, p))
+
+    unary_keeps : (line : ℕ) (op : UnOp) (e : Exp) → ExpTakes (Unary line op e) → TestTakes e → KeepTakes (Unary line op e)
+    unary_keeps line Negation e value law k ahead size t j known in_scope small = truth_takes (Unary line Negation e) (not_tests line Negation e value law) k ahead size t j known in_scope small
+    unary_keeps line Neg e value law k ahead size t j known in_scope small = leaf_takes (Unary line Neg e) value k ahead size t j known in_scope small
+    unary_keeps line BitNot e value law k ahead size t j known in_scope small = leaf_takes (Unary line BitNot e) value k ahead size t j known in_scope small
+    unary_keeps line Length e value law k ahead size t j known in_scope small = leaf_takes (Unary line Length e) value k ahead size t j known in_scope small
+
+    binary_keeps : (line : ℕ) (op : BinOp) (e d : Exp) → ExpTakes (Binary line op e d) → ExpTakes e → ExpTakes d → KeepTakes (Binary line op e d)
+    binary_keeps line Equal e d value law_e law_d k ahead size t j known in_scope small = truth_takes (Binary line Equal e d) (binary_tests line Equal e d value law_e law_d) k ahead size t j known in_scope small
+    binary_keeps line Ne e d value law_e law_d k ahead size t j known in_scope small = truth_takes (Binary line Ne e d) (binary_tests line Ne e d value law_e law_d) k ahead size t j known in_scope small
+    binary_keeps line Less e d value law_e law_d k ahead size t j known in_scope small = truth_takes (Binary line Less e d) (binary_tests line Less e d value law_e law_d) k ahead size t j known in_scope small
+    binary_keeps line AtMost e d value law_e law_d k ahead size t j known in_scope small = truth_takes (Binary line AtMost e d) (binary_tests line AtMost e d value law_e law_d) k ahead size t j known in_scope small
+    binary_keeps line Gt e d value law_e law_d k ahead size t j known in_scope small = truth_takes (Binary line Gt e d) (binary_tests line Gt e d value law_e law_d) k ahead size t j known in_scope small
+    binary_keeps line Ge e d value law_e law_d k ahead size t j known in_scope small = truth_takes (Binary line Ge e d) (binary_tests line Ge e d value law_e law_d) k ahead size t j known in_scope small
+    binary_keeps line Plus e d value law_e law_d k ahead size t j known in_scope small = leaf_takes (Binary line Plus e d) value k ahead size t j known in_scope small
+    binary_keeps line Minus e d value law_e law_d k ahead size t j known in_scope small = leaf_takes (Binary line Minus e d) value k ahead size t j known in_scope small
+    binary_keeps line Times e d value law_e law_d k ahead size t j known in_scope small = leaf_takes (Binary line Times e d) value k ahead size t j known in_scope small
+    binary_keeps line Modulo e d value law_e law_d k ahead size t j known in_scope small = leaf_takes (Binary line Modulo e d) value k ahead size t j known in_scope small
+    binary_keeps line Idiv e d value law_e law_d k ahead size t j known in_scope small = leaf_takes (Binary line Idiv e d) value k ahead size t j known in_scope small
+    binary_keeps line Band e d value law_e law_d k ahead size t j known in_scope small = leaf_takes (Binary line Band e d) value k ahead size t j known in_scope small
+    binary_keeps line Bor e d value law_e law_d k ahead size t j known in_scope small = leaf_takes (Binary line Bor e d) value k ahead size t j known in_scope small
+    binary_keeps line Bxor e d value law_e law_d k ahead size t j known in_scope small = leaf_takes (Binary line Bxor e d) value k ahead size t j known in_scope small
+    binary_keeps line ShiftLeft e d value law_e law_d k ahead size t j known in_scope small = leaf_takes (Binary line ShiftLeft e d) value k ahead size t j known in_scope small
+    binary_keeps line ShiftRight e d value law_e law_d k ahead size t j known in_scope small = leaf_takes (Binary line ShiftRight e d) value k ahead size t j known in_scope small
+    binary_keeps line Join e d value law_e law_d k ahead size t j known in_scope small = leaf_takes (Binary line Join e d) value k ahead size t j known in_scope small
+
+    and_keeps : (line : ℕ) (e d : Exp) → TestTakes e → KeepTakes e → KeepTakes d → KeepTakes (And line e d)
+    and_keeps line e d test_e keep_e keep_d false ahead size t j known in_scope small =
+        let second = keep_code cs d false ahead t (j + made_by e) in
+        join_takes t (room_of_keep cs e false) (room_of_keep cs d false) (keep_code cs e false (length second + ahead) t j) second
+        (keep_e false (length second + ahead) size t j known.0 in_scope (omega (arith, small))) (keep_d false ahead size t (j + made_by e) known.1 in_scope (omega (arith, small)))
+    and_keeps line e d test_e keep_e keep_d true ahead size t j known in_scope small =
+        let second = keep_code cs d true ahead t (j + made_by e) in
+        join_takes t (room_of_test cs e) (room_of_keep cs d true) (test_code cs e true (length second) t j) second
+        (test_e true (length second) size t j known.0 in_scope (omega (arith, small))) (keep_d true ahead size t (j + made_by e) known.1 in_scope (omega (arith, small)))
+
+    or_keeps : (line : ℕ) (e d : Exp) → TestTakes e → KeepTakes e → KeepTakes d → KeepTakes (Or line e d)
+    or_keeps line e d test_e keep_e keep_d true ahead size t j known in_scope small =
+        let second = keep_code cs d true ahead t (j + made_by e) in
+        join_takes t (room_of_keep cs e true) (room_of_keep cs d true) (keep_code cs e true (length second + ahead) t j) second
+        (keep_e true (length second + ahead) size t j known.0 in_scope (omega (arith, small))) (keep_d true ahead size t (j + made_by e) known.1 in_scope (omega (arith, small)))
+    or_keeps line e d test_e keep_e keep_d false ahead size t j known in_scope small =
+        let second = keep_code cs d false ahead t (j + made_by e) in
+        join_takes t (room_of_test cs e) (room_of_keep cs d false) (test_code cs e false (length second) t j) second
+        (test_e false (length second) size t j known.0 in_scope (omega (arith, small))) (keep_d false ahead size t (j + made_by e) known.1 in_scope (omega (arith, small)))
+
     mutual
       pub exp_takes : (e : Exp) → ExpTakes e
       exp_takes (Nil line) size t j field known above fits small = takes_one t _ line (let e = one_nil t 0 line (omega arith) (lit< tt) in omega (arith, e))
@@ -325,13 +558,13 @@ module _ (cs : List Const) where
           unary_takes line op e (exp_takes e) size t j known above small
       exp_takes (Binary line op e d) size t j field known above fits small = binary_takes line op e d (exp_takes e) (exp_takes d) size t j known above small
       exp_takes (And line e d) size t j field known above fits small =
-          let some = own_room e in
-          either_takes t (room_of cs e 2) (room_of cs d 2) false (exp_code cs e t j 2) (exp_code cs d t (j + made_by e) 2) line (omega arith) some
-          (exp_takes e size t j 2 known.0 above (lit< tt) (omega arith)) (exp_takes d size t (j + made_by e) 2 known.1 above (lit< tt) (omega arith))
+          let second = exp_code cs d t (j + made_by e) 2 in
+          join_takes t (room_of_keep cs e false) (room_of cs d 2) (keep_code cs e false (length second) t j) second
+          (keep_takes e (exp_takes e) false (length second) size t j known.0 above (omega arith)) (exp_takes d size t (j + made_by e) 2 known.1 above (lit< tt) (omega arith))
       exp_takes (Or line e d) size t j field known above fits small =
-          let some = own_room e in
-          either_takes t (room_of cs e 2) (room_of cs d 2) true (exp_code cs e t j 2) (exp_code cs d t (j + made_by e) 2) line (omega arith) some
-          (exp_takes e size t j 2 known.0 above (lit< tt) (omega arith)) (exp_takes d size t (j + made_by e) 2 known.1 above (lit< tt) (omega arith))
+          let second = exp_code cs d t (j + made_by e) 2 in
+          join_takes t (room_of_keep cs e true) (room_of cs d 2) (keep_code cs e true (length second) t j) second
+          (keep_takes e (exp_takes e) true (length second) size t j known.0 above (omega arith)) (exp_takes d size t (j + made_by e) 2 known.1 above (lit< tt) (omega arith))
       exp_takes (Paren line e) size t j field known above fits small = exp_takes e size t j 2 known above (lit< tt) small
       exp_takes (Table line fs) size t j field known above fits small =
           let extra : Coded = (op_ax ExtraArg 0, line) in
@@ -342,6 +575,45 @@ module _ (cs : List Const) where
           let c = one_a NewTable t 0 0 false refl (omega arith) in
           let d = ax_is ExtraArg 0 refl in
           (omega (arith, a, b, c, d, h.0), omega (arith, a, b, c, d, h.0, h.1))
+
+      -- the value's own registers are given, since they are those of the same tree
+      test_takes : (e : Exp) → ExpTakes e → TestTakes e
+      test_takes (Paren line e) law = test_takes e (exp_takes e)
+      test_takes (Unary line op e) law = not_tests line op e law (test_takes e (exp_takes e))
+      test_takes (And line e d) law = and_tests line e d (test_takes e (exp_takes e)) (test_takes d (exp_takes d))
+      test_takes (Or line e d) law = or_tests line e d (test_takes e (exp_takes e)) (test_takes d (exp_takes d))
+      test_takes (Binary line op e d) law = binary_tests line op e d law (exp_takes e) (exp_takes d)
+      test_takes (True line) law = true_tests line
+      test_takes (Nil line) law = value_tests (Nil line) law
+      test_takes (False line) law = value_tests (False line) law
+      test_takes (Int line z) law = value_tests (Int line z) law
+      test_takes (Str line bytes) law = value_tests (Str line bytes) law
+      test_takes (Vararg line) law = value_tests (Vararg line) law
+      test_takes (Function line body) law = value_tests (Function line body) law
+      test_takes (Var line name) law = value_tests (Var line name) law
+      test_takes (Index line object key) law = value_tests (Index line object key) law
+      test_takes (Call line f es) law = value_tests (Call line f es) law
+      test_takes (Method line object name es) law = value_tests (Method line object name es) law
+      test_takes (Table line fs) law = value_tests (Table line fs) law
+
+      keep_takes : (e : Exp) → ExpTakes e → KeepTakes e
+      keep_takes (Paren line e) law = keep_takes e (exp_takes e)
+      keep_takes (And line e d) law = and_keeps line e d (test_takes e (exp_takes e)) (keep_takes e (exp_takes e)) (keep_takes d (exp_takes d))
+      keep_takes (Or line e d) law = or_keeps line e d (test_takes e (exp_takes e)) (keep_takes e (exp_takes e)) (keep_takes d (exp_takes d))
+      keep_takes (Nil line) law = leaf_takes (Nil line) law
+      keep_takes (True line) law = leaf_takes (True line) law
+      keep_takes (False line) law = leaf_takes (False line) law
+      keep_takes (Int line z) law = leaf_takes (Int line z) law
+      keep_takes (Str line bytes) law = leaf_takes (Str line bytes) law
+      keep_takes (Vararg line) law = leaf_takes (Vararg line) law
+      keep_takes (Function line body) law = leaf_takes (Function line body) law
+      keep_takes (Var line name) law = leaf_takes (Var line name) law
+      keep_takes (Index line object key) law = leaf_takes (Index line object key) law
+      keep_takes (Call line f es) law = leaf_takes (Call line f es) law
+      keep_takes (Method line object name es) law = leaf_takes (Method line object name es) law
+      keep_takes (Table line fs) law = leaf_takes (Table line fs) law
+      keep_takes (Unary line op e) law = unary_keeps line op e law (test_takes e (exp_takes e))
+      keep_takes (Binary line op e d) law = binary_keeps line op e d law (exp_takes e) (exp_takes d)
 
       pub exps_take : (es : Exps) → ExpsTake es
       exps_take EndExps wanted above t p size j line is known in_scope fits small = nils_take wanted above t p line is small
@@ -373,9 +645,11 @@ module _ (cs : List Const) where
       fields_take (MoreFields (Keyed field_line e g) fs) items t size j line known above small =
           let key = field_key cs (is_quiet g) e in
           let stands = field_key_stands cs (is_quiet g) e in
-          keyed_take cs (is_quiet g) e key (local_of g) t (room_of cs e 2) (room_of cs g 2) (room_of_fields cs fs) field_line (exp_code cs e (t + 1) j 2) (exp_code cs g (t + 2) (j + made_by e) 2)
+          let value = value_stands cs g in
+          keyed_take cs (is_quiet g) e key (stored_value cs g) t (room_of cs e 2) (room_of cs g 2) (room_of_fields cs fs) field_line (exp_code cs e (t + 1) j 2) (exp_code cs g (t + 2) (j + made_by e) 2)
           (fields_code cs fs items t (j + made_by e + made_by g) line) stands (own_room e) (own_room g)
-          (λ q is. let below = local_found hidden ups e q size (stands.local q is) known.0.0 in omega (arith, below, above)) (λ q is. let below = local_found hidden ups g q size is known.0.1 in omega (arith, below, above))
+          (λ q is. let below = local_found hidden ups e q size (stands.local q is) known.0.0 in omega (arith, below, above)) (λ q is. let below = local_found hidden ups g q size (stands_local cs g (stored_value cs g) q is value) known.0.1 in omega (arith, below, above))
+          (λ n is. (stands_constant cs g (stored_value cs g) n is value).short)
           (λ few. exp_takes e size (t + 1) j 2 known.0.0 (omega (arith, above)) (lit< tt) few) (λ few. exp_takes g size (t + 2) (j + made_by e) 2 known.0.1 (omega (arith, above)) (lit< tt) few) small
           (fields_take fs items t size (j + made_by e + made_by g) line known.1 above (omega (arith, small)))
 

@@ -1,5 +1,5 @@
 -- An expression has no more registers than values that it holds, and those that are wanted of it.
-use Rattle.std.proofs.Common.{◌≡◌, ℕ, zero, suc, ◌+◌, ◌-◌, ◌≤◌, max, Bool, true, false, cond, List, Some, None, nat_lt, refl, ap, arith}
+use Rattle.std.proofs.Common.{◌≡◌, ℕ, zero, suc, ◌+◌, ◌-◌, ◌≤◌, max, Bool, true, false, cond, List, Option, Some, None, nat_lt, refl, ap, arith}
 use Rattle.tree_core.specs.declared.name.Place.{Place}
 use Rattle.tree_core.specs.declared.name.Place.TheVariants.{Unset, Upvalue, GlobalIn, GlobalOf, Local as LocalPlace}
 use Rattle.tree_core.specs.Tree.{Exp, Nil, True, False, Int, Str, Vararg, Function, Var, Index, Call, Method, Unary, Binary, And, Or, Paren, Table, Exps, EndExps, MoreExps, Fields, EndFields, MoreFields, Item, Keyed}
@@ -9,14 +9,17 @@ use Rattle.code_of.specs.Constants.{number_in}
 use Rattle.code_of.specs.Expressions.{count, is_open, is_last_item, Wanted, results_field, one_less}
 use Rattle.scope_core.specs.Held.{positional, held_name, held, held_behind, held_fields, held_field}
 use Rattle.scope_core.specs.Held as held_specs
-use Rattle.code_of.specs.Operands.{local_of}
+use Rattle.code_of.specs.StoredValues.{stored_value}
+use Rattle.code_of.specs.Operands.{local_at, local_of}
+use Rattle.code_of.specs.FieldReads.{object_room}
+use Rattle.code_of.specs.Truths.{is_not, is_compared}
 use Rattle.code_of.specs.Stores.{name_in, is_quiet, field_key}
 use Rattle.code_of.proofs.Stores.{keyed_room_few}
-use Rattle.code_of.specs.Operations.{constant_in}
+use Rattle.code_of.specs.Operations.{constant_in, operation_room}
 use Rattle.code_of.proofs.Operations.{few_operation}
 use Rattle.code_of.proofs.FieldReads.{few_read}
 use Rattle.code_of.proofs.Rooms.{self_room}
-use Rattle.code_of.specs.Rooms.{room_of_values, room_of_nils, room_of_name, room_of, room_of_list, room_of_fields}
+use Rattle.code_of.specs.Rooms.{room_of_values, room_of_nils, room_of_name, room_of, room_tested, room_kept, room_of_list, room_of_fields}
 
 -- both counts of a list are one
 pub same_count : (es : Exps) → held_specs.count es ≡ count es
@@ -75,6 +78,18 @@ either_two false = omega arith
 either_one : (b : Bool) → cond b 1 1 ≤ 1
 either_one true = omega arith
 either_one false = omega arith
+
+one_at_most : (b : Bool) → cond b 0 1 ≤ 1
+one_at_most true = omega arith
+one_at_most false = omega arith
+
+either_less : (b : Bool) (x y n : ℕ) → x ≤ n → y ≤ n → cond b x y ≤ n
+either_less true x y n h k = h
+either_less false x y n h k = k
+
+own_less : (at : Option ℕ) (value n : ℕ) → value ≤ n → object_room 0 at value ≤ n
+own_less None value n h = h
+own_less (Some x) value n h = omega arith
 
 module _ (cs : List Const) where
   pub name_held : (p : Place) (text : List ℕ) → room_of_name cs p text ≤ held_name p
@@ -152,10 +167,74 @@ module _ (cs : List Const) where
         let b = item_by d false (exp_held d) in
         let h = few_operation 1 (constant_in cs op d) op e d (room_of cs e 2) (room_of cs d 2) (omega arith) in
         omega (arith, a, b, h)
-    exp_held (And line e d) field = let a = item_by e false (exp_held e) in let b = item_by d false (exp_held d) in omega (arith, a, b)
-    exp_held (Or line e d) field = let a = item_by e false (exp_held e) in let b = item_by d false (exp_held d) in omega (arith, a, b)
+    exp_held (And line e d) field = let a = kept_held e (room_of cs e 2) false (item_by e false (exp_held e)) in let b = item_by d false (exp_held d) in omega (arith, a, b)
+    exp_held (Or line e d) field = let a = kept_held e (room_of cs e 2) true (item_by e false (exp_held e)) in let b = item_by d false (exp_held d) in omega (arith, a, b)
     exp_held (Paren line e) field = let a = item_by e false (exp_held e) in omega (arith, a)
     exp_held (Table line fs) field = let a = fields_held fs 0 in omega (arith, a)
+
+    -- where only the truth is wanted, and where a first operand's value is kept
+    tested_held : (e : Exp) (value : ℕ) → value ≤ held e → room_tested cs e value ≤ held e
+    tested_held (Paren line e) value h = tested_held e value h
+    tested_held (Unary line op e) value h = either_less (is_not op) (room_tested cs e (room_of cs e 2)) value (held e) (tested_held e (room_of cs e 2) (item_by e false (exp_held e))) h
+    tested_held (And line e d) value h =
+        let a = tested_held e (room_of cs e 2) (item_by e false (exp_held e)) in
+        let b = tested_held d (room_of cs d 2) (item_by d false (exp_held d)) in
+        omega (arith, a, b)
+    tested_held (Or line e d) value h =
+        let a = tested_held e (room_of cs e 2) (item_by e false (exp_held e)) in
+        let b = tested_held d (room_of cs d 2) (item_by d false (exp_held d)) in
+        omega (arith, a, b)
+    tested_held (Binary line op e d) value h =
+        let a = item_by e false (exp_held e) in
+        let b = item_by d false (exp_held d) in
+        let f = few_operation (cond (is_compared op) 0 1) (constant_in cs op d) op e d (room_of cs e 2) (room_of cs d 2) (one_at_most (is_compared op)) in
+        omega (arith, a, b, f)
+    tested_held (True line) value h = omega arith
+    tested_held (Var line name) value h = own_less (local_at name.place) value (held_name name.place) h
+    tested_held (Nil line) value h = h
+    tested_held (False line) value h = h
+    tested_held (Int line z) value h = h
+    tested_held (Str line bytes) value h = h
+    tested_held (Vararg line) value h = h
+    tested_held (Function line body) value h = h
+    tested_held (Index line object key) value h = h
+    tested_held (Call line f es) value h = h
+    tested_held (Method line object name es) value h = h
+    tested_held (Table line fs) value h = h
+
+    kept_held : (e : Exp) (value : ℕ) (k : Bool) → value ≤ held e → room_kept cs e value k ≤ held e
+    kept_held (Paren line e) value k h = kept_held e value k h
+    kept_held (And line e d) value k h =
+        let a = either_less k (room_tested cs e (room_of cs e 2)) (room_kept cs e (room_of cs e 2) false) (held e) (tested_held e (room_of cs e 2) (item_by e false (exp_held e))) (kept_held e (room_of cs e 2) false (item_by e false (exp_held e))) in
+        let b = kept_held d (room_of cs d 2) k (item_by d false (exp_held d)) in
+        omega (arith, a, b)
+    kept_held (Or line e d) value k h =
+        let a = either_less k (room_kept cs e (room_of cs e 2) true) (room_tested cs e (room_of cs e 2)) (held e) (kept_held e (room_of cs e 2) true (item_by e false (exp_held e))) (tested_held e (room_of cs e 2) (item_by e false (exp_held e))) in
+        let b = kept_held d (room_of cs d 2) k (item_by d false (exp_held d)) in
+        omega (arith, a, b)
+    kept_held (Nil line) value k h = h
+    kept_held (True line) value k h = h
+    kept_held (False line) value k h = h
+    kept_held (Int line z) value k h = h
+    kept_held (Str line bytes) value k h = h
+    kept_held (Vararg line) value k h = h
+    kept_held (Function line body) value k h = h
+    kept_held (Var line name) value k h = h
+    kept_held (Index line object key) value k h = h
+    kept_held (Call line f es) value k h = h
+    kept_held (Method line object name es) value k h = h
+    kept_held (Unary line op e) value k h =
+        let some = some_held e in
+        let a = tested_held e (room_of cs e 2) (item_by e false (exp_held e)) in
+        either_less (is_not op) (max (room_tested cs e (room_of cs e 2)) 1) value (held e) (omega (arith, some, a)) h
+    kept_held (Binary line op e d) value k h =
+        let some = some_held e in
+        let a = item_by e false (exp_held e) in
+        let b = item_by d false (exp_held d) in
+        let own : ℕ = cond (is_compared op) 0 1 in
+        let f = few_operation own (constant_in cs op d) op e d (room_of cs e 2) (room_of cs d 2) (one_at_most (is_compared op)) in
+        either_less (is_compared op) (max (operation_room own (constant_in cs op d) op e d (room_of cs e 2) (room_of cs d 2)) 1) value (max (held e) (1 + held d)) (omega (arith, some, a, b, f)) h
+    kept_held (Table line fs) value k h = h
 
     pub exps_held : (es : Exps) (wanted : Wanted) (above : ℕ) → room_of_list cs above es wanted ≤ max (held_behind above es) (above + wanted_count wanted)
     exps_held EndExps wanted above = let h = nils_held wanted above in omega (arith, h)
@@ -177,7 +256,7 @@ module _ (cs : List Const) where
         let a = item_by e false (exp_held e) in
         let b = item_by d false (exp_held d) in
         let c = fields_held fs (items + 0) in
-        let few = keyed_room_few (field_key cs (is_quiet d) e) (local_of d) (room_of cs e 2) (room_of cs d 2) in
+        let few = keyed_room_few (field_key cs (is_quiet d) e) (stored_value cs d) (room_of cs e 2) (room_of cs d 2) in
         omega (arith, a, b, c, few)
 
   pub one_held : (e : Exp) → room_of cs e 2 ≤ held e

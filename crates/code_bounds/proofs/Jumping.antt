@@ -3,6 +3,7 @@ use Rattle.std.proofs.Common.{◌≡◌, ℕ, ◌+◌, ◌-◌, ◌≤◌, Bool,
 use Rattle.tree_core.specs.Tree.{Stats, EndStats, MoreStats, Stat, Label}
 use Rattle.code_core.specs.declared.opcode.Opcode.TheVariants.{Close, Jmp}
 use Rattle.code_core.specs.declared.proto.Const.{Const}
+use Rattle.code_of.specs.declared.leaving.Leaving.{Leaving}
 use Rattle.code_of.specs.Coded.{with_abc, jump_over, jump_back}
 use Rattle.code_of.specs.Jumps.{Landing, Visible, Reach, label_in, jump_code, leads}
 use Rattle.code_of.specs.Levels.{made_by_stat, closing_after}
@@ -42,17 +43,18 @@ either_way : (b : Bool) (m n line : ℕ) → top (cond b (jump_over m line) (jum
 either_way true m n line = ax_is Jmp (16777215 + m) refl
 either_way false m n line = ax_is Jmp (16777215 - n) refl
 
-jump_top : (x : Landing) (pc line : ℕ) → x.level ≤ 200 → top (jump_code x pc line) ≤ 250
-jump_top x pc line low =
+jump_top : (closes : Bool) (x : Landing) (pc line : ℕ) → x.level ≤ 200 → top (jump_code closes x pc line) ≤ 250
+jump_top false x pc line low = let c = either_way (nat_le (pc + 1) x.place) (x.place - (pc + 1)) (pc + 1 - x.place) line in omega (arith, c)
+jump_top true x pc line low =
     let jump = cond (nat_le (pc + 2) x.place) (jump_over (x.place - (pc + 2)) line) (jump_back (pc + 2 - x.place) line) in
     let a = top_more (with_abc Close x.level 0 0 line) (jump ∷ []) in
     let b = one_a Close x.level 0 0 false refl (omega arith) in
     let c = either_way (nat_le (pc + 2) x.place) (x.place - (pc + 2)) (pc + 2 - x.place) line in
     omega (arith, a, b, c, low)
 
-pub leads_top : (o : Option Landing) (pc line : ℕ) → LandsLow o → top (leads o pc line) ≤ 250
-leads_top None pc line low = jump_top (record { place = 0; level = 0 }) pc line (omega arith)
-leads_top (Some x) pc line low = jump_top x pc line low
+pub leads_top : (closes : Bool) (o : Option Landing) (pc line : ℕ) → LandsLow o → top (leads closes o pc line) ≤ 250
+leads_top closes None pc line low = jump_top closes (record { place = 0; level = 0 }) pc line (omega arith)
+leads_top closes (Some x) pc line low = jump_top closes x pc line low
 
 pub passed_low : (s : Stat) (t pc : ℕ) (passed : List Visible) → t ≤ 200 → LabelsLow passed → LabelsLow (passed_after s t pc passed)
 passed_low (Label line name) t pc passed few h = (few, h)
@@ -62,7 +64,7 @@ either_level : (b : Bool) (m n : ℕ) → m ≤ 200 → n ≤ 200 → cond b m n
 either_level true m n h k = h
 either_level false m n h k = k
 
-module _ (cs : List Const) (back : ℕ) where
+module _ (cs : List Const) (back : Leaving) where
   pub ahead_low : (ss : Stats) (falls closing : Bool) (outer t j pc : ℕ) (vararg : Bool) (names named : List Named) (loops : Bool) → outer ≤ 200 → t ≤ 200 → StatsKeep ss falls vararg t names named loops → LabelsLow (labels_ahead cs back ss falls closing outer t j pc)
   ahead_low EndStats falls closing outer t j pc vararg names named loops a b h = tt
   ahead_low (MoreStats (Label line name) ss) falls closing outer t j pc vararg names named loops a b h =

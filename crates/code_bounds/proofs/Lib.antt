@@ -1,4 +1,5 @@
 pub mod Counts
+mod ShortTests
 mod ShortExpressions
 mod Conditions
 pub mod ShortStatements

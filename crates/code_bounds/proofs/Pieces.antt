@@ -16,10 +16,10 @@ use Rattle.code_core.specs.Instruction.{abc, op_ax, a_of, b_of, c_of}
 use Rattle.code_core.specs.Fields.{registers}
 use Rattle.code_of.specs.Coded.{Coded, with_abc, with_abx, jump_over}
 use Rattle.code_of.specs.Constants.{number_in, loads}
-use Rattle.code_of.specs.Operands.{greatest, numeral_of, joins, computes}
+use Rattle.code_of.specs.Operands.{joins, computes, operand_numeral}
 use Rattle.code_of.proofs.Operands.{numeral_none}
 use Rattle.code_of.specs.Operators.{name_into, name_code, prefix_code, arithmetic_code, truth_code, operator_code, sum_code, number_code, self_code}
-use Rattle.code_of.specs.Expressions.{Wanted, nils_code, either_code, set_list}
+use Rattle.code_of.specs.Expressions.{Wanted, nils_code, set_list}
 use Rattle.code_of.specs.Rooms.{room_of_name_by, room_of_name, room_of_self, room_of_nils}
 use Rattle.code_of.proofs.Rooms.{name_room}
 use Rattle.scope_laws.specs.Finding.{PlaceIsThere}
@@ -224,9 +224,10 @@ sum_top : (op : Opcode) (field event x n t line : ℕ) → registers op (abc op 
 sum_top op field event x n t line shape below fits = let e = summed_top op field event x n t line shape (omega arith) fits in omega (arith, e)
 
 -- where the result goes to any register
-pub number_top : (op : BinOp) (d : Exp) (x n t line : ℕ) → computes op ≡ true → numeral_of d (greatest op) ≡ Some n → x < 2 ^ 8 → t < 2 ^ 8 → top (number_code op x n t line) ≡ max (t + 1) (x + 1)
+pub number_top : (op : BinOp) (d : Exp) (x n t line : ℕ) → computes op ≡ true → operand_numeral op d ≡ Some n → x < 2 ^ 8 → t < 2 ^ 8 → top (number_code op x n t line) ≡ max (t + 1) (x + 1)
 number_top Plus d x n t line is e xf tf = summed_top AddI (n + 127) 6 x n t line refl xf tf
 number_top Minus d x n t line is e xf tf = summed_top AddI (127 - n) 7 x n t line refl xf tf
+number_top ShiftLeft d x n t line is e xf tf = summed_top ShrI (127 - n) 16 x n t line refl xf tf
 number_top ShiftRight d x n t line is e xf tf = summed_top ShrI (n + 127) 17 x n t line refl xf tf
 number_top Times d x n t line is e xf tf = absurd (numeral_none d n e)
 number_top Modulo d x n t line is e xf tf = absurd (numeral_none d n e)
@@ -234,7 +235,6 @@ number_top Idiv d x n t line is e xf tf = absurd (numeral_none d n e)
 number_top Band d x n t line is e xf tf = absurd (numeral_none d n e)
 number_top Bor d x n t line is e xf tf = absurd (numeral_none d n e)
 number_top Bxor d x n t line is e xf tf = absurd (numeral_none d n e)
-number_top ShiftLeft d x n t line is e xf tf = absurd (numeral_none d n e)
 number_top Join d x n t line is e xf tf = absurd (cc)
 number_top Equal d x n t line is e xf tf = absurd (cc)
 number_top Ne d x n t line is e xf tf = absurd (cc)
@@ -246,9 +246,10 @@ number_top Ge d x n t line is e xf tf = absurd (cc)
 number_truth : (op : Opcode) (x n : ℕ) (k : Bool) (t line : ℕ) → registers op (abc op x (n + 127) 0 k) ≡ a_of (abc op x (n + 127) 0 k) ∷ [] → x ≤ t → t < 2 ^ 8 → top (truth_code op x (n + 127) k t line) ≡ t + 1
 number_truth op x n k t line shape below fits = let e = truth_top op x (n + 127) (x + 1) k t line (one_a op x (n + 127) 0 k shape (omega arith)) fits in omega (arith, e)
 
-pub number_here : (op : BinOp) (d : Exp) (x n t line : ℕ) → numeral_of d (greatest op) ≡ Some n → x ≤ t → t < 2 ^ 8 → top (number_code op x n t line) ≡ t + 1
+pub number_here : (op : BinOp) (d : Exp) (x n t line : ℕ) → operand_numeral op d ≡ Some n → x ≤ t → t < 2 ^ 8 → top (number_code op x n t line) ≡ t + 1
 number_here Plus d x n t line e below fits = sum_top AddI (n + 127) 6 x n t line refl below fits
 number_here Minus d x n t line e below fits = sum_top AddI (127 - n) 7 x n t line refl below fits
+number_here ShiftLeft d x n t line e below fits = sum_top ShrI (127 - n) 16 x n t line refl below fits
 number_here ShiftRight d x n t line e below fits = sum_top ShrI (n + 127) 17 x n t line refl below fits
 number_here Equal d x n t line e below fits = number_truth EqI x n true t line refl below fits
 number_here Ne d x n t line e below fits = number_truth EqI x n false t line refl below fits
@@ -262,7 +263,6 @@ number_here Idiv d x n t line e below fits = absurd (numeral_none d n e)
 number_here Band d x n t line e below fits = absurd (numeral_none d n e)
 number_here Bor d x n t line e below fits = absurd (numeral_none d n e)
 number_here Bxor d x n t line e below fits = absurd (numeral_none d n e)
-number_here ShiftLeft d x n t line e below fits = absurd (numeral_none d n e)
 number_here Join d x n t line e below fits = absurd (numeral_none d n e)
 
 -- operands, each with a register of its own, and what is done with them
@@ -279,19 +279,20 @@ two_take t x y first second last some h k l =
 pub one_takes : (t x : ℕ) (first last : List Coded) → 1 ≤ x → Takes t x first → top last ≤ t + 1 → Takes t x (first ++ last)
 one_takes t x first last some h l = let a = top_append first last in (omega (arith, a, h.0, l), omega (arith, a, h.0, h.1, l))
 
-pub either_takes : (t x y : ℕ) (decides : Bool) (first second : List Coded) (line : ℕ) → t < 2 ^ 8 → 1 ≤ x → Takes t x first → Takes t y second → Takes t (max x y) (either_code decides first second t line)
-either_takes t x y decides first second line fits some h k =
-    let test : Coded = (abc Test t 0 0 decides, line) in
-    let jump = jump_over (length second) line in
-    let a = top_append first (test ∷ jump ∷ second) in
-    let b = top_more test (jump ∷ second) in
-    let c = top_more jump second in
-    let d = one_a Test t 0 0 decides refl fits in
-    let e = ax_is Jmp (16777215 + length second) refl in
-    by (top first) (top second) (top (first ++ (test ∷ jump ∷ second))) (omega (arith, a, b, c, d, e)) h.0 h.1 k.0 k.1
+-- two pieces from the same register on
+pub join_takes : (t x y : ℕ) (a b : List Coded) → Takes t x a → Takes t y b → Takes t (max x y) (a ++ b)
+join_takes t x y a b h k = let e = top_append a b in by (top a) (top b) (top (a ++ b)) e h.0 h.1 k.0 k.1
   where
-    by : (m n all : ℕ) → all ≡ max m (max (t + 1) n) → m ≤ t + x → t + x ≤ max t m → n ≤ t + y → t + y ≤ max t n → (all ≤ t + max x y) × (t + max x y ≤ max t all)
-    by m n all is a b c d = (omega arith, omega arith)
+    by : (m n all : ℕ) → all ≡ max m n → m ≤ t + x → t + x ≤ max t m → n ≤ t + y → t + y ≤ max t n → (all ≤ t + max x y) × (t + max x y ≤ max t all)
+    by m n all is p q r s = (omega arith, omega arith)
+
+-- an instruction that finds a truth names its own registers, and the jump behind it none
+pub pair_top : (w : Instruction) (ahead line : ℕ) → top ((w, line) ∷ jump_over ahead line ∷ []) ≡ one w
+pair_top w ahead line =
+    let a = top_more (w, line) (jump_over ahead line ∷ []) in
+    let b = top_more (jump_over ahead line) [] in
+    let c = ax_is Jmp (16777215 + ahead) refl in
+    omega (arith, a, b, c)
 
 -- lists
 

@@ -3,7 +3,8 @@ use Rattle.std.proofs.Common.{ℕ, ◌+◌, ◌*◌, ◌≤◌, Bool, true, fals
 use Rattle.tree_core.specs.Tree.{Block, Falls, Returns, Body, BodyOf}
 use Rattle.code_core.specs.declared.opcode.Opcode.TheVariants.{Return}
 use Rattle.code_core.specs.declared.proto.Const.{Const}
-use Rattle.code_of.specs.CodeOf.{back_field, opening, body_code}
+use Rattle.code_of.specs.declared.leaving.Leaving.{Leaving}
+use Rattle.code_of.specs.CodeOf.{leaving_of, opening, body_code}
 use Rattle.code_of.specs.Coded.{leaving_by}
 use Rattle.code_of.specs.Constants.{of_block}
 use Rattle.code_of.specs.Jumps.{Reach}
@@ -17,11 +18,11 @@ opening_short : (vararg : Bool) (params line : ℕ) → length (opening vararg p
 opening_short true params line = omega arith
 opening_short false params line = omega arith
 
-whole_short : (cs : List Const) (back : ℕ) (block : Block) (params pc : ℕ) → length (whole_code cs back block params pc) ≤ 6 * weight_of_block block + 1
+whole_short : (cs : List Const) (back : Leaving) (block : Block) (params pc : ℕ) → length (whole_code cs back block params pc) ≤ 6 * weight_of_block block + 1
 whole_short cs back (Falls ss tokens line) params pc =
     let nowhere : Reach = record { labels = []; exit = None } in
     let code = stats_code cs back ss true false 0 params 0 pc [] nowhere in
-    let last = leaving_by Return (levels_after ss params) 1 back line ∷ [] in
+    let last = leaving_by Return (levels_after ss params) 1 back.back line ∷ [] in
     omega (arith, stats_sized cs back ss true false 0 params 0 pc [] nowhere, stats_short cs back ss false params 0, length-append code last)
 whole_short cs back (Returns ss es tokens line) params pc =
     let nowhere : Reach = record { labels = []; exit = None } in
@@ -31,6 +32,6 @@ pub body_short : (body : Body) → length (body_code body) ≤ 6 * weight_of_bod
 body_short (BodyOf params vararg inner ups line) =
     let begin = opening vararg (length params) line in
     let cs = of_block inner [] in
-    let back = back_field vararg (length params) in
+    let back = leaving_of vararg (length params) inner in
     let rest = whole_code cs back inner (length params) (length begin) in
     omega (arith, opening_short vararg (length params) line, whole_short cs back inner (length params) (length begin), length-append begin rest)

@@ -6,23 +6,28 @@ use Rattle.tree_core.specs.declared.name.Place.TheVariants.{Unset, Upvalue, Glob
 use Rattle.tree_core.specs.declared.operator.BinOp.{BinOp}
 use Rattle.tree_core.specs.declared.operator.BinOp.TheVariants.{Add as Plus, Sub as Minus, Mul as Times, Mod as Modulo, Idiv, Band, Bor, Bxor, Shl as ShiftLeft, Shr as ShiftRight, Concat as Join, Eq as Equal, Ne, Lt as Less, Le as AtMost, Gt, Ge}
 use Rattle.tree_core.specs.Tree.{Exp, Nil, True, False, Int, Str, Vararg, Var, Function, Index, Call, Method, Unary, Binary, And, Or, Paren, Table, BodyOf, Exps, EndExps, MoreExps, Fields, EndFields, MoreFields, Item, Keyed}
-use Rattle.code_core.specs.declared.opcode.Opcode.TheVariants.{GetTabUp, GetUpval, GetTable, OpSelf, Test, LoadI, LoadK, LoadKx, ExtraArg, SetList, Call as CallCode, GetField}
+use Rattle.code_core.specs.declared.opcode.Opcode.TheVariants.{GetTabUp, GetUpval, GetTable, OpSelf, LoadI, LoadK, LoadKx, ExtraArg, SetList, Call as CallCode, GetField}
 use Rattle.code_core.specs.declared.proto.Const.{Const}
 use Rattle.code_core.specs.declared.proto.Const.TheVariants.{Int as IntConst, Str as StrConst}
 use Rattle.code_core.specs.Instruction.{abc, op_ax}
-use Rattle.code_of.specs.Coded.{Coded, with_abc, with_abx, jump_over}
+use Rattle.code_of.specs.Coded.{Coded, with_abc, with_abx}
 use Rattle.code_of.specs.Constants.{is_small, small_field, number_in, loads, loads_numbered, loads_integer}
-use Rattle.code_of.specs.Operands.{local_of, seat, unless}
+use Rattle.code_of.specs.Operands.{local_of, joins, seat, unless}
 use Rattle.code_of.proofs.Operands.{unless_short, operand_short}
 use Rattle.code_of.specs.Stores.{name_in, is_quiet, field_key, keyed_store}
+use Rattle.code_of.specs.StoredValues.{stored_value}
 use Rattle.code_of.proofs.Stores.{keyed_store_short}
-use Rattle.code_of.specs.Operations.{constant_in, constant_code}
+use Rattle.code_of.specs.Operations.{constant_in, constant_code, operation_code}
+use Rattle.code_of.specs.Chains.{chain_code}
+use Rattle.code_of.proofs.Chains.{chain_short}
 use Rattle.code_of.proofs.Operations.{constant_short, operation_short}
 use Rattle.code_of.proofs.FieldReads.{read_short}
 use Rattle.code_of.specs.Operators.{name_into, global_code, local_global_code, prefix_code, operator_code, number_code, self_code}
-use Rattle.code_of.specs.Expressions.{made_by, list_field, is_last_open, is_last_item, Wanted, one_less, field_of, wanted_after, nils_code, either_code, set_list, exp_code, exps_code, fields_code}
+use Rattle.code_of.specs.Expressions.{made_by, list_field, is_last_open, is_last_item, Wanted, one_less, field_of, wanted_after, nils_code, set_list, exp_code, exps_code, fields_code}
+use Rattle.code_of.specs.Conditions.{keep_code}
 use Rattle.code_of.specs.Parts.{direct_code}
 use Rattle.tree_terms.specs.Weight.{weight, weight_of_arguments, weight_of_exps, weight_of_fields}
+use Rattle.code_bounds.proofs.ShortTests.{ValueShort, Short, value_short, not_short, binary_short, true_short, paren_short, and_short, or_short, KeepShort, leaf_short, unary_keeps, binary_keeps, paren_keeps, and_keeps, or_keeps}
 
 -- pieces of code that have a few instructions at most
 
@@ -109,6 +114,15 @@ number_short AtMost x n t line = omega arith
 number_short Gt x n t line = omega arith
 number_short Ge x n t line = omega arith
 
+-- a chain of `..` has one instruction besides its operands
+
+chain_few : (line : ℕ) (d : Exp) (first second : List Coded) (t : ℕ) → length (chain_code line d first second t) ≤ length first + (length second + 4)
+chain_few line d first second t = omega (arith, chain_short line d first second t)
+
+one_short : (b : Bool) (xs ys : List Coded) (m : ℕ) → length xs ≤ m → length ys ≤ m → length (cond b xs ys) ≤ m
+one_short true xs ys m h k = h
+one_short false xs ys m h k = k
+
 set_list_short : (t b items line : ℕ) → length (set_list t b items line) ≤ 2
 set_list_short t b items line = by (nat_lt items 256)
   where
@@ -137,10 +151,6 @@ nils_after e es wanted = by (is_last_open e es)
     by : (b : Bool) → nils (cond b None (one_less wanted)) ≤ nils wanted
     by true = omega arith
     by false = less_wanted wanted
-
-either_short : (decides : Bool) (first second : List Coded) (t line : ℕ) → length (either_code decides first second t line) ≡ length first + length second + 2
-either_short decides first second t line =
-    omega (arith, length-append first ((abc Test t 0 0 decides, line) ∷ jump_over (length second) line ∷ second))
 
 -- Two instructions are left over by each expression, which pay for SETLIST where it is an item, and for CALL where it is an argument.
 module _ (cs : List Const) where
@@ -184,19 +194,63 @@ module _ (cs : List Const) where
         )
     exp_short (Unary line op e) t j c = omega (arith, exp_short e t j 2, operand_short (local_of e) (exp_code cs e t j 2) t (λ x. prefix_code op x t line) 1 (λ x. omega arith))
     exp_short (Binary line op e d) t j c =
+        let first = exp_code cs e t j 2 in
+        let second = exp_code cs d (t + 1) (j + made_by e) 2 in
         omega (
           arith,
           exp_short e t j 2,
           exp_short d (t + 1) (j + made_by e) 2,
-          operation_short (constant_in cs op d) op e d (exp_code cs e t j 2) (exp_code cs d (t + 1) (j + made_by e) 2) t (λ x n. constant_code op x n t line) (λ x y. operator_code op x y t line) (λ x n. number_code op x n t line) 4
-              (λ x n. constant_short op x n t line) (λ x y. operator_short op x y t line) (λ x n. number_short op x n t line),
+          one_short (joins op) (chain_code line d first second t) (operation_code (constant_in cs op d) op e d first second t t line) (length first + (length second + 4)) (chain_few line d first second t)
+              (operation_short (constant_in cs op d) op e d first second t (λ x n. constant_code op x n t line) (λ x y. operator_code op x y t line) (λ x n. number_code op x n t line) 4
+              (λ x n. constant_short op x n t line) (λ x y. operator_short op x y t line) (λ x n. number_short op x n t line)),
         )
     exp_short (And line e d) t j c =
-        omega (arith, exp_short e t j 2, exp_short d t (j + made_by e) 2, either_short false (exp_code cs e t j 2) (exp_code cs d t (j + made_by e) 2) t line)
+        let second = exp_code cs d t (j + made_by e) 2 in
+        omega (arith, kept_short e (λ u i. exp_short e u i 2) false (length second) t j, exp_short d t (j + made_by e) 2, length-append (keep_code cs e false (length second) t j) second)
     exp_short (Or line e d) t j c =
-        omega (arith, exp_short e t j 2, exp_short d t (j + made_by e) 2, either_short true (exp_code cs e t j 2) (exp_code cs d t (j + made_by e) 2) t line)
+        let second = exp_code cs d t (j + made_by e) 2 in
+        omega (arith, kept_short e (λ u i. exp_short e u i 2) true (length second) t j, exp_short d t (j + made_by e) 2, length-append (keep_code cs e true (length second) t j) second)
     exp_short (Paren line e) t j c = omega (arith, exp_short e t j 2)
     exp_short (Table line fs) t j c = omega (arith, fields_short fs 0 t j line)
+
+    -- a condition, and a first operand whose value is kept. The bound on the value's own code is given, since it is one of the same tree
+    pub tested_short : (e : Exp) → ValueShort cs e → Short cs e
+    tested_short (Paren line e) law = paren_short cs line e (tested_short e (λ u i. exp_short e u i 2))
+    tested_short (Unary line op e) law = not_short cs line op e law (tested_short e (λ u i. exp_short e u i 2))
+    tested_short (And line e d) law = and_short cs line e d (tested_short e (λ u i. exp_short e u i 2)) (tested_short d (λ u i. exp_short d u i 2))
+    tested_short (Or line e d) law = or_short cs line e d (tested_short e (λ u i. exp_short e u i 2)) (tested_short d (λ u i. exp_short d u i 2))
+    tested_short (Binary line op e d) law = binary_short cs line op e d law (λ u i. exp_short e u i 2) (λ u i. exp_short d u i 2)
+    tested_short (True line) law = true_short cs line
+    tested_short (Nil line) law = value_short cs (Nil line) law
+    tested_short (False line) law = value_short cs (False line) law
+    tested_short (Int line n) law = value_short cs (Int line n) law
+    tested_short (Str line bytes) law = value_short cs (Str line bytes) law
+    tested_short (Vararg line) law = value_short cs (Vararg line) law
+    tested_short (Function line body) law = value_short cs (Function line body) law
+    tested_short (Var line name) law = value_short cs (Var line name) law
+    tested_short (Index line object key) law = value_short cs (Index line object key) law
+    tested_short (Call line f es) law = value_short cs (Call line f es) law
+    tested_short (Method line object name es) law = value_short cs (Method line object name es) law
+    tested_short (Table line fs) law = value_short cs (Table line fs) law
+
+    kept_short : (e : Exp) → ValueShort cs e → KeepShort cs e
+    kept_short (Paren line e) law = paren_keeps cs line e (kept_short e (λ u i. exp_short e u i 2))
+    kept_short (And line e d) law = and_keeps cs line e d (tested_short e (λ u i. exp_short e u i 2)) (kept_short e (λ u i. exp_short e u i 2)) (kept_short d (λ u i. exp_short d u i 2))
+    kept_short (Or line e d) law = or_keeps cs line e d (tested_short e (λ u i. exp_short e u i 2)) (kept_short e (λ u i. exp_short e u i 2)) (kept_short d (λ u i. exp_short d u i 2))
+    kept_short (Nil line) law = leaf_short cs (Nil line) law
+    kept_short (True line) law = leaf_short cs (True line) law
+    kept_short (False line) law = leaf_short cs (False line) law
+    kept_short (Int line n) law = leaf_short cs (Int line n) law
+    kept_short (Str line bytes) law = leaf_short cs (Str line bytes) law
+    kept_short (Vararg line) law = leaf_short cs (Vararg line) law
+    kept_short (Function line body) law = leaf_short cs (Function line body) law
+    kept_short (Var line name) law = leaf_short cs (Var line name) law
+    kept_short (Index line object key) law = leaf_short cs (Index line object key) law
+    kept_short (Call line f es) law = leaf_short cs (Call line f es) law
+    kept_short (Method line object name es) law = leaf_short cs (Method line object name es) law
+    kept_short (Table line fs) law = leaf_short cs (Table line fs) law
+    kept_short (Unary line op e) law = unary_keeps cs line op e law (tested_short e (λ u i. exp_short e u i 2))
+    kept_short (Binary line op e d) law = binary_keeps cs line op e d law (λ u i. exp_short e u i 2) (λ u i. exp_short d u i 2)
 
     pub arguments_short : (es : Exps) (t j line : ℕ) → length (exps_code cs es None t j line) + 2 ≤ 6 * weight_of_arguments es
     arguments_short EndExps t j line = omega arith
@@ -234,11 +288,11 @@ module _ (cs : List Const) where
         let value = exp_code cs d (t + 2) (j + made_by e) 2 in
         omega (
           arith,
-          keyed_store_short s (local_of d) key value t own,
+          keyed_store_short s (stored_value cs d) key value t own,
           exp_short e (t + 1) j 2,
           exp_short d (t + 2) (j + made_by e) 2,
           fields_short fs items t (j + made_by e + made_by d) line,
-          length-append (keyed_store s (local_of d) key value t own) (fields_code cs fs items t (j + made_by e + made_by d) line),
+          length-append (keyed_store s (stored_value cs d) key value t own) (fields_code cs fs items t (j + made_by e + made_by d) line),
         )
 
   -- a value that goes straight to a local's register

@@ -1,5 +1,5 @@
 -- The code of statements and of blocks is short.
-use Rattle.std.proofs.Common.{ℕ, zero, suc, ◌+◌, ◌*◌, ◌≤◌, Bool, true, false, cond, List, [], ◌∷◌, ◌++◌, length, Option, Some, None, arith, length-append}
+use Rattle.std.proofs.Common.{ℕ, zero, suc, ◌+◌, ◌*◌, ◌≤◌, Bool, true, false, ◌||◌, cond, List, [], ◌∷◌, ◌++◌, length, Option, Some, None, arith, length-append}
 use Rattle.tree_core.specs.declared.name.Declared.{Declared}
 use Rattle.tree_core.specs.declared.name.Place.{Place}
 use Rattle.tree_core.specs.declared.name.Place.TheVariants.{Unset, Upvalue, GlobalIn, GlobalOf, Local as LocalPlace}
@@ -8,10 +8,12 @@ use Rattle.tree_activation.specs.Statements.{is_closed}
 use Rattle.code_core.specs.declared.opcode.Opcode.TheVariants.{Tbc, TailCall, Return}
 use Rattle.code_core.specs.declared.proto.Const.{Const}
 use Rattle.code_core.specs.declared.proto.Const.TheVariants.{Str as StrConst}
+use Rattle.code_of.specs.declared.leaving.Leaving.{Leaving}
 use Rattle.code_of.specs.Coded.{with_abc, leaving_by, Coded}
-use Rattle.code_of.specs.Operands.{local_of, seat, unless, assigned}
+use Rattle.code_of.specs.Operands.{local_of, lone_local, seat, unless, assigned, second_assigned}
 use Rattle.code_of.specs.Stores.{field_key, object_of, stores_field, is_quiet, key_code}
 use Rattle.code_of.proofs.Stores.{fields_store_short}
+use Rattle.code_of.specs.StoredValues.{stored_value}
 use Rattle.code_of.specs.Targets.{waiting_key, text_key, single_store}
 use Rattle.code_of.proofs.Targets.{key_code_short}
 use Rattle.code_of.specs.Constants.{loads}
@@ -20,12 +22,12 @@ use Rattle.code_of.specs.Operators.{self_code}
 use Rattle.code_of.specs.Expressions.{made_by, made_in, count, list_field, exp_code, exps_code}
 use Rattle.code_of.specs.Levels.{made_by_stat, made_in_arms, made_in_stats, made_in_block, closing_after, closings_after, closed_below, closed_until}
 use Rattle.tree_terms.specs.Levels.{level_after, levels_after, levels_in}
-use Rattle.code_of.specs.Parts.{marks_code, past_size, default_step, name_target, target_code, targets_code, name_store, store_code, stores_code, stored_code, first_direct, field_code, first_field, kept_code, store_by, assign_by, assign_code, call_last, method_last, values_last, return_code, pair_code, bounds_code, steps_code}
+use Rattle.code_of.specs.Parts.{marks_code, past_size, default_step, name_target, target_code, targets_code, name_store, store_code, stores_code, stored_code, first_direct, field_code, first_field, kept_code, store_by, assign_by, assign_code, call_last, method_last, returned_by, values_last, return_code, pair_code, bounds_code, steps_code, direct_code, first_two, two_by}
 use Rattle.code_of.specs.Sizes.{stat_size, arms_size, stats_size, block_size, open_size}
 use Rattle.tree_terms.specs.Weight.{weight, weight_of_arguments, weight_of_exps, weight_of_stat, weight_of_arms, weight_of_stats, weight_of_block}
 use Rattle.code_bounds.proofs.Conditions.{test_short}
 use Rattle.code_bounds.proofs.ShortExpressions.{loads_short, self_short, exp_short, direct_short, arguments_short, exps_short}
-use Rattle.code_of.proofs.Sizes.{close_short, function_short}
+use Rattle.code_of.proofs.Sizes.{close_short, jump_short, function_short}
 
 marks_short : (names : List Declared) (t : ℕ) → length (marks_code names t) ≤ length names
 marks_short [] t = omega arith
@@ -92,6 +94,25 @@ module _ (cs : List Const) where
   first_short EndExps r t j = omega arith
   first_short (MoreExps e es) r t j = let h = direct_short cs e r t j in omega (arith, h)
 
+  first_two_short : (targets es : Exps) (r t j : ℕ) → length (first_two cs targets es r t j) ≤ 6 * weight_of_exps targets + 6 * weight_of_exps es + 1
+  first_two_short EndExps es r t j = omega arith
+  first_two_short (MoreExps x targets) EndExps r t j = omega arith
+  first_two_short (MoreExps x targets) (MoreExps e EndExps) r t j = omega arith
+  first_two_short (MoreExps x targets) (MoreExps e (MoreExps d es)) r t j =
+      let aims = target_code cs x t j in
+      let first = exp_code cs e (t + 2) (j + made_by x) 2 in
+      let second = direct_code cs d r (t + 3) (j + made_by x + made_by e) in
+      let last = store_code cs x t (t + 2) in
+      omega (
+        arith,
+        target_short x t j t (t + 2),
+        exp_short cs e (t + 2) (j + made_by x) 2,
+        direct_short cs d r (t + 3) (j + made_by x + made_by e),
+        length-append aims (first ++ (second ++ last)),
+        length-append first (second ++ last),
+        length-append second last,
+      )
+
   field_short : (x e : Exp) (t j after : ℕ) → length (field_code cs x e t j after) ≤ 6 * weight x + 6 * weight e
   field_short (Index line object key) e t j after =
       let s = field_key cs (is_quiet e) key in
@@ -100,7 +121,7 @@ module _ (cs : List Const) where
       let third = exp_code cs e (t + 2) after 2 in
       omega (
         arith,
-        fields_store_short s (object_of s (is_quiet e) object) (local_of e) first_code second third t line,
+        fields_store_short s (object_of s (is_quiet e) object) (stored_value cs e) first_code second third t line,
         exp_short cs object t j 2,
         exp_short cs key (t + 1) (j + made_by object) 2,
         exp_short cs e (t + 2) after 2,
@@ -116,22 +137,29 @@ module _ (cs : List Const) where
   assign_short targets es t j line = by (assigned targets es)
     where
       by : (o : Option ℕ) → length (assign_by cs o targets es t j line) ≤ 6 * weight_of_exps targets + 6 * weight_of_exps es + 1
-      by None = by_field (stores_field targets es)
+      by None = by_two (second_assigned targets es)
         where
-          by_field : (b : Bool) → length (store_by cs b targets es t j line) ≤ 6 * weight_of_exps targets + 6 * weight_of_exps es + 1
-          by_field true = first_field_short targets es t j (j + made_in targets)
-          by_field false = by_store (single_store cs targets es)
+          by_two : (o : Option ℕ) → length (two_by cs o targets es t j line) ≤ 6 * weight_of_exps targets + 6 * weight_of_exps es + 1
+          by_two (Some r) = first_two_short targets es r t j
+          by_two None = by_field (stores_field targets es)
             where
-              by_store : (o : Option Coded) → length (kept_code cs o targets es t j line) ≤ 6 * weight_of_exps targets + 6 * weight_of_exps es + 1
-              by_store None = stored_short targets es t j line
-              by_store (Some x) = omega arith
+              by_field : (b : Bool) → length (store_by cs b targets es t j line) ≤ 6 * weight_of_exps targets + 6 * weight_of_exps es + 1
+              by_field true = first_field_short targets es t j (j + made_in targets)
+              by_field false = by_store (single_store cs targets es)
+                where
+                  by_store : (o : Option Coded) → length (kept_code cs o targets es t j line) ≤ 6 * weight_of_exps targets + 6 * weight_of_exps es + 1
+                  by_store None = stored_short targets es t j line
+                  by_store (Some x) = omega arith
       by (Some r) = let h = first_short es r t (j + made_in targets) in omega (arith, h)
 
   -- returns, where a call in its caller's place has one instruction more
 
   values_short : (es : Exps) (t j line back : ℕ) → length (values_last cs es t j line back) ≤ 6 * weight_of_exps es + 6
-  values_short es t j line back =
-      omega (arith, exps_short cs es None t j line, length-append (exps_code cs es None t j line) (leaving_by Return t (list_field 0 es) back line ∷ []))
+  values_short es t j line back = by (lone_local es)
+    where
+      by : (o : Option ℕ) → length (returned_by cs o es t j line back) ≤ 6 * weight_of_exps es + 6
+      by None = omega (arith, exps_short cs es None t j line, length-append (exps_code cs es None t j line) (leaving_by Return t (list_field 0 es) back line ∷ []))
+      by (Some r) = omega arith
 
   call_last_short : (f : Exp) (es : Exps) (t j line back : ℕ) → length (call_last cs f es t j line back) ≤ 6 * weight f + 6 * weight_of_arguments es + 6
   call_last_short f es t j line back =
@@ -178,7 +206,7 @@ module _ (cs : List Const) where
       let third = exp_code cs step (t + 2) (j + made_by from + made_by limit) 2 in
       omega (arith, pair_short from limit t j, exp_short cs step (t + 2) (j + made_by from + made_by limit) 2, length-append (pair_code cs from limit t j) third)
 
-module _ (cs : List Const) (back : ℕ) where
+module _ (cs : List Const) (back : Leaving) where
   mutual
     pub stat_short : (s : Stat) (closing : Bool) (t j : ℕ) → stat_size cs back s closing t j ≤ 6 * weight_of_stat s
     stat_short (Empty line) closing t j = omega arith
@@ -202,8 +230,8 @@ module _ (cs : List Const) (back : ℕ) where
     stat_short (GenFor line names es block) closing t j =
         omega (arith, exps_short cs es (Some 4) t j line, block_short block true (t + 4) (t + 4 + length names) (j + made_in es))
     stat_short (Label line name) closing t j = omega arith
-    stat_short (Goto line name) closing t j = omega arith
-    stat_short (Break line) closing t j = omega arith
+    stat_short (Goto line name) closing t j = omega (arith, jump_short (back.closes || closing))
+    stat_short (Break line) closing t j = omega (arith, jump_short (back.closes || closing))
 
     pub arms_short : (arms : Arms) (rest : ℕ) (closing : Bool) (t j : ℕ) → arms_size cs back arms rest closing t j ≤ 6 * weight_of_arms arms
     arms_short EndArms rest closing t j = omega arith
@@ -219,9 +247,9 @@ module _ (cs : List Const) (back : ℕ) where
     pub block_short : (block : Block) (closing : Bool) (outer t j : ℕ) → block_size cs back block closing outer t j ≤ 6 * weight_of_block block + 1
     block_short (Falls ss tokens line) closing outer t j = omega (arith, stats_short ss closing t j, close_short outer (closed_below ss outer t) line)
     block_short (Returns ss es tokens line) closing outer t j =
-        omega (arith, stats_short ss closing t j, return_short cs (closings_after ss closing) es (levels_after ss t) (j + made_in_stats ss) line back)
+        omega (arith, stats_short ss closing t j, return_short cs (closings_after ss closing) es (levels_after ss t) (j + made_in_stats ss) line back.back)
 
     pub open_short : (block : Block) (closing : Bool) (t j : ℕ) → open_size cs back block closing t j ≤ 6 * weight_of_block block
     open_short (Falls ss tokens line) closing t j = stats_short ss closing t j
     open_short (Returns ss es tokens line) closing t j =
-        omega (arith, stats_short ss closing t j, return_short cs (closings_after ss closing) es (levels_after ss t) (j + made_in_stats ss) line back)
+        omega (arith, stats_short ss closing t j, return_short cs (closings_after ss closing) es (levels_after ss t) (j + made_in_stats ss) line back.back)

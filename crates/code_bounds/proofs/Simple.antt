@@ -1,5 +1,5 @@
 -- The code of statements that have no block takes the registers that are counted for it.
-use Rattle.std.proofs.Common.{◌≡◌, ℕ, zero, suc, ◌+◌, ◌-◌, ◌<◌, ◌≤◌, ◌^◌, max, Bool, true, false, cond, List, [], ◌∷◌, ◌++◌, length, Some, None, refl, ap, lit<, arith}
+use Rattle.std.proofs.Common.{◌≡◌, ℕ, zero, suc, ◌+◌, ◌-◌, ◌<◌, ◌≤◌, ◌^◌, max, Bool, true, false, cond, List, [], ◌∷◌, ◌++◌, length, Option, Some, None, refl, ap, subst, lit<, arith}
 use Rattle.std.specs.Prelude.{nat_lt, nat_eq}
 use Rattle.tree_core.specs.declared.name.Declared.{Declared}
 use Rattle.tree_core.specs.Tree.{Exp, Vararg, Call, Method, Exps, EndExps, MoreExps}
@@ -9,16 +9,18 @@ use Rattle.code_core.specs.declared.proto.Const.{Const}
 use Rattle.code_core.specs.Instruction.{abc}
 use Rattle.code_of.specs.Coded.{with_abc, leaving_by}
 use Rattle.code_of.specs.Expressions.{made_by, is_open, list_field, Wanted, results_field, exp_code, exps_code}
-use Rattle.code_of.specs.Parts.{marks_code, close_code, call_last, method_last, values_last, return_code}
+use Rattle.code_of.specs.Parts.{marks_code, close_code, call_last, method_last, listed_last, returned_by, values_last, return_code}
 use Rattle.scope_core.specs.Held.{held, held_behind}
-use Rattle.code_of.specs.Rooms.{room_of_values, room_of_nils, room_of, room_of_list, room_of_self}
+use Rattle.code_of.specs.Rooms.{room_of_values, room_of_nils, room_of, room_of_list, room_of_last, room_of_self}
+use Rattle.code_of.specs.Stores.{room_unless}
+use Rattle.code_of.proofs.Operands.{lone_is}
 use Rattle.code_of.proofs.Rooms.{self_room}
 use Rattle.code_of.specs.Operators.{self_code}
 use Rattle.scope_laws.specs.Finding.{ExpFinds, ExpsFind}
-use Rattle.code_bounds.proofs.Tops.{top, one, top_more, top_append, one_a, one_tail, one_return}
+use Rattle.code_bounds.proofs.Tops.{top, one, top_more, top_append, one_a, one_tail, one_return, any_return}
 use Rattle.code_bounds.proofs.Pieces.{self_top, Takes, ListTakes, call_takes, method_takes}
-use Rattle.code_of.specs.Operands.{local_of, seat, unless}
-use Rattle.code_bounds.proofs.Expressions.{own_room, count_room, field_room, seat_low, object_takes, exp_takes, exps_take}
+use Rattle.code_of.specs.Operands.{local_of, lone_local, seat, unless}
+use Rattle.code_bounds.proofs.Expressions.{own_room, local_found, count_room, field_room, seat_low, object_takes, exp_takes, exps_take}
 use Rattle.code_bounds.proofs.Holding.{wanted_count, exp_held, exps_held, all_held}
 use Rattle.code_bounds.proofs.Room.{HasRoom}
 
@@ -128,10 +130,10 @@ module _ (cs : List Const) where
       (ends_call t b line back (omega (arith, small, two)) (omega (arith, small, few, counted, some))) (omega (arith, few, counted, some)) (omega arith) (omega arith)
 
   abbrev ReturnTakes : Bool → Exps → Type 0
-  ReturnTakes closing es = (hidden : List ℕ) (ups size t j line back : ℕ) → ExpsFind es hidden size ups → size ≤ t → t + room_of_list cs 0 es None ≤ 254 → ListTakes t t (room_of_list cs 0 es None) (return_code cs closing es t j line back)
+  ReturnTakes closing es = (hidden : List ℕ) (ups size t j line back : ℕ) → ExpsFind es hidden size ups → size ≤ t → t + room_of_last cs es ≤ 254 → ListTakes t t (room_of_last cs es) (return_code cs closing es t j line back)
 
-  values_last_take : (hidden : List ℕ) (ups : ℕ) (es : Exps) (size t j line back : ℕ) → ExpsFind es hidden size ups → size ≤ t → t + room_of_list cs 0 es None ≤ 254 → ListTakes t t (room_of_list cs 0 es None) (values_last cs es t j line back)
-  values_last_take hidden ups es size t j line back known above small =
+  listed_last_take : (hidden : List ℕ) (ups : ℕ) (es : Exps) (size t j line back : ℕ) → ExpsFind es hidden size ups → size ≤ t → t + room_of_list cs 0 es None ≤ 254 → ListTakes t t (room_of_list cs 0 es None) (listed_last cs es t j line back)
+  listed_last_take hidden ups es size t j line back known above small =
       let few = field_room cs es 0 in
       let counted = count_room cs es 0 in
       let b = list_field 0 es in
@@ -144,6 +146,19 @@ module _ (cs : List Const) where
       by : (r m o all : ℕ) → all ≡ max m o → m ≤ t + r → t + r ≤ max t m → o ≤ t + r → (all ≤ t + r) × (t + r ≤ max t all)
       by r m o all e p q s = (omega arith, omega arith)
 
+  -- a local that is all of the list stands below
+  values_last_take : (hidden : List ℕ) (ups : ℕ) (es : Exps) (size t j line back : ℕ) → ExpsFind es hidden size ups → size ≤ t → t + room_of_last cs es ≤ 254 → ListTakes t t (room_of_last cs es) (values_last cs es t j line back)
+  values_last_take hidden ups es size t j line back known above small = by (lone_local es) refl small
+    where
+      by : (o : Option ℕ) → lone_local es ≡ o → t + room_unless o (room_of_list cs 0 es None) ≤ 254 → ListTakes t t (room_unless o (room_of_list cs 0 es None)) (returned_by cs o es t j line back)
+      by None is small = listed_last_take hidden ups es size t j line back known above small
+      by (Some r) is small =
+          let lone = lone_is es r is in
+          let alone = subst (λ z. ExpsFind z hidden size ups) lone.values known in
+          let below = local_found hidden ups lone.value r size lone.is alone.0 in
+          let f = any_return (nat_lt 0 t) r 2 back (omega (arith, below, above, small)) (lit< tt) in
+          (omega (arith, f, below, above), omega arith)
+
   pub return_takes : (closing : Bool) (es : Exps) → ReturnTakes closing es
   return_takes true es hidden ups size t j line back known above small = values_last_take hidden ups es size t j line back known above small
   return_takes false (MoreExps (Call call_line f es) EndExps) hidden ups size t j line back known above small =
@@ -154,9 +169,14 @@ module _ (cs : List Const) where
       (omega (arith, h.0), omega (arith, h.1))
   return_takes false es hidden ups size t j line back known above small = values_last_take hidden ups es size t j line back known above small
 
+  last_less : (o : Option ℕ) (room : ℕ) → room_unless o room ≤ room
+  last_less None room = omega arith
+  last_less (Some r) room = omega arith
+
   pub return_room : (hidden : List ℕ) (ups stack : ℕ) (closing : Bool) (es : Exps) (t j line back : ℕ) → ExpsFind es hidden t ups → t + held_behind 0 es ≤ 250 →
-      HasRoom stack (return_code cs closing es t j line back) (t + room_of_list cs 0 es None ≤ max t stack)
+      HasRoom stack (return_code cs closing es t j line back) (t + room_of_last cs es ≤ max t stack)
   return_room hidden ups stack closing es t j line back known few =
       let h = all_held cs es 0 in
-      let all = return_takes closing es hidden ups t t j line back known (omega arith) (omega (arith, h)) in
-      record { below = omega (arith, h, all.0); gives = λ small. omega (arith, all.1) }
+      let less = last_less (lone_local es) (room_of_list cs 0 es None) in
+      let all = return_takes closing es hidden ups t t j line back known (omega arith) (omega (arith, h, less)) in
+      record { below = omega (arith, h, less, all.0); gives = λ small. omega (arith, all.1) }

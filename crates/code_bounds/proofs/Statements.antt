@@ -1,11 +1,12 @@
 -- The code of statements and blocks takes the registers that are counted for them.
-use Rattle.std.proofs.Common.{ℕ, ◌+◌, ◌-◌, ◌*◌, ◌≤◌, max, Bool, true, false, List, [], ◌∷◌, ◌++◌, length, Some, None, refl, ap, lit<, lit≤, arith}
+use Rattle.std.proofs.Common.{ℕ, ◌+◌, ◌-◌, ◌*◌, ◌≤◌, max, Bool, true, false, ◌||◌, List, [], ◌∷◌, ◌++◌, length, Some, None, refl, ap, lit<, lit≤, arith}
 use Rattle.tree_core.specs.declared.name.Declared.{Declared}
 use Rattle.tree_core.specs.Tree.{Block, Falls, Returns, Body, Stats, EndStats, MoreStats, Stat, Empty, Local, LocalFunction, Assign, CallStat, Do, While, Repeat, If, IfElse, NumFor, NumForStep, GenFor, Label, Goto, Break, Arms, EndArms, MoreArms, Exp, Exps}
 use Rattle.tree_activation.specs.Activation.{line_of_end}
 use Rattle.tree_terms.specs.Bodies.{line_of_body, upvalues_of}
 use Rattle.code_core.specs.declared.opcode.Opcode.TheVariants.{LoadI, LoadNil, Close, Jmp, ForLoop, ForPrep, TForPrep, TForCall, TForLoop, Return, Closure}
 use Rattle.code_core.specs.declared.proto.Const.{Const}
+use Rattle.code_of.specs.declared.leaving.Leaving.{Leaving}
 use Rattle.code_of.specs.Coded.{Coded, with_abc, with_abx, jump_over, jump_back, leaving_by}
 use Rattle.code_of.specs.Expressions.{made_by, made_in, exp_code, exps_code}
 use Rattle.code_of.specs.Conditions.{test_code}
@@ -17,7 +18,7 @@ use Rattle.code_of.specs.Parts.{marks_code, close_code, captures_local, closure_
 use Rattle.code_of.specs.Sizes.{stat_size, arms_size, block_size}
 use Rattle.code_of.specs.Statements.{in_loop, passed_after, labels_ahead, stat_code, arms_code, stats_code, block_code, open_code, whole_code}
 use Rattle.scope_core.specs.Held.{held, held_behind, held_stat, held_tests}
-use Rattle.code_of.specs.Rooms.{room_of, room_of_list}
+use Rattle.code_of.specs.Rooms.{room_of, room_of_list, room_of_last}
 use Rattle.tree_terms.specs.Labels.{Named, names_ahead, names_passed}
 use Rattle.scope_laws.specs.Finding.{three_hidden, four_hidden, ExpFinds, ExpsFind, StatFinds, ArmsFind, StatsFind, BlockFinds}
 use Rattle.scope_laws.specs.Keeping.{StatKeeps, ArmsKeep, StatsKeep, BlockKeeps}
@@ -161,7 +162,7 @@ module _ (cs : List Const) (stack : ℕ) where
       let values = ap (λ n. held_behind (2 * n) es) same in
       assign_room cs hidden ups stack targets es t j line few_ups known_targets known (omega arith) (omega (arith, values)) (omega (arith, same))
 
-  module _ (back ups : ℕ) (few_ups : ups ≤ 255) (vararg : Bool) where
+  module _ (back : Leaving) (ups : ℕ) (few_ups : ups ≤ 255) (vararg : Bool) where
     abbrev StatRoom : Stat → Type 0
     StatRoom s = (hidden : List ℕ) (named : List Named) (loops closing : Bool) (t j pc : ℕ) (reach : Reach) → StatFinds s hidden t ups → t ≤ 200 → t + held_stat s ≤ 250 → level_after s t ≤ 200 → StatKeeps s vararg t named loops → ReachLow reach →
         HasRoom stack (stat_code cs back s closing t j pc reach) (t ≤ stack → StatHasRoom cs stack s t)
@@ -187,10 +188,10 @@ module _ (cs : List Const) (stack : ℕ) where
 
     returned : (hidden : List ℕ) (stats : List Coded) (ss : Stats) (closing : Bool) (es : Exps) (t j line : ℕ) → ExpsFind es hidden (levels_after ss t) ups → levels_after ss t + held_behind 0 es ≤ 250 →
         HasRoom stack stats (t ≤ stack → StatsHaveRoom cs stack ss t) →
-        HasRoom stack (stats ++ return_code cs closing es (levels_after ss t) j line back)
-        (t ≤ stack → StatsHaveRoom cs stack ss t × (levels_after ss t + room_of_list cs 0 es None ≤ stack))
+        HasRoom stack (stats ++ return_code cs closing es (levels_after ss t) j line back.back)
+        (t ≤ stack → StatsHaveRoom cs stack ss t × (levels_after ss t + room_of_last cs es ≤ stack))
     returned hidden stats ss closing es t j line known few h =
-        room_as (room_append stats (return_code cs closing es (levels_after ss t) j line back) h (return_room cs hidden ups stack closing es (levels_after ss t) j line back known few))
+        room_as (room_append stats (return_code cs closing es (levels_after ss t) j line back.back) h (return_room cs hidden ups stack closing es (levels_after ss t) j line back.back known few))
         (λ all within. let mine = all.0 within in let level = levels_room ss t mine in let room = all.1 in (mine, omega (arith, level, room)))
 
     mutual
@@ -270,8 +271,8 @@ module _ (cs : List Const) (stack : ℕ) where
           (omega (arith, one, within), (all.1.0, (all.1.1.0, all.1.1.1 all.1.1.0))))
       stat_room (Label line name) hidden named loops closing t j pc reach known few holds level keeps low = room_as room_end (λ h within. tt)
       stat_room (Goto line name) hidden named loops closing t j pc reach known few holds level keeps low =
-          room_as (room_of_top (leads (label_in name.text reach.labels) pc line) (leads_top (label_in name.text reach.labels) pc line (label_low name.text reach.labels low.labels))) (λ h within. tt)
-      stat_room (Break line) hidden named loops closing t j pc reach known few holds level keeps low = room_as (room_of_top (leads reach.exit pc line) (leads_top reach.exit pc line low.exit)) (λ h within. tt)
+          room_as (room_of_top (leads (back.closes || closing) (label_in name.text reach.labels) pc line) (leads_top (back.closes || closing) (label_in name.text reach.labels) pc line (label_low name.text reach.labels low.labels))) (λ h within. tt)
+      stat_room (Break line) hidden named loops closing t j pc reach known few holds level keeps low = room_as (room_of_top (leads (back.closes || closing) reach.exit pc line) (leads_top (back.closes || closing) reach.exit pc line low.exit)) (λ h within. tt)
 
       arms_room : (arms : Arms) → ArmsRoom arms
       arms_room EndArms hidden named loops otherwise closing t j pc line reach known few holds keeps low h = room_as (room_of_top otherwise h) (λ p. ((λ within. tt), p))
@@ -330,11 +331,11 @@ module _ (cs : List Const) (stack : ℕ) where
     pub whole_room : (b : Block) (params pc : ℕ) → BlockFinds b [] params ups → params ≤ 200 → BlockKeeps b true vararg params [] false → HasRoom stack (whole_code cs back b params pc) (params ≤ stack → BlockHasRoom cs stack b params)
     whole_room (Falls ss tokens line) params pc known few keeps =
         let level = levels_low ss true vararg params [] [] false few keeps in
-        let last = one_return (levels_after ss params) 1 back (omega (arith, level)) (lit< tt) in
+        let last = one_return (levels_after ss params) 1 back.back (omega (arith, level)) (lit< tt) in
         room_as
-        (room_append (stats_code cs back ss true false 0 params 0 pc [] (record { labels = []; exit = None })) (leaving_by Return (levels_after ss params) 1 back line ∷ [])
+        (room_append (stats_code cs back ss true false 0 params 0 pc [] (record { labels = []; exit = None })) (leaving_by Return (levels_after ss params) 1 back.back line ∷ [])
         (stats_room ss [] [] [] false true false 0 params 0 pc [] (record { labels = []; exit = None }) known (lit≤ tt) few keeps tt start_low)
-        (room_of_top (leaving_by Return (levels_after ss params) 1 back line ∷ []) (omega (arith, last, level))))
+        (room_of_top (leaving_by Return (levels_after ss params) 1 back.back line ∷ []) (omega (arith, last, level))))
         (λ all within. all.0 within)
     whole_room (Returns ss es tokens line) params pc known few keeps =
         block_room (Returns ss es tokens line) [] [] false false 0 params 0 pc (record { labels = []; exit = None }) known (lit≤ tt) few keeps start_low

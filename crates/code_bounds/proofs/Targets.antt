@@ -1,11 +1,12 @@
 -- The key of a target, where the store names it and where it is made, and a store that is one instruction: the registers that they take.
-use Rattle.std.proofs.Common.{◌≡◌, ℕ, ◌+◌, ◌<◌, ◌≤◌, List, [], ◌∷◌, Some, ap, subst, lit≤, arith}
+use Rattle.std.proofs.Common.{◌≡◌, ℕ, ◌+◌, ◌<◌, ◌≤◌, ◌^◌, Bool, List, [], ◌∷◌, Some, ap, subst, lit≤, arith}
 use Rattle.tree_core.specs.declared.name.Place.{Place}
 use Rattle.tree_core.specs.declared.name.Place.TheVariants.{Unset, Upvalue, GlobalIn, GlobalOf, Local as LocalPlace}
 use Rattle.tree_core.specs.Tree.{Exp}
 use Rattle.code_core.specs.declared.opcode.Opcode.TheVariants.{SetTabUp, SetField}
 use Rattle.code_core.specs.declared.proto.Const.{Const}
-use Rattle.code_of.specs.Coded.{Coded, with_abc}
+use Rattle.code_core.specs.Instruction.{abc}
+use Rattle.code_of.specs.Coded.{Coded}
 use Rattle.code_of.specs.Expressions.{exp_code}
 use Rattle.code_of.specs.Rooms.{room_of}
 use Rattle.code_of.specs.Stores.{FieldKey, a_name, an_index, a_register, evaluated, key_code, field_store}
@@ -13,7 +14,7 @@ use Rattle.code_of.specs.Targets.{global_store}
 use Rattle.code_of.proofs.Targets.{Waits, some_store}
 use Rattle.scope_core.specs.Held.{held}
 use Rattle.scope_laws.specs.Finding.{PlaceIsThere, ExpFinds}
-use Rattle.code_bounds.proofs.Tops.{top, one_store, one_store_index, one_store_name, one_store_global}
+use Rattle.code_bounds.proofs.Tops.{top, one_store, one_store_index, one_store_name, third_room, any_store_name, any_store_global}
 use Rattle.code_bounds.proofs.Room.{HasRoom, room_as}
 use Rattle.code_bounds.proofs.Simple.{exp_room}
 
@@ -40,15 +41,15 @@ module _ (cs : List Const) where
     waiting_room stack (an_index n) key size r j waits known above few fits = let one = ap (λ q. room_of cs q 2) waits.is in record { below = omega arith; gives = λ h room. omega (arith, one, room) }
     waiting_room stack (a_register q) key size r j waits known above few fits = absurd waits
 
-    -- a local that goes to a global name
-    pub local_top : (place : Place) (number v line size : ℕ) (x : Coded) → global_store place number v line ≡ Some x → PlaceIsThere hidden size ups place → number < 256 → v < size → size ≤ 250 → ups ≤ 255 → top (x ∷ []) ≤ 250
-    local_top Unset number v line size x h known short below small few = absurd known
-    local_top (LocalPlace n) number v line size x h known short below small few = absurd (cc)
-    local_top (Upvalue u) number v line size x h known short below small few = absurd (cc)
-    local_top (GlobalIn n) number v line size x h known short below small few =
+    -- a local or a constant that goes to a global name
+    pub local_top : (place : Place) (number : ℕ) (constant : Bool) (v line size : ℕ) (x : Coded) → global_store place number constant v line ≡ Some x → PlaceIsThere hidden size ups place → number < 256 → v < 2 ^ 8 → third_room constant v ≤ size → size ≤ 250 → ups ≤ 255 → top (x ∷ []) ≤ 250
+    local_top Unset number constant v line size x h known short fits below small few = absurd known
+    local_top (LocalPlace n) number constant v line size x h known short fits below small few = absurd (cc)
+    local_top (Upvalue u) number constant v line size x h known short fits below small few = absurd (cc)
+    local_top (GlobalIn n) number constant v line size x h known short fits below small few =
         let low = known.0 in
-        let e = one_store_name n number v (omega (arith, low)) (omega (arith, short)) (omega (arith, below)) in
-        subst (λ z. top (z ∷ []) ≤ 250) (some_store (with_abc SetField n number v line) x h) (omega (arith, e, low, below, small))
-    local_top (GlobalOf u) number v line size x h known short below small few =
-        let e = one_store_global u number v (omega (arith, known, few)) (omega (arith, short)) (omega (arith, below)) in
-        subst (λ z. top (z ∷ []) ≤ 250) (some_store (with_abc SetTabUp u number v line) x h) (omega (arith, e, below, small))
+        let e = any_store_name constant n number v (omega (arith, low, small)) (omega (arith, short)) fits in
+        subst (λ z. top (z ∷ []) ≤ 250) (some_store (abc SetField n number v constant, line) x h) (omega (arith, e, low, below, small))
+    local_top (GlobalOf u) number constant v line size x h known short fits below small few =
+        let e = any_store_global constant u number v (omega (arith, known, few)) (omega (arith, short)) fits in
+        subst (λ z. top (z ∷ []) ≤ 250) (some_store (abc SetTabUp u number v constant, line) x h) (omega (arith, e, below, small))

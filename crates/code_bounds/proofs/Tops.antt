@@ -181,6 +181,34 @@ flag_set op a b c a_fits = let small = number_below op in omega arith
 no_third : (op : Opcode) (a b c : ℕ) → a < 2 ^ 8 → register_or_constant (abc op a b c true) ≡ []
 no_third op a b c a_fits = ap (λ n. if n == 1 then [] else c_of (abc op a b c true) ∷ []) (flag_set op a b c a_fits)
 
+-- stores, of which field C may be a constant
+
+abbrev pub third_room : (constant : Bool) → (c : ℕ) → ℕ
+third_room true c = 0
+third_room false c = c + 1
+
+one_first : (op : Opcode) (a b c : ℕ) → registers op (abc op a b c true) ≡ a_of (abc op a b c true) ∷ register_or_constant (abc op a b c true) → a < 2 ^ 8 → one (abc op a b c true) ≡ a + 1
+one_first op a b c shape a_fits = one_a op a b c true (shape ∙ ap (λ l. a_of (abc op a b c true) ∷ l) (no_third op a b c a_fits)) a_fits
+
+pub any_store_global : (constant : Bool) (u b c : ℕ) → u < 2 ^ 8 → b < 2 ^ 8 → c < 2 ^ 8 → one (abc SetTabUp u b c constant) ≡ third_room constant c
+any_store_global false u b c u_fits b_fits c_fits = one_store_global u b c u_fits b_fits c_fits
+any_store_global true u b c u_fits b_fits c_fits = abc_is SetTabUp u b c true [] (no_third SetTabUp u b c u_fits)
+
+pub any_store_index : (constant : Bool) (a b c : ℕ) → a < 2 ^ 8 → b < 2 ^ 8 → c < 2 ^ 8 → one (abc SetI a b c constant) ≡ max (a + 1) (third_room constant c)
+any_store_index false a b c a_fits b_fits c_fits = one_store_index a b c a_fits b_fits c_fits
+any_store_index true a b c a_fits b_fits c_fits = let e = one_first SetI a b c refl a_fits in omega (arith, e)
+
+pub any_store_name : (constant : Bool) (a b c : ℕ) → a < 2 ^ 8 → b < 2 ^ 8 → c < 2 ^ 8 → one (abc SetField a b c constant) ≡ max (a + 1) (third_room constant c)
+any_store_name false a b c a_fits b_fits c_fits = one_store_name a b c a_fits b_fits c_fits
+any_store_name true a b c a_fits b_fits c_fits = let e = one_first SetField a b c refl a_fits in omega (arith, e)
+
+pub any_store : (constant : Bool) (a b c : ℕ) → a < 2 ^ 8 → b < 2 ^ 8 → c < 2 ^ 8 → one (abc SetTable a b c constant) ≡ max (max (a + 1) (b + 1)) (third_room constant c)
+any_store false a b c a_fits b_fits c_fits = one_store a b c a_fits b_fits c_fits
+any_store true a b c a_fits b_fits c_fits =
+    let w = abc SetTable a b c true in
+    let e = one_ab SetTable a b c true (ap (λ l. a_of w ∷ b_of w ∷ l) (no_third SetTable a b c a_fits)) a_fits b_fits in
+    omega (arith, e)
+
 pub one_self_key : (t x n : ℕ) → t < 2 ^ 8 → x < 2 ^ 8 → one (abc OpSelf t x n true) ≡ max (t + 2) (x + 1)
 one_self_key t x n small x_fits =
     let w = abc OpSelf t x n true in
@@ -259,13 +287,20 @@ one_tail t b back t_fits b_fits = one_row TailCall t b back (nat_lt 0 t) refl t_
 pub one_join : (t : ℕ) → t < 2 ^ 8 → one (abc Concat t 2 0 false) ≡ t + 2
 one_join t t_fits = let e = one_row Concat t 2 0 false refl t_fits (lit< tt) in omega (arith, e)
 
-pub one_return : (t b c : ℕ) → t < 2 ^ 8 → b < 2 ^ 8 → one (abc Return t b c (nat_lt 0 t)) ≤ t + (b - 1)
-one_return t b c t_fits b_fits =
-    let w = abc Return t b c (nat_lt 0 t) in
-    by (a_of w) (b_of w) (abc_is Return t b c (nat_lt 0 t) (last_of (a_of w) (b_of w - 1)) refl) (last_below (a_of w) (b_of w - 1)) (a_of-abc Return t b c (nat_lt 0 t) t_fits) (b_of-abc Return t b c (nat_lt 0 t) t_fits b_fits)
+-- of any number of registers
+pub one_chain : (t b : ℕ) → t < 2 ^ 8 → b < 2 ^ 8 → one (abc Concat t b 0 false) ≡ max (t + 1) (t + b)
+one_chain t b t_fits b_fits = one_row Concat t b 0 false refl t_fits b_fits
+
+pub any_return : (flag : Bool) (t b c : ℕ) → t < 2 ^ 8 → b < 2 ^ 8 → one (abc Return t b c flag) ≤ t + (b - 1)
+any_return flag t b c t_fits b_fits =
+    let w = abc Return t b c flag in
+    by (a_of w) (b_of w) (abc_is Return t b c flag (last_of (a_of w) (b_of w - 1)) refl) (last_below (a_of w) (b_of w - 1)) (a_of-abc Return t b c flag t_fits) (b_of-abc Return t b c flag t_fits b_fits)
   where
-    by : (x y : ℕ) → one (abc Return t b c (nat_lt 0 t)) ≡ room_for (last_of x (y - 1)) 0 → room_for (last_of x (y - 1)) 0 ≤ x + (y - 1) → x ≡ t → y ≡ b → one (abc Return t b c (nat_lt 0 t)) ≤ t + (b - 1)
+    by : (x y : ℕ) → one (abc Return t b c flag) ≡ room_for (last_of x (y - 1)) 0 → room_for (last_of x (y - 1)) 0 ≤ x + (y - 1) → x ≡ t → y ≡ b → one (abc Return t b c flag) ≤ t + (b - 1)
     by x y e below f g = omega arith
+
+pub one_return : (t b c : ℕ) → t < 2 ^ 8 → b < 2 ^ 8 → one (abc Return t b c (nat_lt 0 t)) ≤ t + (b - 1)
+one_return t b c t_fits b_fits = any_return (nat_lt 0 t) t b c t_fits b_fits
 
 pub one_iterate : (t n : ℕ) → t < 2 ^ 8 → n < 2 ^ 8 → one (abc TForCall t 0 n false) ≡ max (t + 7) (t + 4 + n)
 one_iterate t n t_fits n_fits =

@@ -10,10 +10,10 @@ use Rattle.code_of.specs.Expressions.{count}
 use Rattle.tree_terms.specs.Levels.{level_after, levels_after, levels_in}
 use Rattle.code_of.specs.CodeOf.{named_by, code_of}
 use Rattle.code_of.specs.Coded.{Coded}
-use Rattle.code_of.specs.Operands.{assigned}
+use Rattle.code_of.specs.Operands.{assigned, second_assigned}
 use Rattle.code_of.specs.Stores.{stores_field}
 use Rattle.code_of.specs.Targets.{single_store}
-use Rattle.code_of.specs.Rooms.{room_of, room_of_target, room_of_assigned, room_of_first, room_of_test, room_of_list}
+use Rattle.code_of.specs.Rooms.{room_of, room_of_target, room_of_assigned, room_of_first, room_of_last, room_of_test, room_of_list, room_of_two}
 use Rattle.scope_laws.specs.Finding.{BodyFinds}
 use Rattle.scope_laws.specs.Keeping.{BodyKeeps}
 
@@ -39,8 +39,13 @@ module _ (constants : List Const) (stack : ℕ) where
   StoreHasRoom true targets es t = t + room_of_first constants targets es ≤ stack
   StoreHasRoom false targets es t = KeptHasRoom (single_store constants targets es) targets es t
 
+  -- the second one of two values goes straight to the register of a local, or not
+  abbrev pub TwoHasRoom : Option ℕ → (targets es : Exps) → (t : ℕ) → Type 0
+  TwoHasRoom None targets es t = StoreHasRoom (stores_field targets es) targets es t
+  TwoHasRoom (Some r) targets es t = TargetsHaveRoom targets t × (t + room_of_two constants targets es ≤ stack)
+
   abbrev pub AssignHasRoom : Option ℕ → (targets es : Exps) → (t : ℕ) → Type 0
-  AssignHasRoom None targets es t = StoreHasRoom (stores_field targets es) targets es t
+  AssignHasRoom None targets es t = TwoHasRoom (second_assigned targets es) targets es t
   AssignHasRoom (Some r) targets es t = t + room_of_assigned constants es ≤ stack
 
   abbrev mutual
@@ -79,7 +84,7 @@ module _ (constants : List Const) (stack : ℕ) where
 
     pub BlockHasRoom : Block → (t : ℕ) → Type 0
     BlockHasRoom (Falls ss tokens line) t = StatsHaveRoom ss t
-    BlockHasRoom (Returns ss es tokens line) t = StatsHaveRoom ss t × (levels_after ss t + room_of_list constants 0 es None ≤ stack)
+    BlockHasRoom (Returns ss es tokens line) t = StatsHaveRoom ss t × (levels_after ss t + room_of_last constants es ≤ stack)
 
 abbrev pub BodyHasRoom : Prototype → Body → Type 0
 BodyHasRoom p (BodyOf params vararg inner ups line) = BlockHasRoom p.own.constants p.own.stack inner (length params)

@@ -2,6 +2,7 @@
 use Rattle.std.specs.Prelude.{ℕ, ◌+◌, ◌*◌, ◌≤◌, Bool, List, length}
 use Rattle.tree_core.specs.Tree.{Block, Body, Stat, Exp}
 use Rattle.code_core.specs.declared.proto.Const.{Const}
+use Rattle.code_of.specs.declared.leaving.Leaving.{Leaving}
 use Rattle.code_of.specs.Constants.{of_block}
 use Rattle.code_of.specs.Expressions.{exp_code}
 use Rattle.code_of.specs.Levels.{made_in_block}
@@ -13,8 +14,8 @@ use Rattle.tree_terms.specs.Weight.{weight, weight_of_stat, weight_of_block, wei
 -- a block may end by a CLOSE that no token stands for
 pub record CodeIsShort : Type 0 where
   pub of_exp : (constants : List Const) (e : Exp) (t j c : ℕ) → length (exp_code constants e t j c) ≤ 6 * weight e
-  pub of_stat : (constants : List Const) (back : ℕ) (s : Stat) (closing : Bool) (t j : ℕ) → stat_size constants back s closing t j ≤ 6 * weight_of_stat s
-  pub of_block : (constants : List Const) (back : ℕ) (block : Block) (closing : Bool) (outer t j : ℕ) →
+  pub of_stat : (constants : List Const) (back : Leaving) (s : Stat) (closing : Bool) (t j : ℕ) → stat_size constants back s closing t j ≤ 6 * weight_of_stat s
+  pub of_block : (constants : List Const) (back : Leaving) (block : Block) (closing : Bool) (outer t j : ℕ) →
       block_size constants back block closing outer t j ≤ 6 * weight_of_block block + 1
   pub of_body : (body : Body) → length (body_code body) ≤ 6 * weight_of_body body
 

@@ -9,12 +9,39 @@ use std::test::Fail;
 use tree_core::{Block, Body, Exp};
 
 // Sources that return an expression, the register for its value, and the words of its code.
-static WORDS: [(&[u8], u8, &[u32]); 26] = [
+static WORDS: [(&[u8], u8, &[u32]); 34] = [
     (b"return nil", 3, &[0x188]),
     (b"return 5", 0, &[0x8002_0001]),
     (b"return 65537", 1, &[0x83]),
     (b"return 1 + 2", 0, &[0x8000_0001, 0x8100_0015, 0x0681_002f]),
+    // bits are moved up by SHRI with the opposite, but not by 0
+    (
+        b"return 1 << 3",
+        0,
+        &[0x8000_0001, 0x7c00_0020, 0x1082_002f],
+    ),
+    (
+        b"return 1 << 0",
+        0,
+        &[0x8000_0001, 0x7fff_8081, 0x0100_002c, 0x1001_002e],
+    ),
     (b"return 'a' .. 'b'", 0, &[0x03, 0x8083, 0x0002_0035]),
+    // a chain on one line is joined by one instruction; in brackets, or on another line, a `..` has its own
+    (
+        b"return 'a' .. 'b' .. 'c'",
+        0,
+        &[0x03, 0x8083, 0x0001_0103, 0x0003_0035],
+    ),
+    (
+        b"return 'a' .. ('b' .. 'c')",
+        0,
+        &[0x03, 0x8083, 0x0001_0103, 0x0002_00b5, 0x0002_0035],
+    ),
+    (
+        b"return 'a' .. \n 'b' .. 'c'",
+        0,
+        &[0x03, 0x8083, 0x0001_0103, 0x0002_00b5, 0x0002_0035],
+    ),
     (b"return not true", 0, &[0x07, 0x33]),
     (b"return _ENV", 0, &[0x09]),
     (b"return function() end", 2, &[0x014f]),
@@ -27,7 +54,31 @@ static WORDS: [(&[u8], u8, &[u32]); 26] = [
     (
         b"local x, y return x and y",
         2,
-        &[0x0100, 0x0142, 0x8000_0038, 0x0001_0100],
+        &[0x0143, 0x8000_0038, 0x0001_0100],
+    ),
+    // a value that decides is kept by the test, and one that is not wanted is only tested
+    (
+        b"local x, y return x or (x < y)",
+        2,
+        &[
+            0x8143,
+            0x8000_01b8,
+            0x0001_803a,
+            0x8000_0038,
+            0x0106,
+            0x0107,
+        ],
+    ),
+    (
+        b"local x, y return x < y and x or y",
+        2,
+        &[0x0001_003a, 0x8000_00b8, 0x8143, 0x8000_0038, 0x0001_0100],
+    ),
+    // a truth is loaded only where it decides
+    (
+        b"local x, y return x < y and x",
+        2,
+        &[0x0001_803a, 0x8000_00b8, 0x0105, 0x8000_0038, 0x0100],
     ),
     (
         b"local x return true or x",
@@ -81,18 +132,18 @@ static WORDS: [(&[u8], u8, &[u32]); 26] = [
         &[0x8114, 0x0001_0200, 0x0203_0144, 0x0002_0134],
     ),
     (b"return {...}", 0, &[0x13, 0x52, 0xd0, 0x4e]),
-    // a string and a numeral are keys in the instruction, and locals stay in their registers
+    // a string and a numeral are keys in the instruction, a constant is its value, and locals stay in their registers
     (
         b"local x return {a = x, [x] = x, [2] = 1}",
         1,
-        &[0x93, 0x52, 0x92, 0x90, 0x8000_0181, 0x0302_0091],
+        &[0x93, 0x52, 0x92, 0x90, 0x0102_8091],
     ),
 ];
 
 // The expressions behind the `return` of a source.
 fn returned(alloc: Global, source: &[u8]) -> Result<Vec<Exp>, Fail> {
     let list = tokens(alloc, source)?;
-    let Ok(block) = parse(alloc, &list) else {
+    let Ok(block) = parse(alloc, list) else {
         return Err(Fail::from("no tree"));
     };
     let Ok(Resolved { main }) = resolve(alloc, block) else {

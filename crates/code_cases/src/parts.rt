@@ -23,7 +23,7 @@ static CONSTANTS: [(&[u8], &[u8]); 9] = [
     ),
     (
         b"while f() do local t = {70000, k = 2} end repeat g() until 'k'",
-        b"f 70000 k g ",
+        b"f 70000 k 2 g ",
     ),
     (
         b"if a then b() elseif c then d() else e() end",
@@ -55,7 +55,7 @@ static ROOMS: [(&[u32], u8, u8); 7] = [
 
 fn main_of(alloc: Global, source: &[u8]) -> Result<Body, Fail> {
     let list = tokens(alloc, source)?;
-    let Ok(block) = parse(alloc, &list) else {
+    let Ok(block) = parse(alloc, list) else {
         return Err(Fail::from("no tree"));
     };
     let Ok(Resolved { main }) = resolve(alloc, block) else {

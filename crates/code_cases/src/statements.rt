@@ -9,7 +9,7 @@ use std::alloc::{AllocError, Global};
 use std::test::Fail;
 
 // Sources without constants, and the words of their code.
-static WORDS: [(&[u8], &[u32]); 18] = [
+static WORDS: [(&[u8], &[u32]); 19] = [
     (
         b"local t, i = {}, 1 t[1] = i t[i] = i",
         &[
@@ -40,9 +40,21 @@ static WORDS: [(&[u8], &[u32]); 18] = [
             0x0101_8146,
         ],
     ),
+    // the second one of two values goes straight to its local, before the first one is stored
+    (
+        b"local a, b a, b = b, a",
+        &[
+            0x51,
+            0x0001_0008,
+            0x0001_0200,
+            0x80,
+            0x0004_0000,
+            0x0101_8146,
+        ],
+    ),
     (
         b"while true do break end",
-        &[0x51, 0x36, 0x8000_0038, 0x7fff_fe38, 0x0101_0046],
+        &[0x51, 0x8000_0038, 0x7fff_feb8, 0x0101_0046],
     ),
     (
         b"for i = 1, 2 do end",
@@ -71,7 +83,7 @@ static WORDS: [(&[u8], &[u32]); 18] = [
             0x0101_0046,
         ],
     ),
-    (b"goto a ::a::", &[0x51, 0x36, 0x7fff_ffb8, 0x0101_0046]),
+    (b"goto a ::a::", &[0x51, 0x7fff_ffb8, 0x0101_0046]),
     (
         b"repeat local x until x",
         &[0x51, 0x08, 0x8042, 0x8000_0038, 0x7fff_fdb8, 0x0101_0046],
@@ -207,7 +219,7 @@ fn words(emitter: &Emitter, alloc: Global) -> Result<Vec<u32>, AllocError> {
 
 fn source_code(alloc: Global, source: &[u8]) -> Result<Written, Fail> {
     let list = tokens(alloc, source)?;
-    let Ok(block) = parse(alloc, &list) else {
+    let Ok(block) = parse(alloc, list) else {
         return Err(Fail::from("no tree"));
     };
     let Ok(Resolved { main }) = resolve(alloc, block) else {

@@ -42,12 +42,11 @@ static WHOLE: [(&[u8], &[usize]); 3] = [
             0x0103_80c6,
             1,
             0,
-            2,
+            1,
             0,
             0,
             0,
-            0x80,
-            0x0002_80c6,
+            0x0002_8046,
             0,
             0,
             0,
@@ -87,7 +86,7 @@ static WHOLE: [(&[u8], &[usize]); 3] = [
 /// The code of a source that is named `s`, with its lines or without.
 fn compiled(alloc: Global, source: &[u8], lines: bool) -> Result<Checked, Fail> {
     let list = tokens(alloc, source)?;
-    let Ok(block) = parse(alloc, &list) else {
+    let Ok(block) = parse(alloc, list) else {
         return Err(Fail::from("no tree"));
     };
     let Ok(tree) = resolve(alloc, block) else {

@@ -15,9 +15,10 @@ use Rattle.code_core.specs.Check.{opcode_rules, rules_by, rules, AllHold}
 use Rattle.code_of.specs.Coded.{Coded, words}
 use Rattle.code_of.specs.Constants.{of_exps, of_stats, of_block}
 use Rattle.code_of.specs.Jumps.{Reach}
+use Rattle.code_of.specs.Levels.{made_in_block}
 use Rattle.tree_terms.specs.Levels.{levels_after}
 use Rattle.code_of.specs.Statements.{whole_code}
-use Rattle.code_of.specs.CodeOf.{back_field, opening, body_code, named_by, room_for, room, from_block, from_exps, code_of}
+use Rattle.code_of.specs.CodeOf.{back_field, leaving_of, opening, body_code, named_by, room_for, room, from_block, from_exps, code_of}
 use Rattle.code_checked.specs.Near.{IsRegister, BlockIsNear, FunctionIsNear}
 use Rattle.code_checked.proofs.Pieces.{Seam, closed, returned, Ends, Land, Has, Kept, AllKept, Piece, both}
 use Rattle.code_checked.proofs.Found.{Grows, grows_then}
@@ -169,7 +170,7 @@ module _ (source : Option (List ℕ)) (params : List Name) (vararg : Bool) (inne
     begin = opening vararg (length params) line
 
     abbrev code : List Coded
-    code = whole_code (of_block inner []) (back_field vararg (length params)) inner (length params) (length begin)
+    code = whole_code (of_block inner []) (leaving_of vararg (length params) inner) inner (length params) (length begin)
 
     nowhere : Reach
     nowhere = record { labels = []; exit = None }
@@ -179,14 +180,14 @@ module _ (source : Option (List ℕ)) (params : List Name) (vararg : Bool) (inne
 
     -- the code behind VARARGPREP
     pub whole_piece : (block : Block) (pc : ℕ) → BlockIsNear source function block false (length params) 0 → Grows (of_block block []) (of_block inner []) → Functions function 0 (from_block source block none)
-        → Piece function (Land function 0) closed returned pc (whole_code (of_block inner []) (back_field vararg (length params)) block (length params) pc)
+        → Piece function (Land function 0) closed returned pc (whole_code (of_block inner []) (leaving_of vararg (length params) inner) block (length params) pc)
     whole_piece (Falls ss tokens end) pc h g fs =
         let r = near.params in
-        let seq = stats_law function W source ss (Land function 0) true false 0 (length params) 0 pc [] (record { labels = []; exit = None }) [] none reaches (λ x. tt) h r (omega arith) g fs in
-        let levels = levels_register function W source ss false (length params) 0 h r in
+        let seq = stats_law function W source (nat_lt 0 (made_in_block inner)) ss (Land function 0) true false 0 (length params) 0 pc [] (record { labels = []; exit = None }) [] none reaches (λ x. tt) h r (omega arith) g fs in
+        let levels = levels_register function W source (nat_lt 0 (made_in_block inner)) ss false (length params) 0 h r in
         both function seq.piece (return_piece function closed (levels_after ss (length params)) 1 (back_field vararg (length params)) end (omega (arith, levels)) (lit< tt) W.returns (lit< tt))
     whole_piece (Returns ss es tokens end) pc h g fs =
         let r = near.params in
-        let seq = stats_law function W source ss (Land function 0) false false 0 (length params) 0 pc [] (record { labels = []; exit = None }) [] (from_exps source es none) reaches (λ x. tt) h.0 r (omega arith)
+        let seq = stats_law function W source (nat_lt 0 (made_in_block inner)) ss (Land function 0) false false 0 (length params) 0 pc [] (record { labels = []; exit = None }) [] (from_exps source es none) reaches (λ x. tt) h.0 r (omega arith)
         (grows_then (of_stats ss []) (of_exps es (of_stats ss [])) (of_block inner []) (grows_exps es (of_stats ss [])) g) fs in
-        both function seq.piece (result_piece function W source (Land function 0) ss es false (length params) 0 _ end [] none h.1 g fs)
+        both function seq.piece (result_piece function W source (nat_lt 0 (made_in_block inner)) (Land function 0) ss es false (length params) 0 _ end [] none h.1 g fs)

@@ -91,24 +91,27 @@ module _ (p : Prototype) where
     still = λ pc. refl;
   })
 
-  pub return_piece : {H : Type 0} {pc : ℕ} (f : Seam) (t b back line : ℕ) → t < 2 ^ 8 → b < 2 ^ 8 → back < 2 ^ 8 → TakesField f t b → Piece p H f returned pc (leaving_by Return t b back line ∷ [])
-  return_piece {H} {pc} f t b back line tf bf cf takes = one p f returned (abc Return t b back (nat_lt 0 t)) line (record {
+  pub any_return_piece : {H : Type 0} {pc : ℕ} (f : Seam) (flag : Bool) (t b back line : ℕ) → t < 2 ^ 8 → b < 2 ^ 8 → back < 2 ^ 8 → TakesField f t b → Piece p H f returned pc ((abc Return t b back flag, line) ∷ [])
+  any_return_piece {H} {pc} f flag t b back line tf bf cf takes = one p f returned (abc Return t b back flag) line (record {
     single = record {
       opcode = Return;
-      is = opcode_of-abc Return t b back (nat_lt 0 t);
+      is = opcode_of-abc Return t b back flag;
       whole = refl;
-      fits = abc_fits Return t b back (nat_lt 0 t) tf bf cf;
+      fits = abc_fits Return t b back flag tf bf cf;
       alone = refl;
       constant = λ extra. refl;
       upvalue = refl;
       inner = λ pc here. refl;
       half = refl;
       gives = (refl, refl);
-      takes = takes_by f Return t b back (nat_lt 0 t) tf bf refl takes;
+      takes = takes_by f Return t b back flag tf bf refl takes;
       varargs = λ pc h. h;
     };
     still = λ pc. refl;
   })
+
+  pub return_piece : {H : Type 0} {pc : ℕ} (f : Seam) (t b back line : ℕ) → t < 2 ^ 8 → b < 2 ^ 8 → back < 2 ^ 8 → TakesField f t b → Piece p H f returned pc (leaving_by Return t b back line ∷ [])
+  return_piece {H} {pc} f t b back line tf bf cf takes = any_return_piece f (nat_lt 0 t) t b back line tf bf cf takes
 
   pub tail_piece : {H : Type 0} {pc : ℕ} (f : Seam) (t b back line : ℕ) → t < 2 ^ 8 → b < 2 ^ 8 → back < 2 ^ 8 → TakesField f t b → Piece p H f (listed t) pc (leaving_by TailCall t b back line ∷ [])
   tail_piece {H} {pc} f t b back line tf bf cf takes = one p f (listed t) (abc TailCall t b back (nat_lt 0 t)) line (record {

@@ -1,5 +1,5 @@
 -- The lines of a tree's code fit, where those of the tree do.
-use Rattle.std.proofs.Common.{◌≡◌, ℕ, zero, suc, ◌+◌, ◌*◌, Bool, true, false, cond, ◌&&◌, List, [], ◌∷◌, ◌++◌, length, Option, Some, None, refl, ap₂, subst}
+use Rattle.std.proofs.Common.{◌≡◌, ℕ, zero, suc, ◌+◌, ◌*◌, Bool, true, false, cond, ◌&&◌, ◌||◌, List, [], ◌∷◌, ◌++◌, length, take, Option, Some, None, refl, ap₂, subst}
 use Rattle.std.specs.Prelude.{ℤ, not, nat_lt, nat_le, nat_eq, ◌-◌}
 use Rattle.std.specs.List.{list_all}
 use Rattle.tree_core.specs.declared.name.Declared.{Declared}
@@ -14,26 +14,31 @@ use Rattle.tree_activation.specs.Statements.{is_closed}
 use Rattle.code_core.specs.declared.proto.Const.{Const}
 use Rattle.code_core.specs.declared.proto.Const.TheVariants.{Int as IntConst, Str as StrConst}
 use Rattle.code_core.specs.Writable.{number_fits}
+use Rattle.code_of.specs.declared.leaving.Leaving.{Leaving}
+use Rattle.code_core.specs.Instruction.{abc}
 use Rattle.code_of.specs.Coded.{Coded, lines, with_abc, jump_over, jump_back}
 use Rattle.code_of.specs.Constants.{is_small, number_in, loads, loads_integer, of_block}
 use Rattle.code_of.specs.FieldReads.{read_code}
-use Rattle.code_of.specs.Stores.{FieldKey, a_name, an_index, a_register, evaluated, name_in, is_quiet, field_key, object_of, key_code, field_store, keyed_store, stores_field}
+use Rattle.code_of.specs.Stores.{FieldKey, a_name, an_index, a_register, evaluated, name_in, is_quiet, field_key, object_of, key_code, StoredValue, constant_value, local_value, made_value, value_code, is_constant, value_seat, field_store_by, keyed_store, stores_field}
+use Rattle.code_of.specs.StoredValues.{stored_value}
 use Rattle.code_of.specs.Targets.{waiting_key, text_key, global_store, single_store}
 use Rattle.code_of.proofs.Targets.{single_store_is, some_store}
-use Rattle.code_of.specs.Operands.{local_of, seat, unless, Second, a_number, a_local, made, second_of, key_operand, first_of, assigned, second_code, operands_code}
+use Rattle.code_of.specs.Operands.{local_of, lone_local, joins, seat, unless, Second, a_number, a_local, made, second_of, key_operand, first_of, assigned, second_code, operands_code, second_assigned}
 use Rattle.code_of.specs.Operators.{name_into, self_code, operator_code, number_opcode, number_code, name_code}
-use Rattle.code_of.specs.Expressions.{made_by, made_in, count, Wanted, is_last_item, field_of, wanted_after, nils_code, set_list, exp_code, exps_code, fields_code}
-use Rattle.code_of.specs.Conditions.{jump_if, pick, line_of, is_not, compared, value_test, test_code}
+use Rattle.code_of.specs.Expressions.{made_by, made_in, count, Wanted, is_last_item, field_of, wanted_after, nils_code, set_list, exp_code, exps_code, fields_code, kept_value}
+use Rattle.code_of.specs.Truths.{jump_if, pick, line_of, is_not, compared, is_compared, set_if}
+use Rattle.code_of.specs.Conditions.{value_test, test_code, keep_code}
 use Rattle.code_core.specs.declared.opcode.Opcode.{Opcode}
 use Rattle.code_core.specs.declared.opcode.Opcode.TheVariants.{GetTable, GetI, SetTabUp, SetField, Eq, Lt, Le, EqK}
 use Rattle.code_of.specs.Operations.{constant_in, constant_code, operation_by}
+use Rattle.code_of.specs.Chains.{continues, unjoined, chain_code}
 use Rattle.code_of.specs.Jumps.{Landing, Visible, Reach, label_in, leads}
 use Rattle.code_of.specs.Levels.{made_by_stat, made_in_arms, made_in_stats, made_in_block, closing_after, closings_after, closed_below, closed_until}
 use Rattle.tree_terms.specs.Levels.{level_after, levels_after, levels_in}
-use Rattle.code_of.specs.Parts.{marks_code, close_code, captures_local, closure_code, past, past_size, name_target, target_code, targets_code, name_store, store_code, stores_code, direct_code, first_direct, field_code, first_field, stored_code, store_by, assign_by, assign_code, values_last, return_code, bounds_code, steps_code, kept_code}
+use Rattle.code_of.specs.Parts.{marks_code, close_code, captures_local, closure_code, past, past_size, name_target, target_code, targets_code, name_store, store_code, stores_code, direct_code, first_direct, field_code, first_field, stored_code, store_by, assign_by, assign_code, returned_by, values_last, return_code, bounds_code, steps_code, kept_code, first_two, two_by}
 use Rattle.code_of.specs.Sizes.{stat_size, arms_size, block_size}
 use Rattle.code_of.specs.Statements.{in_loop, passed_after, labels_ahead, stat_code, arms_code, stats_code, block_code, open_code, whole_code}
-use Rattle.code_of.specs.CodeOf.{back_field, first_line, body_code}
+use Rattle.code_of.specs.CodeOf.{leaving_of, first_line, body_code}
 use Rattle.code_checked.specs.Written.{LineFits, DeclaredFit, ExpIsWritten, ExpsAreWritten, FieldsAreWritten, StatIsWritten, ArmsAreWritten, StatsAreWritten, BlockIsWritten, BodyIsWritten}
 
 abbrev pub LinesFit : List Coded → Type 0
@@ -95,6 +100,7 @@ operator_lines Ge x y t line h = (h, (h, (h, (h, tt))))
 number_lines : (op : BinOp) (x n t line : ℕ) → LineFits line → LinesFit (number_code op x n t line)
 number_lines Plus x n t line h = (h, (h, tt))
 number_lines Minus x n t line h = (h, (h, tt))
+number_lines ShiftLeft x n t line h = (h, (h, tt))
 number_lines ShiftRight x n t line h = (h, (h, tt))
 number_lines Equal x n t line h = (h, (h, (h, (h, tt))))
 number_lines Ne x n t line h = (h, (h, (h, (h, tt))))
@@ -108,7 +114,6 @@ number_lines Idiv x n t line h = tt
 number_lines Band x n t line h = tt
 number_lines Bor x n t line h = tt
 number_lines Bxor x n t line h = tt
-number_lines ShiftLeft x n t line h = tt
 number_lines Join x n t line h = tt
 
 unless_lines : (at : Option ℕ) (xs ys : List Coded) → LinesFit xs → LinesFit ys → LinesFit (unless at xs ++ ys)
@@ -121,11 +126,16 @@ key_lines (a_name number) code rest h k = k
 key_lines (an_index n) code rest h k = k
 key_lines (a_register r) code rest h k = k
 
-last_lines : (s : FieldKey) (x t v line : ℕ) → LineFits line → LinesFit (field_store s x t v line ∷ [])
-last_lines evaluated x t v line h = (h, tt)
-last_lines (a_name number) x t v line h = (h, tt)
-last_lines (an_index n) x t v line h = (h, tt)
-last_lines (a_register r) x t v line h = (h, tt)
+value_lines : (value : StoredValue) (code rest : List Coded) → LinesFit code → LinesFit rest → LinesFit (value_code value code ++ rest)
+value_lines made_value code rest h k = lines_both code rest h k
+value_lines (constant_value number) code rest h k = k
+value_lines (local_value r) code rest h k = k
+
+last_lines : (s : FieldKey) (flag : Bool) (x t v line : ℕ) → LineFits line → LinesFit (field_store_by s flag x t v line ∷ [])
+last_lines evaluated flag x t v line h = (h, tt)
+last_lines (a_name number) flag x t v line h = (h, tt)
+last_lines (an_index n) flag x t v line h = (h, tt)
+last_lines (a_register r) flag x t v line h = (h, tt)
 
 operands_lines : (s : Second) (at : Option ℕ) (first code : List Coded) (t : ℕ) (by num : (x y : ℕ) → List Coded) → LinesFit first → LinesFit code → ((x y : ℕ) → LinesFit (by x y)) → ((x n : ℕ) → LinesFit (num x n))
     → LinesFit (operands_code s at first code t by num)
@@ -154,6 +164,18 @@ constant_lines Less x n t line h = tt
 constant_lines AtMost x n t line h = tt
 constant_lines Gt x n t line h = tt
 constant_lines Ge x n t line h = tt
+
+lines_first : (n : ℕ) (xs : List Coded) → LinesFit xs → LinesFit (take n xs)
+lines_first zero xs h = tt
+lines_first (suc n) [] h = tt
+lines_first (suc n) (x ∷ xs) h = (h.0, lines_first n xs h.1)
+
+unjoined_lines : (more : Bool) (code : List Coded) → LinesFit code → LinesFit (unjoined more code)
+unjoined_lines true code h = lines_first (length code - 1) code h
+unjoined_lines false code h = h
+
+chain_lines : (line : ℕ) (d : Exp) (first second : List Coded) (t : ℕ) → LinesFit first → LinesFit second → LineFits line → LinesFit (chain_code line d first second t)
+chain_lines line d first second t h k fits = lines_both first _ h (lines_both (unjoined (continues line d) second) _ (unjoined_lines (continues line d) second k) (fits, tt))
 
 operation_lines : (o : Option ℕ) (op : BinOp) (e d : Exp) (first second : List Coded) (t : ℕ) (con by num : (x y : ℕ) → List Coded) → LinesFit first → LinesFit second → ((x n : ℕ) → LinesFit (con x n)) → ((x y : ℕ) → LinesFit (by x y)) → ((x n : ℕ) → LinesFit (num x n))
     → LinesFit (operation_by o op e d first second t con by num)
@@ -188,58 +210,13 @@ jump_line : (b : Bool) (m n line : ℕ) → LineFits line → LineFits (cond b (
 jump_line true m n line h = h
 jump_line false m n line h = h
 
-leads_lines : (o : Option Landing) (pc line : ℕ) → LineFits line → LinesFit (leads o pc line)
-leads_lines None pc line h = (h, (jump_line (nat_le (pc + 2) 0) (0 - (pc + 2)) (pc + 2 - 0) line h, tt))
-leads_lines (Some x) pc line h = (h, (jump_line (nat_le (pc + 2) x.place) (x.place - (pc + 2)) (pc + 2 - x.place) line h, tt))
+leads_lines : (closes : Bool) (o : Option Landing) (pc line : ℕ) → LineFits line → LinesFit (leads closes o pc line)
+leads_lines false None pc line h = (jump_line (nat_le (pc + 1) 0) (0 - (pc + 1)) (pc + 1 - 0) line h, tt)
+leads_lines false (Some x) pc line h = (jump_line (nat_le (pc + 1) x.place) (x.place - (pc + 1)) (pc + 1 - x.place) line h, tt)
+leads_lines true None pc line h = (h, (jump_line (nat_le (pc + 2) 0) (0 - (pc + 2)) (pc + 2 - 0) line h, tt))
+leads_lines true (Some x) pc line h = (h, (jump_line (nat_le (pc + 2) x.place) (x.place - (pc + 2)) (pc + 2 - x.place) line h, tt))
 
 module _ (cs : List Const) where
-  mutual
-    pub exp_lines : (e : Exp) (t j c : ℕ) → ExpIsWritten e → LinesFit (exp_code cs e t j c)
-    exp_lines (Nil line) t j c w = (w, tt)
-    exp_lines (True line) t j c w = (w, tt)
-    exp_lines (False line) t j c w = (w, tt)
-    exp_lines (Int line z) t j c w = integer_lines cs z t line w.0
-    exp_lines (Str line bytes) t j c w = loads_lines cs (StrConst bytes) t line w.0
-    exp_lines (Vararg line) t j c w = (w, tt)
-    exp_lines (Function line body) t j c w = (body_line body w.1, tt)
-    exp_lines (Var line name) t j c w = name_lines cs name.place name.text t t line w.0
-    exp_lines (Index line o k) t j c w =
-        read_lines (name_in cs k) o k (exp_code cs o t j 2) (exp_code cs k (t + 1) (j + made_by o) 2) t t line (exp_lines o t j 2 w.1.0) (exp_lines k (t + 1) (j + made_by o) 2 w.1.1) w.0
-    exp_lines (Call line f es) t j c w = lines_both (exp_code cs f t j 2) _ (exp_lines f t j 2 w.1.0) (lines_both (exps_code cs es None (t + 1) (j + made_by f) line) _ (exps_lines es None (t + 1) (j + made_by f) line w.0 w.1.1) (w.0, tt))
-    exp_lines (Method line o name es) t j c w =
-        let x = seat (local_of o) t in
-        unless_lines (local_of o) (exp_code cs o t j 2) _ (exp_lines o t j 2 w.1.0) (lines_both (self_code cs name.text x t line) _ (method_lines cs name.text x t line w.0)
-        (lines_both (exps_code cs es None (t + 2) (j + made_by o) line) _ (exps_lines es None (t + 2) (j + made_by o) line w.0 w.1.1.1) (w.0, tt)))
-    exp_lines (Unary line op e) t j c w = unless_lines (local_of e) (exp_code cs e t j 2) _ (exp_lines e t j 2 w.1) (w.0, tt)
-    exp_lines (Binary line op e d) t j c w =
-        operation_lines (constant_in cs op d) op e d (exp_code cs e t j 2) (exp_code cs d (t + 1) (j + made_by e) 2) t (λ x n. constant_code op x n t line) (λ x y. operator_code op x y t line) (λ x n. number_code op x n t line)
-        (exp_lines e t j 2 w.1.0) (exp_lines d (t + 1) (j + made_by e) 2 w.1.1) (λ x n. constant_lines op x n t line w.0) (λ x y. operator_lines op x y t line w.0) (λ x n. number_lines op x n t line w.0)
-    exp_lines (And line e d) t j c w = lines_both (exp_code cs e t j 2) _ (exp_lines e t j 2 w.1.0) (w.0, (w.0, exp_lines d t (j + made_by e) 2 w.1.1))
-    exp_lines (Or line e d) t j c w = lines_both (exp_code cs e t j 2) _ (exp_lines e t j 2 w.1.0) (w.0, (w.0, exp_lines d t (j + made_by e) 2 w.1.1))
-    exp_lines (Paren line e) t j c w = exp_lines e t j 2 w.1
-    exp_lines (Table line fs) t j c w = (w.0, (w.0, fields_lines fs 0 t j line w.0 w.1))
-
-    pub exps_lines : (es : Exps) (wanted : Wanted) (t j line : ℕ) → LineFits line → ExpsAreWritten es → LinesFit (exps_code cs es wanted t j line)
-    exps_lines EndExps wanted t j line h w = nils_lines wanted t line h
-    exps_lines (MoreExps e es) wanted t j line h w =
-        lines_both (exp_code cs e t j (field_of e es wanted)) _ (exp_lines e t j (field_of e es wanted) w.0) (exps_lines es (wanted_after e es wanted) (t + 1) (j + made_by e) line h w.1)
-
-    pub fields_lines : (fs : Fields) (items t j line : ℕ) → LineFits line → FieldsAreWritten fs → LinesFit (fields_code cs fs items t j line)
-    fields_lines EndFields items t j line h w = tt
-    fields_lines (MoreFields (Item e) fs) items t j line h w =
-        lines_both (exp_code cs e (t + 1) j (cond (is_last_item e fs) 0 2)) _ (exp_lines e (t + 1) j (cond (is_last_item e fs) 0 2) w.0)
-        (lines_both (set_list t (cond (is_last_item e fs) 0 1) items line) _ (set_list_lines t (cond (is_last_item e fs) 0 1) items line h) (fields_lines fs (items + 1) t (j + made_by e) line h w.1))
-    fields_lines (MoreFields (Keyed at_line e d) fs) items t j line h w =
-        let s = field_key cs (is_quiet d) e in
-        lines_both (keyed_store s (local_of d) (exp_code cs e (t + 1) j 2) (exp_code cs d (t + 2) (j + made_by e) 2) t at_line) _
-        (key_lines s (exp_code cs e (t + 1) j 2) _ (exp_lines e (t + 1) j 2 w.1.0)
-        (unless_lines (local_of d) (exp_code cs d (t + 2) (j + made_by e) 2) _ (exp_lines d (t + 2) (j + made_by e) 2 w.1.1.0) (last_lines s t t (seat (local_of d) (t + 2)) at_line w.0)))
-        (fields_lines fs items t (j + made_by e + made_by d) line h w.1.1.1)
-
-  -- statements without blocks
-
-  -- conditions
-
   line_fits : (e : Exp) → ExpIsWritten e → LineFits (line_of e)
   line_fits (Nil line) w = w
   line_fits (True line) w = w
@@ -259,8 +236,17 @@ module _ (cs : List Const) where
   line_fits (Paren line e) w = w.0
   line_fits (Table line fs) w = w.0
 
-  value_lines : (e : Exp) (k : Bool) (ahead t j : ℕ) → ExpIsWritten e → LinesFit (value_test cs e k ahead t j)
-  value_lines e k ahead t j w = unless_lines (local_of e) (exp_code cs e t j 2) _ (exp_lines e t j 2 w) (line_fits e w, (line_fits e w, tt))
+  -- where the lines of the value's code fit
+
+  by_value_lines : (e : Exp) (k : Bool) (ahead t j : ℕ) → ExpIsWritten e → LinesFit (exp_code cs e t j 2) → LinesFit (value_test cs e k ahead t j)
+  by_value_lines e k ahead t j w h = unless_lines (local_of e) (exp_code cs e t j 2) _ h (line_fits e w, (line_fits e w, tt))
+
+  set_lines : (at : Option ℕ) (k : Bool) (ahead t line : ℕ) → LineFits line → LinesFit (set_if at k ahead t line)
+  set_lines None k ahead t line h = (h, (h, tt))
+  set_lines (Some x) k ahead t line h = (h, (h, tt))
+
+  leaf_lines : (e : Exp) (k : Bool) (ahead t j : ℕ) → ExpIsWritten e → LinesFit (exp_code cs e t j 2) → LinesFit (kept_value e (exp_code cs e t j 2) k ahead t)
+  leaf_lines e k ahead t j w h = unless_lines (local_of e) (exp_code cs e t j 2) _ h (set_lines (local_of e) k ahead t (line_of e) (line_fits e w))
 
   compared_lines : (op : BinOp) (other : List Coded) (by : Opcode → (swapped wanted : Bool) → List Coded) → LinesFit other → ((o : Opcode) (s w : Bool) → LinesFit (by o s w)) → LinesFit (compared op other by)
   compared_lines Equal other by h g = g Eq false true
@@ -281,33 +267,130 @@ module _ (cs : List Const) where
   compared_lines ShiftRight other by h g = h
   compared_lines Join other by h g = h
 
-  test_lines : (e : Exp) (k : Bool) (ahead t j : ℕ) → ExpIsWritten e → LinesFit (test_code cs e k ahead t j)
-  test_lines (Paren line e) k ahead t j w = test_lines e k ahead t j w.1
-  test_lines (Unary line op e) k ahead t j w = either (is_not op) _ _ (test_lines e (not k) ahead t j w.1) (value_lines (Unary line op e) k ahead t j w)
-  test_lines (And line e d) k ahead t j w =
-      let far = length (test_code cs d k ahead t (j + made_by e)) + cond k ahead 0 in
-      lines_both (test_code cs e true far t j) _ (test_lines e true far t j w.1.0) (test_lines d k ahead t (j + made_by e) w.1.1)
-  test_lines (Or line e d) k ahead t j w =
-      let far = length (test_code cs d k ahead t (j + made_by e)) + cond k 0 ahead in
-      lines_both (test_code cs e false far t j) _ (test_lines e false far t j w.1.0) (test_lines d k ahead t (j + made_by e) w.1.1)
-  test_lines (Binary line op e d) k ahead t j w =
-      compared_lines op _ _ (value_lines (Binary line op e d) k ahead t j w)
+  comparison_lines : (line : ℕ) (op : BinOp) (e d : Exp) (k : Bool) (ahead t j : ℕ) → LineFits line → LinesFit (exp_code cs e t j 2) → LinesFit (exp_code cs d (t + 1) (j + made_by e) 2) → LinesFit (value_test cs (Binary line op e d) k ahead t j)
+      → LinesFit (test_code cs (Binary line op e d) k ahead t j)
+  comparison_lines line op e d k ahead t j fits first second other =
+      compared_lines op _ _ other
       (λ o s q. let field = cond q (not k) k in
       operation_lines (constant_in cs op d) op e d (exp_code cs e t j 2) (exp_code cs d (t + 1) (j + made_by e) 2) t
       (λ x n. jump_if EqK x n field ahead line) (λ x y. jump_if o (pick s x y) (pick s y x) field ahead line) (λ x n. jump_if (number_opcode op) x (n + 127) field ahead line)
-      (exp_lines e t j 2 w.1.0) (exp_lines d (t + 1) (j + made_by e) 2 w.1.1) (λ x n. (w.0, (w.0, tt))) (λ x y. (w.0, (w.0, tt))) (λ x n. (w.0, (w.0, tt))))
-  test_lines (True line) k ahead t j w = either k _ _ tt (w, tt)
-  test_lines (Nil line) k ahead t j w = value_lines (Nil line) k ahead t j w
-  test_lines (False line) k ahead t j w = value_lines (False line) k ahead t j w
-  test_lines (Int line z) k ahead t j w = value_lines (Int line z) k ahead t j w
-  test_lines (Str line bytes) k ahead t j w = value_lines (Str line bytes) k ahead t j w
-  test_lines (Vararg line) k ahead t j w = value_lines (Vararg line) k ahead t j w
-  test_lines (Function line body) k ahead t j w = value_lines (Function line body) k ahead t j w
-  test_lines (Var line name) k ahead t j w = value_lines (Var line name) k ahead t j w
-  test_lines (Index line object key) k ahead t j w = value_lines (Index line object key) k ahead t j w
-  test_lines (Call line f es) k ahead t j w = value_lines (Call line f es) k ahead t j w
-  test_lines (Method line object name es) k ahead t j w = value_lines (Method line object name es) k ahead t j w
-  test_lines (Table line fs) k ahead t j w = value_lines (Table line fs) k ahead t j w
+      first second (λ x n. (fits, (fits, tt))) (λ x y. (fits, (fits, tt))) (λ x n. (fits, (fits, tt))))
+
+  mutual
+    pub exp_lines : (e : Exp) (t j c : ℕ) → ExpIsWritten e → LinesFit (exp_code cs e t j c)
+    exp_lines (Nil line) t j c w = (w, tt)
+    exp_lines (True line) t j c w = (w, tt)
+    exp_lines (False line) t j c w = (w, tt)
+    exp_lines (Int line z) t j c w = integer_lines cs z t line w.0
+    exp_lines (Str line bytes) t j c w = loads_lines cs (StrConst bytes) t line w.0
+    exp_lines (Vararg line) t j c w = (w, tt)
+    exp_lines (Function line body) t j c w = (body_line body w.1, tt)
+    exp_lines (Var line name) t j c w = name_lines cs name.place name.text t t line w.0
+    exp_lines (Index line o k) t j c w =
+        read_lines (name_in cs k) o k (exp_code cs o t j 2) (exp_code cs k (t + 1) (j + made_by o) 2) t t line (exp_lines o t j 2 w.1.0) (exp_lines k (t + 1) (j + made_by o) 2 w.1.1) w.0
+    exp_lines (Call line f es) t j c w = lines_both (exp_code cs f t j 2) _ (exp_lines f t j 2 w.1.0) (lines_both (exps_code cs es None (t + 1) (j + made_by f) line) _ (exps_lines es None (t + 1) (j + made_by f) line w.0 w.1.1) (w.0, tt))
+    exp_lines (Method line o name es) t j c w =
+        let x = seat (local_of o) t in
+        unless_lines (local_of o) (exp_code cs o t j 2) _ (exp_lines o t j 2 w.1.0) (lines_both (self_code cs name.text x t line) _ (method_lines cs name.text x t line w.0)
+        (lines_both (exps_code cs es None (t + 2) (j + made_by o) line) _ (exps_lines es None (t + 2) (j + made_by o) line w.0 w.1.1.1) (w.0, tt)))
+    exp_lines (Unary line op e) t j c w = unless_lines (local_of e) (exp_code cs e t j 2) _ (exp_lines e t j 2 w.1) (w.0, tt)
+    exp_lines (Binary line op e d) t j c w =
+        let first = exp_code cs e t j 2 in
+        let second = exp_code cs d (t + 1) (j + made_by e) 2 in
+        let h = exp_lines e t j 2 w.1.0 in
+        let k = exp_lines d (t + 1) (j + made_by e) 2 w.1.1 in
+        either (joins op) _ _ (chain_lines line d first second t h k w.0)
+        (operation_lines (constant_in cs op d) op e d first second t (λ x n. constant_code op x n t line) (λ x y. operator_code op x y t line) (λ x n. number_code op x n t line)
+        h k (λ x n. constant_lines op x n t line w.0) (λ x y. operator_lines op x y t line w.0) (λ x n. number_lines op x n t line w.0))
+    exp_lines (And line e d) t j c w =
+        let far = length (exp_code cs d t (j + made_by e) 2) in
+        lines_both (keep_code cs e false far t j) _ (kept_lines e false far t j w.1.0 (exp_lines e t j 2 w.1.0)) (exp_lines d t (j + made_by e) 2 w.1.1)
+    exp_lines (Or line e d) t j c w =
+        let far = length (exp_code cs d t (j + made_by e) 2) in
+        lines_both (keep_code cs e true far t j) _ (kept_lines e true far t j w.1.0 (exp_lines e t j 2 w.1.0)) (exp_lines d t (j + made_by e) 2 w.1.1)
+    exp_lines (Paren line e) t j c w = exp_lines e t j 2 w.1
+    exp_lines (Table line fs) t j c w = (w.0, (w.0, fields_lines fs 0 t j line w.0 w.1))
+
+    tested_lines : (e : Exp) (k : Bool) (ahead t j : ℕ) → ExpIsWritten e → LinesFit (exp_code cs e t j 2) → LinesFit (test_code cs e k ahead t j)
+    tested_lines (Paren line e) k ahead t j w h = tested_lines e k ahead t j w.1 h
+    tested_lines (Unary line op e) k ahead t j w h = either (is_not op) _ _ (tested_lines e (not k) ahead t j w.1 (exp_lines e t j 2 w.1)) (by_value_lines (Unary line op e) k ahead t j w h)
+    tested_lines (And line e d) k ahead t j w h =
+        let far = length (test_code cs d k ahead t (j + made_by e)) + cond k ahead 0 in
+        lines_both (test_code cs e true far t j) _ (tested_lines e true far t j w.1.0 (exp_lines e t j 2 w.1.0)) (tested_lines d k ahead t (j + made_by e) w.1.1 (exp_lines d t (j + made_by e) 2 w.1.1))
+    tested_lines (Or line e d) k ahead t j w h =
+        let far = length (test_code cs d k ahead t (j + made_by e)) + cond k 0 ahead in
+        lines_both (test_code cs e false far t j) _ (tested_lines e false far t j w.1.0 (exp_lines e t j 2 w.1.0)) (tested_lines d k ahead t (j + made_by e) w.1.1 (exp_lines d t (j + made_by e) 2 w.1.1))
+    tested_lines (Binary line op e d) k ahead t j w h =
+        comparison_lines line op e d k ahead t j w.0 (exp_lines e t j 2 w.1.0) (exp_lines d (t + 1) (j + made_by e) 2 w.1.1) (by_value_lines (Binary line op e d) k ahead t j w h)
+    tested_lines (True line) k ahead t j w h = either k _ _ tt (w, tt)
+    tested_lines (Nil line) k ahead t j w h = by_value_lines (Nil line) k ahead t j w h
+    tested_lines (False line) k ahead t j w h = by_value_lines (False line) k ahead t j w h
+    tested_lines (Int line z) k ahead t j w h = by_value_lines (Int line z) k ahead t j w h
+    tested_lines (Str line bytes) k ahead t j w h = by_value_lines (Str line bytes) k ahead t j w h
+    tested_lines (Vararg line) k ahead t j w h = by_value_lines (Vararg line) k ahead t j w h
+    tested_lines (Function line body) k ahead t j w h = by_value_lines (Function line body) k ahead t j w h
+    tested_lines (Var line name) k ahead t j w h = by_value_lines (Var line name) k ahead t j w h
+    tested_lines (Index line o key) k ahead t j w h = by_value_lines (Index line o key) k ahead t j w h
+    tested_lines (Call line f es) k ahead t j w h = by_value_lines (Call line f es) k ahead t j w h
+    tested_lines (Method line o name es) k ahead t j w h = by_value_lines (Method line o name es) k ahead t j w h
+    tested_lines (Table line fs) k ahead t j w h = by_value_lines (Table line fs) k ahead t j w h
+
+    kept_lines : (e : Exp) (k : Bool) (ahead t j : ℕ) → ExpIsWritten e → LinesFit (exp_code cs e t j 2) → LinesFit (keep_code cs e k ahead t j)
+    kept_lines (Paren line e) k ahead t j w h = kept_lines e k ahead t j w.1 h
+    kept_lines (And line e d) false ahead t j w h =
+        let far = length (keep_code cs d false ahead t (j + made_by e)) + ahead in
+        lines_both (keep_code cs e false far t j) _ (kept_lines e false far t j w.1.0 (exp_lines e t j 2 w.1.0)) (kept_lines d false ahead t (j + made_by e) w.1.1 (exp_lines d t (j + made_by e) 2 w.1.1))
+    kept_lines (And line e d) true ahead t j w h =
+        let far = length (keep_code cs d true ahead t (j + made_by e)) in
+        lines_both (test_code cs e true far t j) _ (tested_lines e true far t j w.1.0 (exp_lines e t j 2 w.1.0)) (kept_lines d true ahead t (j + made_by e) w.1.1 (exp_lines d t (j + made_by e) 2 w.1.1))
+    kept_lines (Or line e d) true ahead t j w h =
+        let far = length (keep_code cs d true ahead t (j + made_by e)) + ahead in
+        lines_both (keep_code cs e true far t j) _ (kept_lines e true far t j w.1.0 (exp_lines e t j 2 w.1.0)) (kept_lines d true ahead t (j + made_by e) w.1.1 (exp_lines d t (j + made_by e) 2 w.1.1))
+    kept_lines (Or line e d) false ahead t j w h =
+        let far = length (keep_code cs d false ahead t (j + made_by e)) in
+        lines_both (test_code cs e false far t j) _ (tested_lines e false far t j w.1.0 (exp_lines e t j 2 w.1.0)) (kept_lines d false ahead t (j + made_by e) w.1.1 (exp_lines d t (j + made_by e) 2 w.1.1))
+    kept_lines (Nil line) k ahead t j w h = leaf_lines (Nil line) k ahead t j w h
+    kept_lines (True line) k ahead t j w h = leaf_lines (True line) k ahead t j w h
+    kept_lines (False line) k ahead t j w h = leaf_lines (False line) k ahead t j w h
+    kept_lines (Int line z) k ahead t j w h = leaf_lines (Int line z) k ahead t j w h
+    kept_lines (Str line bytes) k ahead t j w h = leaf_lines (Str line bytes) k ahead t j w h
+    kept_lines (Vararg line) k ahead t j w h = leaf_lines (Vararg line) k ahead t j w h
+    kept_lines (Function line body) k ahead t j w h = leaf_lines (Function line body) k ahead t j w h
+    kept_lines (Var line name) k ahead t j w h = leaf_lines (Var line name) k ahead t j w h
+    kept_lines (Index line o key) k ahead t j w h = leaf_lines (Index line o key) k ahead t j w h
+    kept_lines (Call line f es) k ahead t j w h = leaf_lines (Call line f es) k ahead t j w h
+    kept_lines (Method line o name es) k ahead t j w h = leaf_lines (Method line o name es) k ahead t j w h
+    kept_lines (Table line fs) k ahead t j w h = leaf_lines (Table line fs) k ahead t j w h
+    kept_lines (Unary line op e) k ahead t j w h =
+        either (is_not op) _ _ (lines_both (test_code cs e (not k) 2 t j) _ (tested_lines e (not k) 2 t j w.1 (exp_lines e t j 2 w.1)) (w.0, (w.0, tt))) (leaf_lines (Unary line op e) k ahead t j w h)
+    kept_lines (Binary line op e d) k ahead t j w h =
+        either (is_compared op) _ _
+        (lines_both (test_code cs (Binary line op e d) k 2 t j) _
+        (comparison_lines line op e d k 2 t j w.0 (exp_lines e t j 2 w.1.0) (exp_lines d (t + 1) (j + made_by e) 2 w.1.1) (by_value_lines (Binary line op e d) k 2 t j w h)) (w.0, (w.0, tt)))
+        (leaf_lines (Binary line op e d) k ahead t j w h)
+
+    pub exps_lines : (es : Exps) (wanted : Wanted) (t j line : ℕ) → LineFits line → ExpsAreWritten es → LinesFit (exps_code cs es wanted t j line)
+    exps_lines EndExps wanted t j line h w = nils_lines wanted t line h
+    exps_lines (MoreExps e es) wanted t j line h w =
+        lines_both (exp_code cs e t j (field_of e es wanted)) _ (exp_lines e t j (field_of e es wanted) w.0) (exps_lines es (wanted_after e es wanted) (t + 1) (j + made_by e) line h w.1)
+
+    pub fields_lines : (fs : Fields) (items t j line : ℕ) → LineFits line → FieldsAreWritten fs → LinesFit (fields_code cs fs items t j line)
+    fields_lines EndFields items t j line h w = tt
+    fields_lines (MoreFields (Item e) fs) items t j line h w =
+        lines_both (exp_code cs e (t + 1) j (cond (is_last_item e fs) 0 2)) _ (exp_lines e (t + 1) j (cond (is_last_item e fs) 0 2) w.0)
+        (lines_both (set_list t (cond (is_last_item e fs) 0 1) items line) _ (set_list_lines t (cond (is_last_item e fs) 0 1) items line h) (fields_lines fs (items + 1) t (j + made_by e) line h w.1))
+    fields_lines (MoreFields (Keyed at_line e d) fs) items t j line h w =
+        let s = field_key cs (is_quiet d) e in
+        let value = stored_value cs d in
+        lines_both (keyed_store s value (exp_code cs e (t + 1) j 2) (exp_code cs d (t + 2) (j + made_by e) 2) t at_line) _
+        (key_lines s (exp_code cs e (t + 1) j 2) _ (exp_lines e (t + 1) j 2 w.1.0)
+        (value_lines value (exp_code cs d (t + 2) (j + made_by e) 2) _ (exp_lines d (t + 2) (j + made_by e) 2 w.1.1.0) (last_lines s (is_constant value) t t (value_seat value (t + 2)) at_line w.0)))
+        (fields_lines fs items t (j + made_by e + made_by d) line h w.1.1.1)
+
+  test_lines : (e : Exp) (k : Bool) (ahead t j : ℕ) → ExpIsWritten e → LinesFit (test_code cs e k ahead t j)
+  test_lines e k ahead t j w = tested_lines e k ahead t j w (exp_lines e t j 2 w)
+
+  -- statements without blocks
 
   marks_lines : (names : List Declared) (t : ℕ) → DeclaredFit names → LinesFit (marks_code names t)
   marks_lines [] t w = tt
@@ -347,9 +430,9 @@ module _ (cs : List Const) where
       by Unset = tt
       by (LocalPlace n) = (w.0, tt)
       by (Upvalue u) = (w.0, tt)
-      by (GlobalIn n) = last_lines (text_key cs name.text) r r v line w.0
-      by (GlobalOf u) = last_lines (text_key cs name.text) r r v line w.0
-  store_lines (Index line o k) r v w = last_lines (waiting_key cs k) r r v line w.0
+      by (GlobalIn n) = last_lines (text_key cs name.text) false r r v line w.0
+      by (GlobalOf u) = last_lines (text_key cs name.text) false r r v line w.0
+  store_lines (Index line o k) r v w = last_lines (waiting_key cs k) false r r v line w.0
   store_lines _ r v w = tt
 
   stores_lines : (es : Exps) (r v : ℕ) → ExpsAreWritten es → LinesFit (stores_code cs es r v)
@@ -385,43 +468,60 @@ module _ (cs : List Const) where
   field_lines (Index line o k) e t j after w we =
       unless_lines (object_of s (is_quiet e) o) (exp_code cs o t j 2) _ (exp_lines o t j 2 w.1.0)
       (key_lines s (exp_code cs k (t + 1) (j + made_by o) 2) _ (exp_lines k (t + 1) (j + made_by o) 2 w.1.1)
-      (unless_lines (local_of e) (exp_code cs e (t + 2) after 2) _ (exp_lines e (t + 2) after 2 we) (last_lines s (seat (object_of s (is_quiet e) o) t) t (seat (local_of e) (t + 2)) line w.0)))
+      (value_lines (stored_value cs e) (exp_code cs e (t + 2) after 2) _ (exp_lines e (t + 2) after 2 we) (last_lines s (is_constant (stored_value cs e)) (seat (object_of s (is_quiet e) o) t) t (value_seat (stored_value cs e) (t + 2)) line w.0)))
     where
       s : FieldKey
       s = field_key cs (is_quiet e) k
   field_lines _ e t j after w we = tt
 
-  -- a local that goes to a global name
-  local_line : (place : Place) (number v line : ℕ) (x : Coded) → global_store place number v line ≡ Some x → LineFits line → LineFits x.1
-  local_line (GlobalIn n) number v line x h fits = subst (λ z. LineFits z.1) (some_store (with_abc SetField n number v line) x h) fits
-  local_line (GlobalOf u) number v line x h fits = subst (λ z. LineFits z.1) (some_store (with_abc SetTabUp u number v line) x h) fits
-  local_line _ number v line x h fits = absurd (cc)
+  -- a local or a constant that goes to a global name
+  local_line : (place : Place) (number : ℕ) (flag : Bool) (v line : ℕ) (x : Coded) → global_store place number flag v line ≡ Some x → LineFits line → LineFits x.1
+  local_line (GlobalIn n) number flag v line x h fits = subst (λ z. LineFits z.1) (some_store (abc SetField n number v flag, line) x h) fits
+  local_line (GlobalOf u) number flag v line x h fits = subst (λ z. LineFits z.1) (some_store (abc SetTabUp u number v flag, line) x h) fits
+  local_line _ number flag v line x h fits = absurd (cc)
 
   first_field_lines : (ts es : Exps) (t j after : ℕ) → ExpsAreWritten ts → ExpsAreWritten es → LinesFit (first_field cs ts es t j after)
   first_field_lines EndExps es t j after wt we = tt
   first_field_lines (MoreExps x ts) EndExps t j after wt we = tt
   first_field_lines (MoreExps x ts) (MoreExps e es) t j after wt we = field_lines x e t j after wt.0 we.0
 
+  first_two_lines : (ts es : Exps) (r t j : ℕ) → ExpsAreWritten ts → ExpsAreWritten es → LinesFit (first_two cs ts es r t j)
+  first_two_lines EndExps es r t j wt we = tt
+  first_two_lines (MoreExps x ts) EndExps r t j wt we = tt
+  first_two_lines (MoreExps x ts) (MoreExps e EndExps) r t j wt we = tt
+  first_two_lines (MoreExps x ts) (MoreExps e (MoreExps d es)) r t j wt we =
+      lines_both (target_code cs x t j) _ (target_lines x t j wt.0)
+      (lines_both (exp_code cs e (t + 2) (j + made_by x) 2) _ (exp_lines e (t + 2) (j + made_by x) 2 we.0)
+      (lines_both (direct_code cs d r (t + 3) (j + made_by x + made_by e)) _ (direct_lines d r (t + 3) (j + made_by x + made_by e) we.1.0) (store_lines x t (t + 2) wt.0)))
+
   assign_lines : (ts es : Exps) (t j line : ℕ) → LineFits line → ExpsAreWritten ts → ExpsAreWritten es → LinesFit (assign_code cs ts es t j line)
   assign_lines ts es t j line h wt we = by (assigned ts es)
     where
       by : (o : Option ℕ) → LinesFit (assign_by cs o ts es t j line)
-      by None = by_field (stores_field ts es)
+      by None = by_two (second_assigned ts es)
         where
-          by_field : (b : Bool) → LinesFit (store_by cs b ts es t j line)
-          by_field true = first_field_lines ts es t j (j + made_in ts) wt we
-          by_field false = by_store (single_store cs ts es) refl
+          by_two : (o : Option ℕ) → LinesFit (two_by cs o ts es t j line)
+          by_two (Some r) = first_two_lines ts es r t j wt we
+          by_two None = by_field (stores_field ts es)
             where
-              by_store : (o : Option Coded) → single_store cs ts es ≡ o → LinesFit (kept_code cs o ts es t j line)
-              by_store None is = stored_lines ts es t j line h wt we
-              by_store (Some x) is =
-                  let form = single_store_is cs ts es x is in
-                  let written = subst ExpsAreWritten form.target wt in
-                  (local_line form.name.place (number_in cs (StrConst form.name.text)) form.local form.line x form.store written.0.0, tt)
+              by_field : (b : Bool) → LinesFit (store_by cs b ts es t j line)
+              by_field true = first_field_lines ts es t j (j + made_in ts) wt we
+              by_field false = by_store (single_store cs ts es) refl
+                where
+                  by_store : (o : Option Coded) → single_store cs ts es ≡ o → LinesFit (kept_code cs o ts es t j line)
+                  by_store None is = stored_lines ts es t j line h wt we
+                  by_store (Some x) is =
+                      let form = single_store_is cs ts es x is in
+                      let written = subst ExpsAreWritten form.target wt in
+                      (local_line form.name.place (number_in cs (StrConst form.name.text)) form.constant form.field form.line x form.store written.0.0, tt)
       by (Some r) = first_lines es r t (j + made_in ts) we
 
   values_lines : (es : Exps) (t j line back : ℕ) → LineFits line → ExpsAreWritten es → LinesFit (values_last cs es t j line back)
-  values_lines es t j line back h w = lines_both (exps_code cs es None t j line) _ (exps_lines es None t j line h w) (h, tt)
+  values_lines es t j line back h w = by (lone_local es)
+    where
+      by : (o : Option ℕ) → LinesFit (returned_by cs o es t j line back)
+      by None = lines_both (exps_code cs es None t j line) _ (exps_lines es None t j line h w) (h, tt)
+      by (Some r) = (h, tt)
 
   pub return_lines : (closing : Bool) (es : Exps) (t j line back : ℕ) → LineFits line → ExpsAreWritten es → LinesFit (return_code cs closing es t j line back)
   return_lines false (MoreExps (Call at_line f es) EndExps) t j line back h w =
@@ -434,7 +534,7 @@ module _ (cs : List Const) where
       (lines_both (exps_code cs es None (t + 2) (j + made_by o) at_line) _ (exps_lines es None (t + 2) (j + made_by o) at_line c.0 c.1.1.1) (c.0, (c.0, tt))))
   return_lines closing es t j line back h w = values_lines es t j line back h w
 
-  module _ (back : ℕ) where
+  module _ (back : Leaving) where
     mutual
       pub stat_lines : (s : Stat) (closing : Bool) (t j pc : ℕ) (reach : Reach) → StatIsWritten s → LinesFit (stat_code cs back s closing t j pc reach)
       stat_lines (Empty line) closing t j pc reach w = tt
@@ -482,8 +582,8 @@ module _ (cs : List Const) where
           lines_both start _ (exps_lines es (Some 4) t j line w.0 w.1.1.0)
           (w.0, lines_both (block_code cs back block true (t + 4) (t + 4 + length names) k (pc + length start + 1) inner) _ (block_lines block true (t + 4) (t + 4 + length names) k (pc + length start + 1) inner w.1.1.1) (w.0, (w.0, (w.0, tt))))
       stat_lines (Label line name) closing t j pc reach w = tt
-      stat_lines (Goto line name) closing t j pc reach w = leads_lines (label_in name.text reach.labels) pc line w
-      stat_lines (Break line) closing t j pc reach w = leads_lines reach.exit pc line w
+      stat_lines (Goto line name) closing t j pc reach w = leads_lines (back.closes || closing) (label_in name.text reach.labels) pc line w
+      stat_lines (Break line) closing t j pc reach w = leads_lines (back.closes || closing) reach.exit pc line w
 
       pub arms_lines : (arms : Arms) (otherwise : List Coded) (closing : Bool) (t j pc line : ℕ) (reach : Reach) → LineFits line → ArmsAreWritten arms → LinesFit otherwise → LinesFit (arms_code cs back arms otherwise closing t j pc line reach)
       arms_lines EndArms otherwise closing t j pc line reach h w others = others
@@ -508,12 +608,12 @@ module _ (cs : List Const) where
       pub block_lines : (block : Block) (closing : Bool) (outer t j pc : ℕ) (reach : Reach) → BlockIsWritten block → LinesFit (block_code cs back block closing outer t j pc reach)
       block_lines (Falls ss tokens line) closing outer t j pc reach w = lines_both (stats_code cs back ss true closing outer t j pc [] reach) _ (stats_lines ss true closing outer t j pc [] reach w.1) (close_lines outer (closed_below ss outer t) line w.0)
       block_lines (Returns ss es tokens line) closing outer t j pc reach w =
-          lines_both (stats_code cs back ss false closing outer t j pc [] reach) _ (stats_lines ss false closing outer t j pc [] reach w.1.0) (return_lines (closings_after ss closing) es (levels_after ss t) (j + made_in_stats ss) line back w.0 w.1.1)
+          lines_both (stats_code cs back ss false closing outer t j pc [] reach) _ (stats_lines ss false closing outer t j pc [] reach w.1.0) (return_lines (closings_after ss closing) es (levels_after ss t) (j + made_in_stats ss) line back.back w.0 w.1.1)
 
       pub open_lines : (block : Block) (closing : Bool) (t j pc : ℕ) (reach : Reach) → BlockIsWritten block → LinesFit (open_code cs back block closing t j pc reach)
       open_lines (Falls ss tokens line) closing t j pc reach w = stats_lines ss false closing t t j pc [] reach w.1
       open_lines (Returns ss es tokens line) closing t j pc reach w =
-          lines_both (stats_code cs back ss false closing t t j pc [] reach) _ (stats_lines ss false closing t t j pc [] reach w.1.0) (return_lines (closings_after ss closing) es (levels_after ss t) (j + made_in_stats ss) line back w.0 w.1.1)
+          lines_both (stats_code cs back ss false closing t t j pc [] reach) _ (stats_lines ss false closing t t j pc [] reach w.1.0) (return_lines (closings_after ss closing) es (levels_after ss t) (j + made_in_stats ss) line back.back w.0 w.1.1)
 
     pub whole_lines : (block : Block) (params pc : ℕ) → BlockIsWritten block → LinesFit (whole_code cs back block params pc)
     whole_lines (Falls ss tokens line) params pc w =
@@ -528,5 +628,5 @@ begins line h = by (nat_eq line 0)
     by false = h
 
 pub body_lines : (body : Body) → BodyIsWritten body → LinesFit (body_code body)
-body_lines (BodyOf params false inner ups line) w = whole_lines (of_block inner []) (back_field false (length params)) inner (length params) 0 w.1.1.1
-body_lines (BodyOf params true inner ups line) w = (begins line w.0, whole_lines (of_block inner []) (back_field true (length params)) inner (length params) 1 w.1.1.1)
+body_lines (BodyOf params false inner ups line) w = whole_lines (of_block inner []) (leaving_of false (length params) inner) inner (length params) 0 w.1.1.1
+body_lines (BodyOf params true inner ups line) w = (begins line w.0, whole_lines (of_block inner []) (leaving_of true (length params) inner) inner (length params) 1 w.1.1.1)

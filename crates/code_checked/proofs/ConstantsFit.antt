@@ -9,7 +9,7 @@ use Rattle.tree_core.specs.declared.operator.BinOp.{BinOp}
 use Rattle.tree_core.specs.Tree.{Block, Falls, Returns, Stats, EndStats, MoreStats, Stat, Empty, Local, LocalFunction, Assign, CallStat, Do, While, Repeat, If, IfElse, NumFor, NumForStep, GenFor, Label, Goto, Break, Arms, EndArms, MoreArms, Exp, Nil, True, False, Int, Str, Vararg, Function, Var, Index, Call, Method, Unary, Binary, And, Or, Paren, Table, Exps, EndExps, MoreExps, Fields, EndFields, MoreFields, Item, Keyed}
 use Rattle.code_core.specs.declared.proto.Const.{Const}
 use Rattle.code_core.specs.declared.proto.Const.TheVariants.{Nil as NilConst, False as FalseConst, True as TrueConst, Int as IntConst, Str as StrConst}
-use Rattle.code_of.specs.ConstantOperands.{any_constant, constant_of}
+use Rattle.code_of.specs.ConstantOperands.{any_constant, constant_of, global_constant, target_constant, stored_constant}
 use Rattle.code_of.proofs.Operations.{operand_form, operand_literal}
 use Rattle.code_core.specs.Writable.{constant_fits, signed_fits}
 use Rattle.code_of.specs.Constants.{is_small, same_constant, with_constant, with_any, of_name, of_exp, of_exps, of_fields, of_stat, of_arms, of_stats, of_block}
@@ -62,6 +62,32 @@ operand_fits op d cs w h = by (constant_of op d) refl
     by None is = h
     by (Some x) is = with_fits x cs (literal_fits d x (operand_literal op d x (operand_form op d x is)) w) h
 
+-- and so is a constant that is stored
+
+value_fits : (d : Exp) (cs : List Const) → ExpIsWritten d → AllFit cs → AllFit (with_any (any_constant d) cs)
+value_fits d cs w h = by (any_constant d) refl
+  where
+    by : (o : Option Const) → any_constant d ≡ o → AllFit (with_any o cs)
+    by None is = h
+    by (Some x) is = with_fits x cs (literal_fits d x is w) h
+
+global_fits : (place : Place) (e : Exp) (cs : List Const) → ExpIsWritten e → AllFit cs → AllFit (with_any (global_constant place e) cs)
+global_fits (GlobalIn n) e cs w h = value_fits e cs w h
+global_fits (GlobalOf u) e cs w h = value_fits e cs w h
+global_fits _ e cs w h = h
+
+target_fits : (x e : Exp) (cs : List Const) → ExpIsWritten e → AllFit cs → AllFit (with_any (target_constant x e) cs)
+target_fits (Var line name) e cs w h = global_fits name.place e cs w h
+target_fits (Index line object key) e cs w h = value_fits e cs w h
+target_fits _ e cs w h = h
+
+stored_fits : (targets es : Exps) (cs : List Const) → ExpsAreWritten es → AllFit cs → AllFit (with_any (stored_constant targets es) cs)
+stored_fits EndExps es cs w h = h
+stored_fits (MoreExps x (MoreExps y targets)) es cs w h = h
+stored_fits (MoreExps x EndExps) EndExps cs w h = h
+stored_fits (MoreExps x EndExps) (MoreExps e (MoreExps d es)) cs w h = h
+stored_fits (MoreExps x EndExps) (MoreExps e EndExps) cs w h = target_fits x e cs w.0 h
+
 mutual
   pub exp_fits : (x : Exp) (cs : List Const) → ExpIsWritten x → AllFit cs → AllFit (of_exp x cs)
   exp_fits (Nil line) cs w h = h
@@ -89,14 +115,16 @@ mutual
   pub fields_fits : (x : Fields) (cs : List Const) → FieldsAreWritten x → AllFit cs → AllFit (of_fields x cs)
   fields_fits EndFields cs w h = h
   fields_fits (MoreFields (Item e) fs) cs w h = fields_fits fs (of_exp e cs) w.1 (exp_fits e cs w.0 h)
-  fields_fits (MoreFields (Keyed line e d) fs) cs w h = fields_fits fs (of_exp d (of_exp e cs)) w.1.1.1 (exp_fits d (of_exp e cs) w.1.1.0 (exp_fits e cs w.1.0 h))
+  fields_fits (MoreFields (Keyed line e d) fs) cs w h =
+      let named = with_any (any_constant d) (of_exp e cs) in
+      fields_fits fs (of_exp d named) w.1.1.1 (exp_fits d named w.1.1.0 (value_fits d (of_exp e cs) w.1.1.0 (exp_fits e cs w.1.0 h)))
 
 mutual
   pub stat_fits : (x : Stat) (cs : List Const) → StatIsWritten x → AllFit cs → AllFit (of_stat x cs)
   stat_fits (Empty line) cs w h = h
   stat_fits (Local line names es) cs w h = exps_fits es cs w.1.1 h
   stat_fits (LocalFunction line name body) cs w h = h
-  stat_fits (Assign line targets es) cs w h = exps_fits es (of_exps targets cs) w.1.1 (exps_fits targets cs w.1.0 h)
+  stat_fits (Assign line targets es) cs w h = exps_fits es (with_any (stored_constant targets es) (of_exps targets cs)) w.1.1 (stored_fits targets es (of_exps targets cs) w.1.1 (exps_fits targets cs w.1.0 h))
   stat_fits (CallStat line e) cs w h = exp_fits e cs w.1 h
   stat_fits (Do line block) cs w h = block_fits block cs w.1 h
   stat_fits (While line e block) cs w h = block_fits block (of_exp e cs) w.1.1 (exp_fits e cs w.1.0 h)

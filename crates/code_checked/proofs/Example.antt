@@ -1,5 +1,5 @@
 -- A body that the law covers, with a function in it, so that its premise is no empty one.
-use Rattle.std.proofs.Common.{ℕ, true, false, List, [], ◌∷◌, Option, Some, lit<, lit≤, refl}
+use Rattle.std.proofs.Common.{Bool, ℕ, true, false, List, [], ◌∷◌, Option, Some, lit<, lit≤, refl}
 use Rattle.std.specs.Prelude.{codes, pos}
 use Rattle.tree_core.specs.declared.name.Name.{Name}
 use Rattle.tree_core.specs.declared.name.Place.{Place}
@@ -55,6 +55,11 @@ inner_near = (
   (tt, (lit< tt, ((lit< tt, lit< tt), tt))),
 )
 
+-- how long a jump is hangs on whether the function makes functions
+either_way : (P : Bool → Type 0) → P true → P false → (b : Bool) → P b
+either_way P x y true = x
+either_way P x y false = y
+
 near : AreNear source goes_about
 unfolding opcodes number_of
 near = (
@@ -71,11 +76,11 @@ near = (
     (
       (lit< tt, (tt, inner_near)),
       (
-        (lit< tt, (((lit< tt, lit< tt), tt), (lit< tt, (((lit< tt, lit< tt), ((tt, tt), tt)), tt)))),
+        (lit< tt, (((lit< tt, lit< tt), tt), (either_way _ (lit< tt) (lit< tt), (((lit< tt, lit< tt), ((tt, tt), tt)), tt)))),
         (
           tt,
           (
-            (lit< tt, ((lit< tt, tt), ((lit< tt, tt), (lit< tt, (((lit< tt, lit< tt), ((tt, tt), tt)), tt))))),
+            (lit< tt, ((lit< tt, tt), ((lit< tt, tt), (either_way _ (lit< tt) (lit< tt), (((lit< tt, lit< tt), ((tt, tt), tt)), tt))))),
             tt,
           ),
         ),

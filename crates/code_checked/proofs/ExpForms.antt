@@ -19,6 +19,7 @@ use Rattle.code_of.specs.Parts.{direct_code}
 use Rattle.code_of.specs.CodeOf.{parts_of, from_exp, from_exps, from_fields, from_body}
 use Rattle.code_of.specs.Operands.{local_at, local_of, Second, a_number, a_local, made, second_of, key_operand, first_of, seat, unless, operands_code}
 use Rattle.code_of.specs.Stores.{name_in, is_quiet, field_key, keyed_store}
+use Rattle.code_of.specs.StoredValues.{stored_value}
 use Rattle.code_of.specs.FieldReads.{read_code}
 use Rattle.code_of.proofs.Stores.{IsName, name_is}
 use Rattle.code_of.specs.Operators.{operator_code, number_code}
@@ -125,7 +126,7 @@ positional_below cs (MoreFields (Item e) fs) items t j line =
     let d = positional_below cs fs (items + 1) t (j + made_by e) line in
     omega (arith, a, b, c, d)
 positional_below cs (MoreFields (Keyed at_line e d) fs) items t j line =
-    let store = keyed_store (field_key cs (is_quiet d) e) (local_of d) (exp_code cs e (t + 1) j 2) (exp_code cs d (t + 2) (j + made_by e) 2) t at_line in
+    let store = keyed_store (field_key cs (is_quiet d) e) (stored_value cs d) (exp_code cs e (t + 1) j 2) (exp_code cs d (t + 2) (j + made_by e) 2) t at_line in
     let rest = fields_code cs fs items t (j + made_by e + made_by d) line in
     let a = length-append store rest in
     let c = positional_below cs fs items t (j + made_by e + made_by d) line in
@@ -342,11 +343,6 @@ module _ (p : Prototype) (W : Whole p) (source : Option (List ℕ)) (H : Type 0)
   index_form line o k one_o one_k t j c pc size cs rest near le cf g fs =
       let r = near.0 in
       index_direct line o k one_o one_k t t j pc size cs rest (omega (arith, r)) near le g fs
-
-  pub binary_form : (line : ℕ) (op : BinOp) (e d : Exp) → OneLaw e → OneLaw d → ExpLaw (Binary line op e d)
-  binary_form line op e d one_e one_d t j c pc size cs rest near le cf g fs =
-      let r = near.0 in
-      binary_direct line op e d one_e one_d t t j pc size cs rest (omega (arith, r)) near le g fs
 
   pub paren_form : (line : ℕ) (e : Exp) → OneLaw e → ExpLaw (Paren line e)
   paren_form line e one_e t j c pc size cs rest near le cf g fs =

@@ -1,51 +1,59 @@
 -- The code of each expression, of each list of expressions and of each constructor is a piece.
 use Rattle.code_core.specs.Instruction.{op_ax}
 use Rattle.code_of.specs.Coded.{with_abc}
-use Rattle.std.proofs.Common.{ℕ, ◌+◌, ◌<◌, ◌≤◌, ◌^◌, lit<, Bool, true, false, List, length, Option, subst, arith, ◌∷◌}
+use Rattle.std.proofs.Common.{ℕ, ◌+◌, ◌<◌, ◌≤◌, ◌^◌, lit<, Bool, true, false, List, length, length-append, Option, refl, subst, arith, ◌∷◌, ◌++◌}
 use Rattle.tree_core.specs.Tree.{Exp, Nil, True, False, Int, Str, Vararg, Function, Var, Index, Call, Method, Unary, Binary, And, Or, Paren, Table, Exps, EndExps, MoreExps, Fields, EndFields, MoreFields, Item, Keyed}
 use Rattle.code_core.specs.declared.opcode.Opcode.TheVariants.{LoadNil, LoadTrue, LoadFalse, NewTable, ExtraArg}
 use Rattle.code_core.specs.declared.proto.Const.TheVariants.{Int as IntConst, Str as StrConst}
 use Rattle.code_core.specs.declared.proto.Const.{Const}
 use Rattle.code_core.specs.Prototype.{Prototype, Prototypes}
 use Rattle.tree_core.specs.declared.name.Name.{Name}
-use Rattle.code_checked.specs.Near.{IsRegister, ExpIsNear}
+use Rattle.code_checked.specs.Near.{ExpIsNear}
 use Rattle.std.specs.Prelude.{ℤ, cond}
 use Rattle.code_of.specs.Constants.{with_constant, of_exp}
-use Rattle.code_of.specs.Expressions.{made_by, exp_code, either_code, fields_code}
+use Rattle.code_of.specs.Conditions.{keep_code}
+use Rattle.code_of.specs.Expressions.{made_by, exp_code, fields_code}
 use Rattle.code_of.specs.CodeOf.{from_exp}
-use Rattle.code_checked.proofs.Pieces.{closed, Land, Piece, both}
+use Rattle.code_checked.proofs.Pieces.{closed, Land, Piece, both, supposing}
 use Rattle.code_checked.proofs.Words.{simple, simple_load_nil, simple_load_true, simple_load_false}
 use Rattle.code_checked.proofs.Found.{Grows, grows_then, is_in}
 use Rattle.code_of.proofs.Constants.{same_text, same_int}
 use Rattle.code_checked.proofs.Loads.{Whole, Functions, loads_piece, integer_piece, name_piece}
 use Rattle.code_checked.proofs.Calls.{vararg_piece, table_piece}
-use Rattle.code_checked.proofs.Jumping.{shortly, either_piece}
+use Rattle.code_checked.proofs.Jumping.{shortly}
+use Rattle.code_checked.proofs.Seams.{ending}
+use Rattle.code_checked.proofs.TestForms.{OneAll, TestLaw, value_law, paren_law, not_law, and_law, or_law, binary_law, true_law, KeepLaw, leaf_law, unary_kept, binary_kept, paren_kept, and_kept, or_kept}
 use Rattle.code_checked.proofs.Lists.{list_at, gives_at}
 use Rattle.code_checked.proofs.Growing.{grows_exp, after_exp}
-use Rattle.code_checked.proofs.ExpForms.{ExpLaw, OneLaw, ListLaw, ExactLaw, FieldsLaw, one_of_any, no_list, no_values, last_list, last_values, more_list, more_values, function_form, index_form, call_form, method_form, unary_form, binary_form, paren_form, no_fields, last_item, more_item, positional_below}
+use Rattle.code_checked.proofs.ExpForms.{ExpLaw, OneLaw, ListLaw, ExactLaw, FieldsLaw, one_of_any, no_list, no_values, last_list, last_values, more_list, more_values, function_form, index_form, call_form, method_form, unary_form, paren_form, no_fields, last_item, more_item, positional_below}
 use Rattle.code_checked.proofs.KeyedFields.{more_keyed}
+use Rattle.code_checked.proofs.ChainForms.{ChainsLaw, chain_end, chain_binary, binary_form}
 
 module _ (p : Prototype) (W : Whole p) (source : Option (List ℕ)) where
   abbrev pub AllExp : Exp → Type 1
   AllExp e = (H : Type 0) → ExpLaw p W source H e
 
-  either_law : (H : Type 0) (k : Bool) (line : ℕ) (e d : Exp) → AllExp e → AllExp d → (t j pc size : ℕ) (cs : List Const) (rest : Prototypes) → IsRegister t → ExpIsNear source p e size t → ExpIsNear source p d size t → size ≤ t
+  -- a first operand whose value is kept leads to the end of the second one
+  either_law : (H : Type 0) (k : Bool) (e d : Exp) → KeepLaw p W source e → AllExp d → (t j pc size : ℕ) (cs : List Const) (rest : Prototypes) → ExpIsNear source p e size t → ExpIsNear source p d size t → size ≤ t
       → Grows (of_exp d (of_exp e cs)) p.own.constants → Functions p j (from_exp source e (from_exp source d rest))
-      → Piece p H closed closed pc (either_code k (exp_code p.own.constants e t j 2) (exp_code p.own.constants d t (j + made_by e) 2) t line)
-  either_law H k line e d law_e law_d t j pc size cs rest r near_e near_d le g fs =
-      let first = exp_code p.own.constants e t j 2 in
+      → Piece p H closed closed pc (keep_code p.own.constants e k (length (exp_code p.own.constants d t (j + made_by e) 2)) t j ++ exp_code p.own.constants d t (j + made_by e) 2)
+  either_law H k e d keep_e law_d t j pc size cs rest near_e near_d le g fs =
       let second = exp_code p.own.constants d t (j + made_by e) 2 in
-      let all : ℕ = length (either_code k first second t line) in
+      let front = keep_code p.own.constants e k (length second) t j in
+      let sum = length-append front second in
+      let all : ℕ = length (front ++ second) in
       let G : Type 0 = H × (all < 2 ^ 24) × Land p (pc + all) in
-      either_piece p k first second t line pc W (omega (arith, r))
-      (one_of_any p W source G e (law_e G) t j pc size cs (from_exp source d rest) near_e le (grows_then (of_exp e cs) (of_exp d (of_exp e cs)) p.own.constants (grows_exp d (of_exp e cs)) g) fs)
-      (one_of_any p W source G d (law_d G) t (j + made_by e) (pc + length first + 2) size (of_exp e cs) rest near_d le g (after_exp source p e j (from_exp source d rest) fs))
+      let inner : Piece p G closed closed pc (front ++ second) =
+      both p
+      (keep_e G k (length second) t j pc size (pc + all) cs (from_exp source d rest) near_e le (grows_then (of_exp e cs) (of_exp d (of_exp e cs)) p.own.constants (grows_exp d (of_exp e cs)) g) fs (λ h. let f = h.1 in omega (arith, f, sum)) (omega (arith, sum)) (λ h. h.2))
+      (one_of_any p W source G d (law_d G) t (j + made_by e) (pc + length front) size (of_exp e cs) rest near_d le g (after_exp source p e j (from_exp source d rest) fs)) in
+      shortly p W (ending p (pc + all) refl (supposing p (λ h. (h.0.0, h.0.1, h.1)) inner))
 
-  and_form : (line : ℕ) (e d : Exp) → AllExp e → AllExp d → AllExp (And line e d)
-  and_form line e d law_e law_d H t j c pc size cs rest near le cf g fs = either_law H false line e d law_e law_d t j pc size cs rest near.0 near.1.0 near.1.1 le g fs
+  and_form : (line : ℕ) (e d : Exp) → KeepLaw p W source e → AllExp d → AllExp (And line e d)
+  and_form line e d keep_e law_d H t j c pc size cs rest near le cf g fs = either_law H false e d keep_e law_d t j pc size cs rest near.1.0 near.1.1 le g fs
 
-  or_form : (line : ℕ) (e d : Exp) → AllExp e → AllExp d → AllExp (Or line e d)
-  or_form line e d law_e law_d H t j c pc size cs rest near le cf g fs = either_law H true line e d law_e law_d t j pc size cs rest near.0 near.1.0 near.1.1 le g fs
+  or_form : (line : ℕ) (e d : Exp) → KeepLaw p W source e → AllExp d → AllExp (Or line e d)
+  or_form line e d keep_e law_d H t j c pc size cs rest near le cf g fs = either_law H true e d keep_e law_d t j pc size cs rest near.1.0 near.1.1 le g fs
 
   nil_form : (line : ℕ) → AllExp (Nil line)
   nil_form line H t j c pc size cs rest near le cf g fs = let r = near.0 in simple p LoadNil (simple_load_nil p) t 0 0 line (omega (arith, r)) (lit< tt) (lit< tt)
@@ -94,11 +102,72 @@ module _ (p : Prototype) (W : Whole p) (source : Option (List ℕ)) where
     exp_law (Call line f es) H = call_form p W source H line f es (one_of_any p W source H f (exp_law f H)) (list_law es H)
     exp_law (Method line o name es) H = method_form p W source H line o name es (one_of_any p W source H o (exp_law o H)) (list_law es H)
     exp_law (Unary line op e) H = unary_form p W source H line op e (one_of_any p W source H e (exp_law e H))
-    exp_law (Binary line op e d) H = binary_form p W source H line op e d (one_of_any p W source H e (exp_law e H)) (one_of_any p W source H d (exp_law d H))
-    exp_law (And line e d) H = and_form line e d (λ G. exp_law e G) (λ G. exp_law d G) H
-    exp_law (Or line e d) H = or_form line e d (λ G. exp_law e G) (λ G. exp_law d G) H
+    exp_law (Binary line op e d) H =
+        binary_form p W source H line op e d (one_of_any p W source H e (exp_law e H)) (one_of_any p W source H d (exp_law d H)) (chain_law d H (one_of_any p W source H d (exp_law d H)) line)
+    exp_law (And line e d) H = and_form line e d (kept_law e (λ G. one_of_any p W source G e (exp_law e G))) (λ G. exp_law d G) H
+    exp_law (Or line e d) H = or_form line e d (kept_law e (λ G. one_of_any p W source G e (exp_law e G))) (λ G. exp_law d G) H
     exp_law (Paren line e) H = paren_form p W source H line e (one_of_any p W source H e (exp_law e H))
     exp_law (Table line fs) H = table_form line fs (λ G. fields_law fs G) H
+
+    -- conditions, and first operands whose values are kept. The value's own law is given, since it is one of the same tree
+    pub tested_law : (e : Exp) → OneAll p W source e → TestLaw p W source e
+    tested_law (Paren line e) law = paren_law p W source line e (tested_law e (λ G. one_of_any p W source G e (exp_law e G)))
+    tested_law (Unary line op e) law = not_law p W source line op e law (tested_law e (λ G. one_of_any p W source G e (exp_law e G)))
+    tested_law (And line e d) law = and_law p W source e d (tested_law e (λ G. one_of_any p W source G e (exp_law e G))) (tested_law d (λ G. one_of_any p W source G d (exp_law d G))) line
+    tested_law (Or line e d) law = or_law p W source e d (tested_law e (λ G. one_of_any p W source G e (exp_law e G))) (tested_law d (λ G. one_of_any p W source G d (exp_law d G))) line
+    tested_law (Binary line op e d) law = binary_law p W source line op e d law (λ G. one_of_any p W source G e (exp_law e G)) (λ G. one_of_any p W source G d (exp_law d G))
+    tested_law (True line) law = true_law p W source line
+    tested_law (Nil line) law = value_law p W source (Nil line) law
+    tested_law (False line) law = value_law p W source (False line) law
+    tested_law (Int line z) law = value_law p W source (Int line z) law
+    tested_law (Str line bytes) law = value_law p W source (Str line bytes) law
+    tested_law (Vararg line) law = value_law p W source (Vararg line) law
+    tested_law (Function line body) law = value_law p W source (Function line body) law
+    tested_law (Var line name) law = value_law p W source (Var line name) law
+    tested_law (Index line o k) law = value_law p W source (Index line o k) law
+    tested_law (Call line f es) law = value_law p W source (Call line f es) law
+    tested_law (Method line o name es) law = value_law p W source (Method line o name es) law
+    tested_law (Table line fs) law = value_law p W source (Table line fs) law
+
+    kept_law : (e : Exp) → OneAll p W source e → KeepLaw p W source e
+    kept_law (Paren line e) law = paren_kept p W source line e (kept_law e (λ G. one_of_any p W source G e (exp_law e G)))
+    kept_law (And line e d) law = and_kept p W source e d (tested_law e (λ G. one_of_any p W source G e (exp_law e G))) (kept_law e (λ G. one_of_any p W source G e (exp_law e G))) (kept_law d (λ G. one_of_any p W source G d (exp_law d G))) line
+    kept_law (Or line e d) law = or_kept p W source e d (tested_law e (λ G. one_of_any p W source G e (exp_law e G))) (kept_law e (λ G. one_of_any p W source G e (exp_law e G))) (kept_law d (λ G. one_of_any p W source G d (exp_law d G))) line
+    kept_law (Nil line) law = leaf_law p W source (Nil line) law
+    kept_law (True line) law = leaf_law p W source (True line) law
+    kept_law (False line) law = leaf_law p W source (False line) law
+    kept_law (Int line z) law = leaf_law p W source (Int line z) law
+    kept_law (Str line bytes) law = leaf_law p W source (Str line bytes) law
+    kept_law (Vararg line) law = leaf_law p W source (Vararg line) law
+    kept_law (Function line body) law = leaf_law p W source (Function line body) law
+    kept_law (Var line name) law = leaf_law p W source (Var line name) law
+    kept_law (Index line o k) law = leaf_law p W source (Index line o k) law
+    kept_law (Call line f es) law = leaf_law p W source (Call line f es) law
+    kept_law (Method line o name es) law = leaf_law p W source (Method line o name es) law
+    kept_law (Table line fs) law = leaf_law p W source (Table line fs) law
+    kept_law (Unary line op e) law = unary_kept p W source line op e law (tested_law e (λ G. one_of_any p W source G e (exp_law e G)))
+    kept_law (Binary line op e d) law = binary_kept p W source line op e d law (λ G. one_of_any p W source G e (exp_law e G)) (λ G. one_of_any p W source G d (exp_law d G))
+
+    -- the right operand of a `..`, of which the law is known
+    chain_law : (d : Exp) (H : Type 0) → OneLaw p W source H d → ChainsLaw p W source H d
+    chain_law (Binary own op e d) H one =
+        chain_binary p W source H own op e d (one_of_any p W source H e (exp_law e H)) (chain_law d H (one_of_any p W source H d (exp_law d H))) one
+    chain_law (Nil own) H one = λ line. chain_end p W source H (Nil own) one line refl
+    chain_law (True own) H one = λ line. chain_end p W source H (True own) one line refl
+    chain_law (False own) H one = λ line. chain_end p W source H (False own) one line refl
+    chain_law (Int own z) H one = λ line. chain_end p W source H (Int own z) one line refl
+    chain_law (Str own bytes) H one = λ line. chain_end p W source H (Str own bytes) one line refl
+    chain_law (Vararg own) H one = λ line. chain_end p W source H (Vararg own) one line refl
+    chain_law (Function own body) H one = λ line. chain_end p W source H (Function own body) one line refl
+    chain_law (Var own name) H one = λ line. chain_end p W source H (Var own name) one line refl
+    chain_law (Index own o k) H one = λ line. chain_end p W source H (Index own o k) one line refl
+    chain_law (Call own f es) H one = λ line. chain_end p W source H (Call own f es) one line refl
+    chain_law (Method own o name es) H one = λ line. chain_end p W source H (Method own o name es) one line refl
+    chain_law (Unary own op e) H one = λ line. chain_end p W source H (Unary own op e) one line refl
+    chain_law (And own e d) H one = λ line. chain_end p W source H (And own e d) one line refl
+    chain_law (Or own e d) H one = λ line. chain_end p W source H (Or own e d) one line refl
+    chain_law (Paren own e) H one = λ line. chain_end p W source H (Paren own e) one line refl
+    chain_law (Table own fs) H one = λ line. chain_end p W source H (Table own fs) one line refl
 
     pub list_law : (es : Exps) (H : Type 0) → ListLaw p W source H es
     list_law EndExps H = no_list p W source H

@@ -8,7 +8,7 @@ use Rattle.tree_core.specs.Tree.{Block, Falls, Returns, Stats, EndStats, MoreSta
 use Rattle.code_core.specs.declared.proto.Const.{Const}
 use Rattle.code_core.specs.declared.proto.Const.TheVariants.{Int as IntConst, Str as StrConst}
 use Rattle.code_core.specs.Prototype.{Prototype, Prototypes}
-use Rattle.code_of.specs.ConstantOperands.{constant_of}
+use Rattle.code_of.specs.ConstantOperands.{any_constant, constant_of, stored_constant}
 use Rattle.code_of.specs.Constants.{is_small, with_constant, with_any, of_name, of_exp, of_exps, of_fields, of_field, of_stat, of_arms, of_stats, of_block}
 use Rattle.code_of.specs.Expressions.{made_by, made_in, made_in_fields, made_by_field}
 use Rattle.code_of.specs.Levels.{made_by_stat, made_in_arms, made_in_stats, made_in_block}
@@ -59,14 +59,18 @@ mutual
 
   pub grows_field : (x : Field) (cs : List Const) → Grows cs (of_field x cs)
   grows_field (Item e) cs = grows_exp e cs
-  grows_field (Keyed line e d) cs = grows_then cs (of_exp e cs) (of_exp d (of_exp e cs)) (grows_exp e cs) (grows_exp d (of_exp e cs))
+  grows_field (Keyed line e d) cs =
+      let named = with_any (any_constant d) (of_exp e cs) in
+      grows_then cs named (of_exp d named) (grows_then cs (of_exp e cs) named (grows_exp e cs) (grows_any (any_constant d) (of_exp e cs))) (grows_exp d named)
 
 mutual
   pub grows_stat : (x : Stat) (cs : List Const) → Grows cs (of_stat x cs)
   grows_stat (Empty line) cs = grows_none cs
   grows_stat (Local line names es) cs = grows_exps es cs
   grows_stat (LocalFunction line name body) cs = grows_none cs
-  grows_stat (Assign line ts es) cs = grows_then cs (of_exps ts cs) (of_exps es (of_exps ts cs)) (grows_exps ts cs) (grows_exps es (of_exps ts cs))
+  grows_stat (Assign line ts es) cs =
+      let named = with_any (stored_constant ts es) (of_exps ts cs) in
+      grows_then cs named (of_exps es named) (grows_then cs (of_exps ts cs) named (grows_exps ts cs) (grows_any (stored_constant ts es) (of_exps ts cs))) (grows_exps es named)
   grows_stat (CallStat line e) cs = grows_exp e cs
   grows_stat (Do line b) cs = grows_block b cs
   grows_stat (While line e b) cs = grows_then cs (of_exp e cs) (of_block b (of_exp e cs)) (grows_exp e cs) (grows_block b (of_exp e cs))

@@ -1,18 +1,17 @@
 -- Pieces that jump. A function's code is short, so how far they jump fits its field; this is known once the code is at its place.
-use Rattle.std.proofs.Common.{◌≡◌, ℕ, ◌+◌, ◌-◌, ◌<◌, ◌^◌, lit<, Bool, List, [], ◌∷◌, length, refl, arith, length-append}
+use Rattle.std.proofs.Common.{◌≡◌, ℕ, ◌+◌, ◌-◌, ◌<◌, ◌^◌, Bool, List, [], ◌∷◌, length, refl, arith}
 use Rattle.std.proofs.lemmas.Option.{slice_get_within}
 use Rattle.code_core.specs.declared.opcode.Opcode.{Opcode}
-use Rattle.code_core.specs.declared.opcode.Opcode.TheVariants.{Jmp, Test}
+use Rattle.code_core.specs.declared.opcode.Opcode.TheVariants.{Jmp}
 use Rattle.code_core.specs.Instruction.{abc, op_ax}
 use Rattle.code_core.specs.Prototype.{Prototype}
 use Rattle.code_core.proofs.FieldLemmas.{opcode_of-abc, opcode_of-ax}
 use Rattle.code_of.specs.Coded.{Coded, jump_over, jump_back}
-use Rattle.code_of.specs.Expressions.{either_code}
-use Rattle.code_checked.proofs.Pieces.{Seam, closed, Land, Piece, both, supposing}
+use Rattle.code_checked.proofs.Pieces.{Seam, closed, Land, Piece, supposing}
 use Rattle.code_checked.proofs.Units.{Single, one_jump, leaves_none, begins_none}
-use Rattle.code_checked.proofs.Words.{ax_fits, IsFirst, first_test}
+use Rattle.code_checked.proofs.Words.{ax_fits, IsFirst}
 use Rattle.code_checked.proofs.Loads.{Whole}
-use Rattle.code_checked.proofs.Seams.{lands_over, lands_back, ending}
+use Rattle.code_checked.proofs.Seams.{lands_over, lands_back}
 use Rattle.code_checked.proofs.Operators.{test_piece}
 
 module _ (p : Prototype) where
@@ -67,17 +66,3 @@ module _ (p : Prototype) where
     ends = (leaves_none Jmp (op_ax Jmp (16777215 + n)) (opcode_of-ax Jmp (16777215 + n)) refl, begins_none Jmp Jmp (op_ax Jmp (16777215 + n)) (opcode_of-ax Jmp (16777215 + n)) refl);
     kept = λ h. (test_piece p {H = H} op first a b k n pc q line af bf (short h) e to).kept h;
   }
-
-  -- the second operand, or past it: a jump to the end
-  pub either_piece : {H : Type 0} (decides : Bool) (first second : List Coded) (t line pc : ℕ) → Whole p → t < 2 ^ 8
-      → Piece p (H × (length (either_code decides first second t line) < 2 ^ 24) × Land p (pc + length (either_code decides first second t line))) closed closed pc first
-      → Piece p (H × (length (either_code decides first second t line) < 2 ^ 24) × Land p (pc + length (either_code decides first second t line))) closed closed (pc + length first + 2) second
-      → Piece p H closed closed pc (either_code decides first second t line)
-  either_piece {H} decides first second t line pc W tf a b =
-      let x : Coded = (abc Test t 0 0 decides, line) in
-      let y : Coded = jump_over (length second) line in
-      let sum = length-append first (x ∷ y ∷ second) in
-      let all : ℕ = length (either_code decides first second t line) in
-      let G : Type 0 = H × (all < 2 ^ 24) × Land p (pc + all) in
-      let inner : Piece p G closed closed pc (either_code decides first second t line) = both p a (both p (test_over Test (first_test p) t 0 decides (length second) (pc + length first) (pc + all) line tf (lit< tt) (λ h. let s = h.1 in omega (arith, s, sum)) (omega (arith, sum)) (λ h. h.2)) b) in
-      shortly W (ending p (pc + all) refl (supposing p (λ h. (h.0.0, h.0.1, h.1)) inner))

@@ -11,7 +11,9 @@ mod Growing
 mod Lists
 mod ExpForms
 mod KeyedFields
+mod ChainForms
 mod Jumping
+mod TestForms
 mod Exps
 mod Lowering
 mod Conditions

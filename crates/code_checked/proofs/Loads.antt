@@ -214,15 +214,28 @@ module _ (p : Prototype) where
     still = λ pc. refl;
   }
 
-  set_index : (r n v : ℕ) → r < 2 ^ 8 → n < 2 ^ 8 → v < 2 ^ 8 → Plain p closed closed (abc SetI r n v false)
-  set_index r n v rf nf vf = record {
+  -- a value that is a constant of its store is in the table
+  abbrev pub ValueThere : (flag : Bool) → (v : ℕ) → Type 0
+  ValueThere true v = (entry : Const) × (slice_get p.own.constants v ≡ Some entry)
+  ValueThere false v = Unit {0}
+
+  value_used : (flag : Bool) (v : ℕ) → ValueThere flag v → list_all (is_used p) (if flag then (anything, v) ∷ [] else []) ≡ true
+  value_used true v value = constant_test anything v value.0 value.1 refl
+  value_used false v value = refl
+
+  both_used : (flag : Bool) (n v : ℕ) (entry : Const) → slice_get p.own.constants n ≡ Some entry → constant_is name entry ≡ true → ValueThere flag v
+      → list_all (is_used p) ((name, n) ∷ (if flag then (anything, v) ∷ [] else [])) ≡ true
+  both_used flag n v entry is h value = ap₂ (λ a b. a && b) (ap (there (constant_is name)) is ∙ h) (value_used flag v value)
+
+  set_index : (flag : Bool) (r n v : ℕ) → r < 2 ^ 8 → n < 2 ^ 8 → v < 2 ^ 8 → ValueThere flag v → Plain p closed closed (abc SetI r n v flag)
+  set_index flag r n v rf nf vf value = record {
     single = record {
       opcode = SetI;
-      is = opcode_of-abc SetI r n v false;
+      is = opcode_of-abc SetI r n v flag;
       whole = refl;
-      fits = abc_fits SetI r n v false rf nf vf;
+      fits = abc_fits SetI r n v flag rf nf vf;
       alone = refl;
-      constant = λ extra. ap (λ b. list_all (is_used p) (if b then (anything, c_of (abc SetI r n v false)) ∷ [] else [])) (k_of-abc SetI r n v false rf);
+      constant = λ extra. ap₂ (λ b c. list_all (is_used p) (if b then (anything, c) ∷ [] else [])) (k_of-abc SetI r n v flag rf) (c_of-abc SetI r n v flag rf nf vf) ∙ value_used flag v value;
       upvalue = refl;
       inner = λ pc here. refl;
       half = refl;
@@ -233,16 +246,17 @@ module _ (p : Prototype) where
     still = λ pc. refl;
   }
 
-  set_name : (r n v : ℕ) (text : List ℕ) → r < 2 ^ 8 → n < 2 ^ 8 → v < 2 ^ 8 → n ≡ number_in p.own.constants (StrConst text) → IsIn p.own.constants (StrConst text) → Plain p closed closed (abc SetField r n v false)
-  set_name r n v text rf nf vf e i = record {
+  set_name : (flag : Bool) (r n v : ℕ) (text : List ℕ) → r < 2 ^ 8 → n < 2 ^ 8 → v < 2 ^ 8 → ValueThere flag v → n ≡ number_in p.own.constants (StrConst text) → IsIn p.own.constants (StrConst text) → Plain p closed closed (abc SetField r n v flag)
+  set_name flag r n v text rf nf vf value e i = record {
     single = record {
       opcode = SetField;
-      is = opcode_of-abc SetField r n v false;
+      is = opcode_of-abc SetField r n v flag;
       whole = refl;
-      fits = abc_fits SetField r n v false rf nf vf;
+      fits = abc_fits SetField r n v flag rf nf vf;
       alone = refl;
-      constant = λ extra. ap₂ (λ b k. list_all (is_used p) ((name, b) ∷ (if k then (anything, c_of (abc SetField r n v false)) ∷ [] else []))) (b_of-abc SetField r n v false rf nf) (k_of-abc SetField r n v false rf)
-          ∙ constant_test name n i.entry (ap (slice_get p.own.constants) e ∙ i.there) (is_name text i.entry i.alike);
+      constant = λ extra. ap₂ (λ b k. list_all (is_used p) ((name, b) ∷ (if k then (anything, c_of (abc SetField r n v flag)) ∷ [] else []))) (b_of-abc SetField r n v flag rf nf) (k_of-abc SetField r n v flag rf)
+          ∙ ap (λ c. list_all (is_used p) ((name, n) ∷ (if flag then (anything, c) ∷ [] else []))) (c_of-abc SetField r n v flag rf nf vf)
+          ∙ both_used flag n v i.entry (ap (slice_get p.own.constants) e ∙ i.there) (is_name text i.entry i.alike) value;
       upvalue = refl;
       inner = λ pc here. refl;
       half = refl;
@@ -253,18 +267,19 @@ module _ (p : Prototype) where
     still = λ pc. refl;
   }
 
-  set_global : (u n v : ℕ) (text : List ℕ) → u < 2 ^ 8 → n < 2 ^ 8 → v < 2 ^ 8 → u < length p.own.upvalues → n ≡ number_in p.own.constants (StrConst text) → IsIn p.own.constants (StrConst text)
-      → Plain p closed closed (abc SetTabUp u n v false)
-  set_global u n v text uf nf vf h e i = record {
+  set_global : (flag : Bool) (u n v : ℕ) (text : List ℕ) → u < 2 ^ 8 → n < 2 ^ 8 → v < 2 ^ 8 → ValueThere flag v → u < length p.own.upvalues → n ≡ number_in p.own.constants (StrConst text) → IsIn p.own.constants (StrConst text)
+      → Plain p closed closed (abc SetTabUp u n v flag)
+  set_global flag u n v text uf nf vf value h e i = record {
     single = record {
       opcode = SetTabUp;
-      is = opcode_of-abc SetTabUp u n v false;
+      is = opcode_of-abc SetTabUp u n v flag;
       whole = refl;
-      fits = abc_fits SetTabUp u n v false uf nf vf;
+      fits = abc_fits SetTabUp u n v flag uf nf vf;
       alone = refl;
-      constant = λ extra. ap₂ (λ b k. list_all (is_used p) ((name, b) ∷ (if k then (anything, c_of (abc SetTabUp u n v false)) ∷ [] else []))) (b_of-abc SetTabUp u n v false uf nf) (k_of-abc SetTabUp u n v false uf)
-          ∙ constant_test name n i.entry (ap (slice_get p.own.constants) e ∙ i.there) (is_name text i.entry i.alike);
-      upvalue = ap (λ a. list_all (λ u. nat_lt u (length p.own.upvalues)) (a ∷ [])) (a_of-abc SetTabUp u n v false uf) ∙ upvalue_test u h;
+      constant = λ extra. ap₂ (λ b k. list_all (is_used p) ((name, b) ∷ (if k then (anything, c_of (abc SetTabUp u n v flag)) ∷ [] else []))) (b_of-abc SetTabUp u n v flag uf nf) (k_of-abc SetTabUp u n v flag uf)
+          ∙ ap (λ c. list_all (is_used p) ((name, n) ∷ (if flag then (anything, c) ∷ [] else []))) (c_of-abc SetTabUp u n v flag uf nf vf)
+          ∙ both_used flag n v i.entry (ap (slice_get p.own.constants) e ∙ i.there) (is_name text i.entry i.alike) value;
+      upvalue = ap (λ a. list_all (λ u. nat_lt u (length p.own.upvalues)) (a ∷ [])) (a_of-abc SetTabUp u n v flag uf) ∙ upvalue_test u h;
       inner = λ pc here. refl;
       half = refl;
       gives = refl;
@@ -274,15 +289,15 @@ module _ (p : Prototype) where
     still = λ pc. refl;
   }
 
-  set_table : (r k v : ℕ) → r < 2 ^ 8 → k < 2 ^ 8 → v < 2 ^ 8 → Plain p closed closed (abc SetTable r k v false)
-  set_table r k v rf kf vf = record {
+  set_table : (flag : Bool) (r k v : ℕ) → r < 2 ^ 8 → k < 2 ^ 8 → v < 2 ^ 8 → ValueThere flag v → Plain p closed closed (abc SetTable r k v flag)
+  set_table flag r k v rf kf vf value = record {
     single = record {
       opcode = SetTable;
-      is = opcode_of-abc SetTable r k v false;
+      is = opcode_of-abc SetTable r k v flag;
       whole = refl;
-      fits = abc_fits SetTable r k v false rf kf vf;
+      fits = abc_fits SetTable r k v flag rf kf vf;
       alone = refl;
-      constant = λ extra. ap (λ b. list_all (is_used p) (if b then (anything, c_of (abc SetTable r k v false)) ∷ [] else [])) (k_of-abc SetTable r k v false rf);
+      constant = λ extra. ap₂ (λ b c. list_all (is_used p) (if b then (anything, c) ∷ [] else [])) (k_of-abc SetTable r k v flag rf) (c_of-abc SetTable r k v flag rf kf vf) ∙ value_used flag v value;
       upvalue = refl;
       inner = λ pc here. refl;
       half = refl;
@@ -335,19 +350,19 @@ module _ (p : Prototype) where
 
   -- pieces
 
-  pub set_table_piece : {H : Type 0} {pc : ℕ} (r k v line : ℕ) → r < 2 ^ 8 → k < 2 ^ 8 → v < 2 ^ 8 → Piece p H closed closed pc (with_abc SetTable r k v line ∷ [])
-  set_table_piece {H} {pc} r k v line rf kf vf = one p closed closed (abc SetTable r k v false) line (set_table r k v rf kf vf)
+  pub set_table_piece : {H : Type 0} {pc : ℕ} (flag : Bool) (r k v line : ℕ) → r < 2 ^ 8 → k < 2 ^ 8 → v < 2 ^ 8 → ValueThere flag v → Piece p H closed closed pc ((abc SetTable r k v flag, line) ∷ [])
+  set_table_piece {H} {pc} flag r k v line rf kf vf value = one p closed closed (abc SetTable r k v flag) line (set_table flag r k v rf kf vf value)
 
-  pub set_index_piece : {H : Type 0} {pc : ℕ} (r n v line : ℕ) → r < 2 ^ 8 → n < 2 ^ 8 → v < 2 ^ 8 → Piece p H closed closed pc (with_abc SetI r n v line ∷ [])
-  set_index_piece {H} {pc} r n v line rf nf vf = one p closed closed (abc SetI r n v false) line (set_index r n v rf nf vf)
+  pub set_index_piece : {H : Type 0} {pc : ℕ} (flag : Bool) (r n v line : ℕ) → r < 2 ^ 8 → n < 2 ^ 8 → v < 2 ^ 8 → ValueThere flag v → Piece p H closed closed pc ((abc SetI r n v flag, line) ∷ [])
+  set_index_piece {H} {pc} flag r n v line rf nf vf value = one p closed closed (abc SetI r n v flag) line (set_index flag r n v rf nf vf value)
 
-  pub set_name_piece : {H : Type 0} {pc : ℕ} (r n v line : ℕ) (text : List ℕ) → r < 2 ^ 8 → n < 2 ^ 8 → v < 2 ^ 8 → n ≡ number_in p.own.constants (StrConst text) → IsIn p.own.constants (StrConst text)
-      → Piece p H closed closed pc (with_abc SetField r n v line ∷ [])
-  set_name_piece {H} {pc} r n v line text rf nf vf e i = one p closed closed (abc SetField r n v false) line (set_name r n v text rf nf vf e i)
+  pub set_name_piece : {H : Type 0} {pc : ℕ} (flag : Bool) (r n v line : ℕ) (text : List ℕ) → r < 2 ^ 8 → n < 2 ^ 8 → v < 2 ^ 8 → ValueThere flag v → n ≡ number_in p.own.constants (StrConst text) → IsIn p.own.constants (StrConst text)
+      → Piece p H closed closed pc ((abc SetField r n v flag, line) ∷ [])
+  set_name_piece {H} {pc} flag r n v line text rf nf vf value e i = one p closed closed (abc SetField r n v flag) line (set_name flag r n v text rf nf vf value e i)
 
-  pub set_global_piece : {H : Type 0} {pc : ℕ} (u n v line : ℕ) (text : List ℕ) → u < 2 ^ 8 → n < 2 ^ 8 → v < 2 ^ 8 → u < length p.own.upvalues → n ≡ number_in p.own.constants (StrConst text) → IsIn p.own.constants (StrConst text)
-      → Piece p H closed closed pc (with_abc SetTabUp u n v line ∷ [])
-  set_global_piece {H} {pc} u n v line text uf nf vf h e i = one p closed closed (abc SetTabUp u n v false) line (set_global u n v text uf nf vf h e i)
+  pub set_global_piece : {H : Type 0} {pc : ℕ} (flag : Bool) (u n v line : ℕ) (text : List ℕ) → u < 2 ^ 8 → n < 2 ^ 8 → v < 2 ^ 8 → ValueThere flag v → u < length p.own.upvalues → n ≡ number_in p.own.constants (StrConst text) → IsIn p.own.constants (StrConst text)
+      → Piece p H closed closed pc ((abc SetTabUp u n v flag, line) ∷ [])
+  set_global_piece {H} {pc} flag u n v line text uf nf vf value h e i = one p closed closed (abc SetTabUp u n v flag) line (set_global flag u n v text uf nf vf value h e i)
 
   pub get_name_piece : {H : Type 0} {pc : ℕ} (t x n line : ℕ) (text : List ℕ) → t < 2 ^ 8 → x < 2 ^ 8 → n < 2 ^ 8 → n ≡ number_in p.own.constants (StrConst text) → IsIn p.own.constants (StrConst text)
       → Piece p H closed closed pc (with_abc GetField t x n line ∷ [])

@@ -7,6 +7,7 @@ use Rattle.tree_core.specs.Tree.{Block, Falls, Returns, Body, BodyOf, Stats, End
 use Rattle.code_core.specs.declared.proto.Const.{Const}
 use Rattle.code_core.specs.declared.proto.LocVar.{LocVar}
 use Rattle.code_core.specs.Writable.{name_fits, local_fits}
+use Rattle.code_of.specs.declared.leaving.Leaving.{Leaving}
 use Rattle.code_of.specs.Constants.{of_block}
 use Rattle.code_of.specs.Expressions.{made_by, made_in, exps_code}
 use Rattle.code_of.specs.Conditions.{test_code}
@@ -15,7 +16,7 @@ use Rattle.tree_terms.specs.Levels.{level_after}
 use Rattle.code_of.specs.Parts.{past_size, bounds_code, steps_code}
 use Rattle.code_of.specs.Sizes.{stat_size, arms_size, stats_size, block_size, open_size, whole_size}
 use Rattle.code_of.specs.Variables.{variables, names_of, hidden, declared_by, looped, within_stat, within_arms, within_stats, within_block, within_open, within_whole}
-use Rattle.code_of.specs.CodeOf.{back_field, body_code, variables_of}
+use Rattle.code_of.specs.CodeOf.{leaving_of, body_code, variables_of}
 use Rattle.code_checked.specs.Written.{NamesFit, DeclaredFit, StatIsWritten, ArmsAreWritten, StatsAreWritten, BlockIsWritten, BodyIsWritten}
 use Rattle.code_of.proofs.Sizes.{whole_sized, function_some}
 
@@ -47,7 +48,7 @@ declared_names : (names : List Declared) → DeclaredFit names → NamesFit (nam
 declared_names [] w = tt
 declared_names (d ∷ names) w = (w.0, declared_names names w.1.1)
 
-module _ (cs : List Const) (back n : ℕ) where
+module _ (cs : List Const) (back : Leaving) (n : ℕ) where
   looped_fit : (k : ℕ) (names : List Name) (place size end : ℕ) → NamesFit names → place + 1 + size ≤ end → end ≤ n → LocalsFit n (looped cs back k names place size end)
   looped_fit k names place size end w le few =
       locals_both n (hidden k place end) _ (hidden_fit n k place end (omega (arith, le, few)) few) (variables_fit n names (place + 1) (place + 1 + size) w (omega (arith, le, few)) (omega (arith, le, few)))
@@ -119,7 +120,7 @@ module _ (cs : List Const) (back n : ℕ) where
     open_fit (Falls ss tokens line) closing t j pc end w le few = stats_fit ss closing t j pc end w.1 le few
     open_fit (Returns ss es tokens line) closing t j pc end w le few = stats_fit ss closing t j pc end w.1.0 (omega (arith, le)) few
 
-whole_fit : (cs : List Const) (back n : ℕ) (block : Block) (params j pc : ℕ) → BlockIsWritten block → pc + whole_size cs back block params j ≤ n → LocalsFit n (within_whole cs back block params j pc)
+whole_fit : (cs : List Const) (back : Leaving) (n : ℕ) (block : Block) (params j pc : ℕ) → BlockIsWritten block → pc + whole_size cs back block params j ≤ n → LocalsFit n (within_whole cs back block params j pc)
 whole_fit cs back n (Falls ss tokens line) params j pc w le = stats_fit cs back n ss false params j pc (pc + whole_size cs back (Falls ss tokens line) params j) w.1 (omega (arith, le)) le
 whole_fit cs back n (Returns ss es tokens line) params j pc w le = stats_fit cs back n ss false params j pc (pc + whole_size cs back (Returns ss es tokens line) params j) w.1.0 (omega (arith, le)) le
 
@@ -127,14 +128,14 @@ pub body_locals : (body : Body) → BodyIsWritten body → length (body_code bod
 body_locals (BodyOf params false inner ups line) w few =
     let n = length (body_code (BodyOf params false inner ups line)) in
     let cs = of_block inner [] in
-    let back = back_field false (length params) in
+    let back = leaving_of false (length params) inner in
     let size = whole_sized cs back inner (length params) 0 in
     all_locals n (variables_of (BodyOf params false inner ups line)) few
     (locals_both n (variables params 0 n) _ (variables_fit n params 0 n w.1.0 (omega arith) (omega arith)) (whole_fit cs back n inner (length params) 0 0 w.1.1.1 (omega (arith, size))))
 body_locals (BodyOf params true inner ups line) w few =
     let n = length (body_code (BodyOf params true inner ups line)) in
     let cs = of_block inner [] in
-    let back = back_field true (length params) in
+    let back = leaving_of true (length params) inner in
     let size = whole_sized cs back inner (length params) 1 in
     all_locals n (variables_of (BodyOf params true inner ups line)) few
     (locals_both n (variables params 0 n) _ (variables_fit n params 0 n w.1.0 (omega arith) (omega arith)) (whole_fit cs back n inner (length params) 0 1 w.1.1.1 (omega (arith, size))))

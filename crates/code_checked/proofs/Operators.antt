@@ -13,9 +13,9 @@ use Rattle.code_core.specs.Fields.{events}
 use Rattle.code_core.specs.Prototype.{Prototype}
 use Rattle.code_core.proofs.FieldLemmas.{opcode_of-abc, opcode_of-ax, c_of-abc}
 use Rattle.code_of.specs.Coded.{with_abc, jump_over}
-use Rattle.code_of.specs.Operands.{greatest, numeral_of}
+use Rattle.code_of.specs.Operands.{operand_numeral}
 use Rattle.code_of.specs.Operators.{prefix_code, arithmetic_code, truth_code, operator_code, sum_code, number_code}
-use Rattle.code_of.proofs.Operands.{numeral_is, numeral_none}
+use Rattle.code_of.proofs.Operands.{numeral_is, numeral_none, shift_is}
 use Rattle.code_checked.proofs.Pieces.{closed, Land, Piece}
 use Rattle.code_checked.proofs.Units.{Single, one_jump, two, two_jump}
 use Rattle.code_checked.proofs.Words.{abc_fits, ax_fits, pair, simple, IsFirst, first_add, first_sub, first_mul, first_mod, first_i_div, first_b_and, first_b_or, first_b_xor, first_shl, first_shr, first_eq, first_lt, first_le, first_add_i, first_shr_i, first_eq_i, first_lt_i, first_le_i, first_gt_i, first_ge_i, last_event, last_number_event, last_jump, simple_unm, simple_b_not, simple_not, simple_len, simple_concat, simple_load_true}
@@ -109,9 +109,10 @@ module _ (p : Prototype) where
   number_truth : {H : Type 0} {pc : ℕ} (op : Opcode) → IsFirst p op Jmp → (x n : ℕ) (k : Bool) (t line : ℕ) → n ≤ 128 → x < 2 ^ 8 → t < 2 ^ 8 → Piece p H closed closed pc (truth_code op x (n + 127) k t line)
   number_truth op first x n k t line small xf tf = truth_piece op first x (n + 127) k t line xf (omega (arith, small)) tf
 
-  pub number_piece : {H : Type 0} {pc : ℕ} (op : BinOp) (d : Exp) (x n t line : ℕ) → numeral_of d (greatest op) ≡ Some n → x < 2 ^ 8 → t < 2 ^ 8 → Piece p H closed closed pc (number_code op x n t line)
+  pub number_piece : {H : Type 0} {pc : ℕ} (op : BinOp) (d : Exp) (x n t line : ℕ) → operand_numeral op d ≡ Some n → x < 2 ^ 8 → t < 2 ^ 8 → Piece p H closed closed pc (number_code op x n t line)
   number_piece Plus d x n t line e xf tf = let small = (numeral_is d 128 n e).small in sum_piece AddI (first_add_i p) (n + 127) 6 x n t line refl (lit< tt) (omega (arith, small)) small xf tf
   number_piece Minus d x n t line e xf tf = let small = (numeral_is d 127 n e).small in sum_piece AddI (first_add_i p) (127 - n) 7 x n t line refl (lit< tt) (omega arith) (omega (arith, small)) xf tf
+  number_piece ShiftLeft d x n t line e xf tf = let small = (shift_is d n e).0.small in sum_piece ShrI (first_shr_i p) (127 - n) 16 x n t line refl (lit< tt) (omega arith) (omega (arith, small)) xf tf
   number_piece ShiftRight d x n t line e xf tf = let small = (numeral_is d 128 n e).small in sum_piece ShrI (first_shr_i p) (n + 127) 17 x n t line refl (lit< tt) (omega (arith, small)) small xf tf
   number_piece Equal d x n t line e xf tf = number_truth EqI (first_eq_i p) x n true t line (numeral_is d 128 n e).small xf tf
   number_piece Ne d x n t line e xf tf = number_truth EqI (first_eq_i p) x n false t line (numeral_is d 128 n e).small xf tf
@@ -125,5 +126,4 @@ module _ (p : Prototype) where
   number_piece Band d x n t line e xf tf = absurd (numeral_none d n e)
   number_piece Bor d x n t line e xf tf = absurd (numeral_none d n e)
   number_piece Bxor d x n t line e xf tf = absurd (numeral_none d n e)
-  number_piece ShiftLeft d x n t line e xf tf = absurd (numeral_none d n e)
   number_piece Join d x n t line e xf tf = absurd (numeral_none d n e)

@@ -15,7 +15,7 @@ use Rattle.code_core.proofs.FieldLemmas.{opcode_of-abc}
 use Rattle.code_of.specs.Coded.{Coded, words}
 use Rattle.code_of.specs.Constants.{of_block}
 use Rattle.code_of.specs.Statements.{whole_code}
-use Rattle.code_of.specs.CodeOf.{back_field, body_code}
+use Rattle.code_of.specs.CodeOf.{leaving_of, body_code}
 use Rattle.code_checked.specs.Near.{BlockIsNear, FunctionIsNear}
 use Rattle.code_checked.proofs.Pieces.{closed, returned, Ends, Land, Has, Kept, AllKept, behind_front}
 use Rattle.code_checked.proofs.Units.{leaves_none, begins_none}
@@ -79,14 +79,14 @@ code_kept : (source : Option (List ℕ)) (params : List Name) (vararg : Bool) (i
     → BlockIsNear source (function source params vararg inner ups line) inner false (length params) 0 → IsKept (function source params vararg inner ups line) (body_code (BodyOf params vararg inner ups line))
 code_kept source params false inner ups line near h =
     let p = function source params false inner ups line in
-    let code = whole_code (of_block inner []) (back_field false (length params)) inner (length params) 0 in
+    let code = whole_code (of_block inner []) (leaving_of false (length params) inner) inner (length params) 0 in
     let piece = whole_piece source params false inner ups line near inner 0 h (grows_none (of_block inner [])) refl in
     let has : Has p 0 code = has_all p [] code refl (λ pc le. and_false (pc == 0)) in
     let land : Land p 0 = record { there = behind_front p closed returned 0 code piece.starts piece.ends has tt; front = tt } in
     record { is = refl; kept = piece.kept land has tt tt; ends = piece.ends }
 code_kept source params true inner ups line near h =
     let p = function source params true inner ups line in
-    let code = whole_code (of_block inner []) (back_field true (length params)) inner (length params) 1 in
+    let code = whole_code (of_block inner []) (leaving_of true (length params) inner) inner (length params) 1 in
     let piece = whole_piece source params true inner ups line near inner 1 h (grows_none (of_block inner [])) refl in
     let w = abc VarArgPrep (length params) 0 0 false in
     let is = opcode_of-abc VarArgPrep (length params) 0 0 false in

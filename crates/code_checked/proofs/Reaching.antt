@@ -53,8 +53,8 @@ module _ (p : Prototype) where
   jump_ends : (w : ℕ) → Leaves closed (op_ax Jmp w)
   jump_ends w = (leaves_none Jmp (op_ax Jmp w) (opcode_of-ax Jmp w) refl, begins_none Jmp Jmp (op_ax Jmp w) (opcode_of-ax Jmp w) refl)
 
-  jump_piece : {H : Type 0} (W : Whole p) (x : Landing) (pc line : ℕ) → (H → Stands x) → Piece p H closed closed pc (jump_code x pc line)
-  jump_piece {H} W x pc line to = within p W (late (record { opcode = Close; is = opcode_of-abc Close x.level 0 0 false; alone = refl }) (ends_by (nat_le (pc + 2) x.place)) (λ h. both p (closing h.0) (jumping h.0)))
+  closing_piece : {H : Type 0} (W : Whole p) (x : Landing) (pc line : ℕ) → (H → Stands x) → Piece p H closed closed pc (jump_code true x pc line)
+  closing_piece {H} W x pc line to = within p W (late (record { opcode = Close; is = opcode_of-abc Close x.level 0 0 false; alone = refl }) (ends_by (nat_le (pc + 2) x.place)) (λ h. both p (closing h.0) (jumping h.0)))
     where
       K : Type 0
       K = H × (pc + 2 < 2 ^ 24)
@@ -81,7 +81,35 @@ module _ (p : Prototype) where
       jumping : H → Piece p (H × (pc + 2 < 2 ^ 24)) closed closed (pc + 1) (cond (nat_le (pc + 2) x.place) (jump_over (x.place - (pc + 2)) line) (jump_back (pc + 2 - x.place) line) ∷ [])
       jumping h = by (nat_le (pc + 2) x.place) refl h
 
+  -- a jump that closes nothing
+  alone_piece : {H : Type 0} (W : Whole p) (x : Landing) (pc line : ℕ) → (H → Stands x) → Piece p H closed closed pc (jump_code false x pc line)
+  alone_piece {H} W x pc line to = within p W (late (starts_by (nat_le (pc + 1) x.place)) (ends_by (nat_le (pc + 1) x.place)) (λ h. by (nat_le (pc + 1) x.place) refl h.0))
+    where
+      starts_by : (b : Bool) → Starts closed (cond b (jump_over (x.place - (pc + 1)) line) (jump_back (pc + 1 - x.place) line) ∷ [])
+      starts_by true = record { opcode = Jmp; is = opcode_of-ax Jmp (16777215 + (x.place - (pc + 1))); alone = refl }
+      starts_by false = record { opcode = Jmp; is = opcode_of-ax Jmp (16777215 - (pc + 1 - x.place)); alone = refl }
+
+      ends_by : (b : Bool) → Ends closed closed (cond b (jump_over (x.place - (pc + 1)) line) (jump_back (pc + 1 - x.place) line) ∷ [])
+      ends_by true = jump_ends (16777215 + (x.place - (pc + 1)))
+      ends_by false = jump_ends (16777215 - (pc + 1 - x.place))
+
+      by : (b : Bool) → nat_le (pc + 1) x.place ≡ b → H → Piece p (H × (pc + 1 < 2 ^ 24)) closed closed pc (cond b (jump_over (x.place - (pc + 1)) line) (jump_back (pc + 1 - x.place) line) ∷ [])
+      by true e h =
+          let s = to h in
+          let far = slice_get_within p.own.code x.place s.land.there.word s.land.there.here in
+          let short = W.short in
+          let le = leb-true (pc + 1) x.place e in
+          over_piece p (x.place - (pc + 1)) pc x.place line (λ k. omega (arith, far, short)) (omega (arith, le)) (λ k. s.land)
+      by false e h =
+          let s = to h in
+          let lt = leb-false (pc + 1) x.place e in
+          back_piece p (pc + 1 - x.place) pc x.place line (λ k. let f = k.1 in omega (arith, f)) (omega (arith, lt)) (λ k. s.land)
+
+  jump_piece : {H : Type 0} (closes : Bool) (W : Whole p) (x : Landing) (pc line : ℕ) → (H → Stands x) → Piece p H closed closed pc (jump_code closes x pc line)
+  jump_piece true W x pc line to = closing_piece W x pc line to
+  jump_piece false W x pc line to = alone_piece W x pc line to
+
   -- where nothing is found the jump leads to the beginning
-  pub leads_piece : {H : Type 0} (W : Whole p) (o : Option Landing) (pc line : ℕ) → (H → Land p 0) → (H → MayStand o) → Piece p H closed closed pc (leads o pc line)
-  leads_piece W None pc line begin to = jump_piece W (record { place = 0; level = 0 }) pc line (λ h. record { land = begin h; level = lit< tt })
-  leads_piece W (Some x) pc line begin to = jump_piece W x pc line to
+  pub leads_piece : {H : Type 0} (closes : Bool) (W : Whole p) (o : Option Landing) (pc line : ℕ) → (H → Land p 0) → (H → MayStand o) → Piece p H closed closed pc (leads closes o pc line)
+  leads_piece closes W None pc line begin to = jump_piece closes W (record { place = 0; level = 0 }) pc line (λ h. record { land = begin h; level = lit< tt })
+  leads_piece closes W (Some x) pc line begin to = jump_piece closes W x pc line to

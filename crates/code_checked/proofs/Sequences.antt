@@ -25,8 +25,8 @@ level_fits : (b : Bool) (outer t : ℕ) → outer ≤ t → IsRegister t → con
 level_fits true outer t le r = omega (arith, le, r)
 level_fits false outer t le r = omega (arith, r)
 
-module _ (p : Prototype) (W : Whole p) (source : Option (List ℕ)) where
-  no_stats : StatsLaw p W source EndStats
+module _ (p : Prototype) (W : Whole p) (source : Option (List ℕ)) (closes : Bool) where
+  no_stats : StatsLaw p W source closes EndStats
   no_stats G falls closing outer t j pc passed reach cs rest to had near r le g fs = record { piece = nothing p; ahead = λ has front behind. tt }
 
   -- behind a statement there is room for a register still
@@ -50,20 +50,20 @@ module _ (p : Prototype) (W : Whole p) (source : Option (List ℕ)) where
 
   -- the labels from a statement on
   ahead_stand : (s : Stat) (ss : Stats) (falls closing : Bool) (outer t j pc : ℕ) → Land p pc → outer ≤ t → IsRegister t
-      → AllStand p (labels_ahead p.own.constants (back p W source) ss falls (closing_after s closing) outer (level_after s t) (j + made_by_stat s) (pc + stat_size p.own.constants (back p W source) s closing t j))
-      → AllStand p (labels_ahead p.own.constants (back p W source) (MoreStats s ss) falls closing outer t j pc)
+      → AllStand p (labels_ahead p.own.constants (back p W source closes) ss falls (closing_after s closing) outer (level_after s t) (j + made_by_stat s) (pc + stat_size p.own.constants (back p W source closes) s closing t j))
+      → AllStand p (labels_ahead p.own.constants (back p W source closes) (MoreStats s ss) falls closing outer t j pc)
   ahead_stand (Label line name) ss falls closing outer t j pc land le r h =
       let e : j + 0 ≡ j = omega arith in
       let d : pc + 0 ≡ pc = omega arith in (
         record { land = land; level = level_fits (falls && are_void ss) outer t le r },
-        subst (λ k. AllStand p (labels_ahead p.own.constants (back p W source) ss falls closing outer t k pc)) e (subst (λ q. AllStand p (labels_ahead p.own.constants (back p W source) ss falls closing outer t (j + 0) q)) d h),
+        subst (λ k. AllStand p (labels_ahead p.own.constants (back p W source closes) ss falls closing outer t k pc)) e (subst (λ q. AllStand p (labels_ahead p.own.constants (back p W source closes) ss falls closing outer t (j + 0) q)) d h),
       )
   ahead_stand _ ss falls closing outer t j pc land le r h = h
 
-  more_stats : (s : Stat) (ss : Stats) → StatLaw p W source s → StatsLaw p W source ss → StatsLaw p W source (MoreStats s ss)
+  more_stats : (s : Stat) (ss : Stats) → StatLaw p W source closes s → StatsLaw p W source closes ss → StatsLaw p W source closes (MoreStats s ss)
   more_stats s ss law laws G falls closing outer t j pc passed reach cs rest to had near r le g fs =
       let cst = p.own.constants in
-      let b = back p W source in
+      let b = back p W source closes in
       let k = j + made_by_stat s in
       let place = pc + stat_size cst b s closing t j in
       let ahead = labels_ahead cst b ss falls (closing_after s closing) outer (level_after s t) k place in
@@ -77,7 +77,7 @@ module _ (p : Prototype) (W : Whole p) (source : Option (List ℕ)) where
       law H closing t j pc here cs (from_stats source ss rest)
       (λ h. let q = to h.0 in record { begin = q.begin; labels = all_both p ahead (passed ++ reach.labels) h.1 (all_both p passed reach.labels (had h.0) q.labels); exit = q.exit })
       near.0 r (grows_then first (of_stats ss first) cst (grows_stats ss first) g) fs in
-      let others : Sequence p W source ss H falls (closing_after s closing) outer (level_after s t) k place (passed_after s t pc passed) reach =
+      let others : Sequence p W source closes ss H falls (closing_after s closing) outer (level_after s t) k place (passed_after s t pc passed) reach =
       laws H falls (closing_after s closing) outer (level_after s t) k place (passed_after s t pc passed) reach first rest (λ h. to h.0) (λ h. passed_stand s t pc passed h.2 r (had h.0))
       near.1 (register_after s closing t j near.0 r) (above_after s outer t le) g (after_stat source p s j (from_stats source ss rest) fs) in
       let next : Piece p H closed closed (pc + length code) behind_code = subst (λ q. Piece p H closed closed q behind_code) (sym size) others.piece in
@@ -94,40 +94,40 @@ module _ (p : Prototype) (W : Whole p) (source : Option (List ℕ)) where
         ahead = λ has front behind. let s2 = stand has front behind in ahead_stand s ss falls closing outer t j pc s2.1 le r s2.0;
       }
 
-  label_law : (line : ℕ) (name : Name) → StatLaw p W source (Label line name)
+  label_law : (line : ℕ) (name : Name) → StatLaw p W source closes (Label line name)
   label_law line name G closing t j pc reach cs rest to near r g fs = nothing p
 
   mutual
-    pub stat_law : (s : Stat) → StatLaw p W source s
-    stat_law (Empty line) = empty_law p W source line
-    stat_law (Local line names es) = local_law p W source line names es
-    stat_law (LocalFunction line name body) = local_function_law p W source line name body
-    stat_law (Assign line ts es) = assign_law p W source line ts es
-    stat_law (CallStat line e) = call_law p W source line e
-    stat_law (Do line block) = do_law p W source line block (block_law block)
-    stat_law (While line e block) = while_law p W source line e block (block_law block)
-    stat_law (Repeat line block e) = repeat_law p W source line block e (open_law block)
-    stat_law (If line arms) = if_law p W source line arms (arms_law arms)
-    stat_law (IfElse line arms block) = if_else_law p W source line arms block (arms_law arms) (block_law block)
-    stat_law (NumFor line name from limit block) = num_for_law p W source line name from limit block (block_law block)
-    stat_law (NumForStep line name from limit step block) = num_for_step_law p W source line name from limit step block (block_law block)
-    stat_law (GenFor line names es block) = gen_for_law p W source line names es block (block_law block)
+    pub stat_law : (s : Stat) → StatLaw p W source closes s
+    stat_law (Empty line) = empty_law p W source closes line
+    stat_law (Local line names es) = local_law p W source closes line names es
+    stat_law (LocalFunction line name body) = local_function_law p W source closes line name body
+    stat_law (Assign line ts es) = assign_law p W source closes line ts es
+    stat_law (CallStat line e) = call_law p W source closes line e
+    stat_law (Do line block) = do_law p W source closes line block (block_law block)
+    stat_law (While line e block) = while_law p W source closes line e block (block_law block)
+    stat_law (Repeat line block e) = repeat_law p W source closes line block e (open_law block)
+    stat_law (If line arms) = if_law p W source closes line arms (arms_law arms)
+    stat_law (IfElse line arms block) = if_else_law p W source closes line arms block (arms_law arms) (block_law block)
+    stat_law (NumFor line name from limit block) = num_for_law p W source closes line name from limit block (block_law block)
+    stat_law (NumForStep line name from limit step block) = num_for_step_law p W source closes line name from limit step block (block_law block)
+    stat_law (GenFor line names es block) = gen_for_law p W source closes line names es block (block_law block)
     stat_law (Label line name) = label_law line name
-    stat_law (Goto line name) = goto_law p W source line name
-    stat_law (Break line) = break_law p W source line
+    stat_law (Goto line name) = goto_law p W source closes line name
+    stat_law (Break line) = break_law p W source closes line
 
-    pub arms_law : (arms : Arms) → ArmsLaw p W source arms
-    arms_law EndArms = no_arms p W source
-    arms_law (MoreArms e block arms) = more_arms p W source e block arms (block_law block) (arms_law arms)
+    pub arms_law : (arms : Arms) → ArmsLaw p W source closes arms
+    arms_law EndArms = no_arms p W source closes
+    arms_law (MoreArms e block arms) = more_arms p W source closes e block arms (block_law block) (arms_law arms)
 
-    pub stats_law : (ss : Stats) → StatsLaw p W source ss
+    pub stats_law : (ss : Stats) → StatsLaw p W source closes ss
     stats_law EndStats = no_stats
     stats_law (MoreStats s ss) = more_stats s ss (stat_law s) (stats_law ss)
 
-    pub block_law : (block : Block) → BlockLaw p W source block
-    block_law (Falls ss tokens line) = falls_law p W source ss tokens line (stats_law ss)
-    block_law (Returns ss es tokens line) = returns_law p W source ss es tokens line (stats_law ss)
+    pub block_law : (block : Block) → BlockLaw p W source closes block
+    block_law (Falls ss tokens line) = falls_law p W source closes ss tokens line (stats_law ss)
+    block_law (Returns ss es tokens line) = returns_law p W source closes ss es tokens line (stats_law ss)
 
-    pub open_law : (block : Block) → OpenLaw p W source block
-    open_law (Falls ss tokens line) = open_falls_law p W source ss tokens line (stats_law ss)
-    open_law (Returns ss es tokens line) = open_returns_law p W source ss es tokens line (stats_law ss)
+    pub open_law : (block : Block) → OpenLaw p W source closes block
+    open_law (Falls ss tokens line) = open_falls_law p W source closes ss tokens line (stats_law ss)
+    open_law (Returns ss es tokens line) = open_returns_law p W source closes ss es tokens line (stats_law ss)

@@ -1,6 +1,6 @@
 -- The code of statements without blocks is a piece.
 use Rattle.std.proofs.Common.{◌≡◌, ℕ, zero, suc, ◌+◌, ◌*◌, ◌<◌, ◌≤◌, ◌^◌, lit<, Bool, true, false, cond, List, [], ◌∷◌, length, Option, Some, None, refl, sym, ap, subst, arith}
-use Rattle.std.specs.Prelude.{nat_eq}
+use Rattle.std.specs.Prelude.{nat_eq, nat_lt}
 use Rattle.tree_core.specs.declared.name.Name.{Name}
 use Rattle.tree_core.specs.declared.name.Declared.{Declared}
 use Rattle.tree_core.specs.declared.name.Place.{Place}
@@ -13,30 +13,31 @@ use Rattle.code_core.specs.declared.proto.Const.{Const}
 use Rattle.code_core.specs.declared.proto.Const.TheVariants.{Int as IntConst, Str as StrConst}
 use Rattle.code_core.specs.Prototype.{Prototype, Prototypes, more}
 use Rattle.code_of.specs.Coded.{Coded, with_abc, with_abx}
-use Rattle.code_of.specs.Constants.{with_constant, of_name, of_exp, of_exps, loads}
+use Rattle.code_of.specs.ConstantOperands.{stored_constant}
+use Rattle.code_of.specs.Constants.{with_constant, with_any, of_name, of_exp, of_exps, loads}
 use Rattle.code_of.specs.Expressions.{made_by, made_in, count, ends_open, list_field, exps_code, exp_code}
-use Rattle.code_of.specs.Operands.{local_of, seat, assigned}
-use Rattle.code_of.proofs.Operands.{assigned_is}
+use Rattle.code_of.specs.Operands.{local_of, lone_local, seat, assigned, second_assigned}
+use Rattle.code_of.proofs.Operands.{assigned_is, lone_is, second_is}
 use Rattle.code_of.specs.Stores.{stores_field}
 use Rattle.code_of.proofs.Stores.{stores_field_is}
-use Rattle.code_of.specs.Parts.{marks_code, close_code, captures_local, closure_code, function_code, name_target, target_code, targets_code, name_store, store_code, stores_code, first_direct, first_field, stored_code, store_by, assign_by, assign_code, values_last, call_last, method_last, return_code, kept_code}
+use Rattle.code_of.specs.Parts.{marks_code, close_code, captures_local, closure_code, function_code, name_target, target_code, targets_code, name_store, store_code, stores_code, first_direct, first_field, stored_code, store_by, assign_by, assign_code, returned_by, values_last, call_last, method_last, return_code, kept_code, two_code, first_two, two_by, direct_code}
 use Rattle.code_of.specs.Targets.{waiting_key, text_key, single_store}
 use Rattle.code_of.proofs.Targets.{key_waits, single_store_is}
 use Rattle.code_of.specs.CodeOf.{parts_of, from_exp, from_exps, from_body}
-use Rattle.code_checked.specs.Near.{IsRegister, NameIsNear, AreCaptured, ExpsAreNear, TargetIsNear, TargetsAreNear, ResultIsNear}
+use Rattle.code_checked.specs.Near.{IsRegister, NameIsNear, AreCaptured, ExpsAreNear, TargetIsNear, TargetsAreNear, ResultIsNear, ExpIsNear}
 use Rattle.code_checked.proofs.Pieces.{closed, listed, returned, Ends, Piece, both, nothing}
 use Rattle.code_checked.proofs.Words.{simple, simple_move, simple_load_nil, simple_load_true, simple_load_false, simple_close, simple_tbc}
-use Rattle.code_checked.proofs.Found.{Grows, grows_then, grows_with, is_in}
+use Rattle.code_checked.proofs.Found.{Grows, grows_then, grows_with, grows_any, is_in}
 use Rattle.code_of.proofs.Constants.{same_text, same_int}
 use Rattle.code_checked.proofs.Loads.{Whole, Functions, loads_piece, integer_piece, named_piece, upvalue_piece, set_upvalue_piece, closure_piece, method_piece}
-use Rattle.code_checked.proofs.Calls.{return_piece, tail_piece}
+use Rattle.code_checked.proofs.Calls.{return_piece, any_return_piece, tail_piece}
 use Rattle.code_checked.proofs.Lists.{open_mark, takes_list_field, field_below, HaveRoom}
 use Rattle.code_checked.proofs.Growing.{grows_exp, grows_exps, after_exp, after_exps}
 use Rattle.code_checked.proofs.Exps.{one_law, list_law, values_law}
 use Rattle.code_checked.proofs.FieldStores.{field_piece}
 use Rattle.code_checked.proofs.ExpForms.{seat_near, standing_piece, DirectLaw, unary_direct, index_direct, binary_direct, local_near}
 use Rattle.code_checked.proofs.Targets.{waiting_store, local_piece}
-use Rattle.code_checked.proofs.KeyedFields.{key_piece}
+use Rattle.code_checked.proofs.KeyedFields.{key_piece, stored_near}
 use Rattle.code_checked.proofs.Lowering.{exps_lower}
 
 module _ (p : Prototype) where
@@ -139,13 +140,21 @@ module _ (p : Prototype) where
         → Piece p H closed closed pc (exps_code p.own.constants es (Some n) t j line)
     values_piece es n t j line pc size cs rest h le room g fs = values_law p W source es H n t j line pc size cs rest h le (have_room n t room) g fs
 
-    stored_piece : (ts es : Exps) (t j line pc : ℕ) (cs : List Const) (rest : Prototypes) → IsRegister (t + 2 * count ts + count ts) → TargetsAreNear source p ts t t → ExpsAreNear source p es t (t + 2 * count ts) → Grows (of_exps es (of_exps ts cs)) p.own.constants
+    -- the constants of the targets stand in front of those of the values
+    targets_grow : (ts es : Exps) (cs : List Const) → Grows (of_exps es (with_any (stored_constant ts es) (of_exps ts cs))) p.own.constants → Grows (of_exps ts cs) p.own.constants
+    targets_grow ts es cs g =
+        let first = of_exps ts cs in
+        let named = with_any (stored_constant ts es) first in
+        grows_then first named p.own.constants (grows_any (stored_constant ts es) first) (grows_then named (of_exps es named) p.own.constants (grows_exps es named) g)
+
+    stored_piece : (ts es : Exps) (t j line pc : ℕ) (cs : List Const) (rest : Prototypes) → IsRegister (t + 2 * count ts + count ts) → TargetsAreNear source p ts t t → ExpsAreNear source p es t (t + 2 * count ts) → Grows (of_exps es (with_any (stored_constant ts es) (of_exps ts cs))) p.own.constants
         → Functions p j (from_exps source ts (from_exps source es rest)) → Piece p H closed closed pc (stored_code p.own.constants ts es t j line)
     stored_piece ts es t j line pc cs rest r near_ts near_es g fs =
-        let first = of_exps ts cs in
-        both p (targets_piece ts t j pc t cs (from_exps source es rest) near_ts (omega arith) (omega (arith, r)) (grows_then first (of_exps es first) p.own.constants (grows_exps es first) g) fs)
-        (both p (values_piece es (count ts) (t + 2 * count ts) (j + made_in ts) line _ t first rest near_es (omega arith) (omega (arith, r)) g (after_exps source p ts j (from_exps source es rest) fs))
-        (stores_piece source ts t t (t + 2 * count ts) _ cs W near_ts (omega (arith, r)) (omega (arith, r)) (grows_then first (of_exps es first) p.own.constants (grows_exps es first) g)))
+        let named = with_any (stored_constant ts es) (of_exps ts cs) in
+        let known = targets_grow ts es cs g in
+        both p (targets_piece ts t j pc t cs (from_exps source es rest) near_ts (omega arith) (omega (arith, r)) known fs)
+        (both p (values_piece es (count ts) (t + 2 * count ts) (j + made_in ts) line _ t named rest near_es (omega arith) (omega (arith, r)) g (after_exps source p ts j (from_exps source es rest) fs))
+        (stores_piece source ts t t (t + 2 * count ts) _ cs W near_ts (omega (arith, r)) (omega (arith, r)) known))
 
     -- a value that goes straight to a local's register
 
@@ -169,53 +178,93 @@ module _ (p : Prototype) where
         let first = of_exp e cs in
         direct_piece e r t j pc size cs (from_exps source es rest) rf near.0 le (grows_then first (of_exps es first) p.own.constants (grows_exps es first) g) fs
 
-    pub assign_piece : (ts es : Exps) (t j line pc : ℕ) (cs : List Const) (rest : Prototypes) → IsRegister (t + 2 * count ts + count ts) → TargetsAreNear source p ts t t → ExpsAreNear source p es t (t + 2 * count ts) → Grows (of_exps es (of_exps ts cs)) p.own.constants
+    -- two values, of which the second one goes straight to a local's register
+    two_piece : (x e d : Exp) (r t j pc : ℕ) (cs : List Const) (rest : Prototypes) → r < 2 ^ 8 → t + 3 < 2 ^ 8 → TargetIsNear source p x t t → ExpIsNear source p e t (t + 2) → ExpIsNear source p d t (t + 3)
+        → Grows (of_exp x cs) p.own.constants → (named : List Const) → Grows (of_exp d (of_exp e named)) p.own.constants → Functions p j (from_exp source x (from_exp source e (from_exp source d rest)))
+        → Piece p H closed closed pc (two_code p.own.constants x e d r t j)
+    two_piece x e d r t j pc cs rest rf tf near_x near_e near_d grows_x named g fs =
+        let functions = after_exp source p x j (from_exp source e (from_exp source d rest)) fs in
+        both p (target_piece x t j pc t cs (from_exp source e (from_exp source d rest)) near_x (omega arith) (omega (arith, tf)) grows_x fs)
+        (both p (one_law p W source e H (t + 2) (j + made_by x) _ t named (from_exp source d rest) near_e (omega arith) (grows_then (of_exp e named) (of_exp d (of_exp e named)) p.own.constants (grows_exp d (of_exp e named)) g) functions)
+        (both p (direct_piece d r (t + 3) (j + made_by x + made_by e) _ t (of_exp e named) rest rf near_d (omega arith) g (after_exp source p e (j + made_by x) (from_exp source d rest) functions))
+        (store_piece source x t t (t + 2) cs W near_x (omega (arith, tf)) (omega (arith, tf)) grows_x)))
+
+    pub assign_piece : (ts es : Exps) (t j line pc : ℕ) (cs : List Const) (rest : Prototypes) → IsRegister (t + 2 * count ts + count ts) → TargetsAreNear source p ts t t → ExpsAreNear source p es t (t + 2 * count ts) → Grows (of_exps es (with_any (stored_constant ts es) (of_exps ts cs))) p.own.constants
         → Functions p j (from_exps source ts (from_exps source es rest)) → Piece p H closed closed pc (assign_code p.own.constants ts es t j line)
     assign_piece ts es t j line pc cs rest r near_ts near_es g fs = by (assigned ts es) refl
       where
         by : (o : Option ℕ) → assigned ts es ≡ o → Piece p H closed closed pc (assign_by p.own.constants o ts es t j line)
-        by None is = by_field (stores_field ts es) refl
+        by None is = by_two (second_assigned ts es) refl
           where
-            by_field : (b : Bool) → stores_field ts es ≡ b → Piece p H closed closed pc (store_by p.own.constants b ts es t j line)
-            by_field false is = by_store (single_store p.own.constants ts es) refl
+            by_two : (o : Option ℕ) → second_assigned ts es ≡ o → Piece p H closed closed pc (two_by p.own.constants o ts es t j line)
+            by_two None is = by_field (stores_field ts es) refl
               where
-                by_store : (o : Option Coded) → single_store p.own.constants ts es ≡ o → Piece p H closed closed pc (kept_code p.own.constants o ts es t j line)
-                by_store None is = stored_piece ts es t j line pc cs rest r near_ts near_es g fs
-                by_store (Some x) is =
-                    let form = single_store_is p.own.constants ts es x is in
+                by_field : (b : Bool) → stores_field ts es ≡ b → Piece p H closed closed pc (store_by p.own.constants b ts es t j line)
+                by_field false is = by_store (single_store p.own.constants ts es) refl
+                  where
+                    by_store : (o : Option Coded) → single_store p.own.constants ts es ≡ o → Piece p H closed closed pc (kept_code p.own.constants o ts es t j line)
+                    by_store None is = stored_piece ts es t j line pc cs rest r near_ts near_es g fs
+                    by_store (Some x) is =
+                        let form = single_store_is p.own.constants ts es x is in
+                        let near_target = subst (λ z. TargetsAreNear source p z t t) form.target near_ts in
+                        let near_value = subst (λ z. ExpsAreNear source p z t (t + 2 * count ts)) form.values near_es in
+                        let grows = subst (λ z. Grows (of_exps z cs) p.own.constants) form.target (targets_grow ts es cs g) in
+                        let seat = stored_near p source form.value form.constant form.field t (t + 2 * count ts) form.is near_value.0 in
+                        local_piece p form.name.place form.name.text form.constant form.field form.line x cs W form.store form.short near_target.0 seat.0 seat.1 grows
+                by_field true is =
+                    let form = stores_field_is ts es is in
+                    let after = j + made_in ts in
+                    let target = MoreExps (Index form.line form.object form.key) EndExps in
+                    let alone = MoreExps form.value EndExps in
+                    let value_at : t + 2 * count ts ≡ t + 2 = let n = ap count form.target in omega (arith, n) in
                     let near_target = subst (λ z. TargetsAreNear source p z t t) form.target near_ts in
-                    let near_value = subst (λ z. ExpsAreNear source p z t (t + 2 * count ts)) form.values near_es in
-                    let first = of_exps ts cs in
-                    let grows = subst (λ z. Grows (of_exps z cs) p.own.constants) form.target (grows_then first (of_exps es first) p.own.constants (grows_exps es first) g) in
-                    local_piece p form.name.place form.name.text form.local form.line x cs W form.store form.short near_target.0 (local_near source p form.value t (t + 2 * count ts) form.local form.is near_value.0) grows
-            by_field true is =
-                let form = stores_field_is ts es is in
-                let after = j + made_in ts in
-                let target = MoreExps (Index form.line form.object form.key) EndExps in
-                let alone = MoreExps form.value EndExps in
-                let value_at : t + 2 * count ts ≡ t + 2 = let n = ap count form.target in omega (arith, n) in
-                let near_target = subst (λ z. TargetsAreNear source p z t t) form.target near_ts in
-                let near_value = subst (λ z. ExpsAreNear source p z t (t + 2)) form.values (subst (λ m. ExpsAreNear source p es t m) value_at near_es) in
-                let grows = subst (λ z. Grows (of_exps alone (of_exps z cs)) p.own.constants) form.target (subst (λ z. Grows (of_exps z (of_exps ts cs)) p.own.constants) form.values g) in
-                let functions = subst (λ z. Functions p j (from_exps source z (from_exps source alone rest))) form.target (subst (λ z. Functions p j (from_exps source ts (from_exps source z rest))) form.values fs) in
-                let behind = subst (λ z. Functions p after (from_exps source z rest)) form.values (after_exps source p ts j (from_exps source es rest) fs) in
-                subst (λ z. Piece p H closed closed pc (first_field p.own.constants z es t j after)) (sym form.target)
-                (subst (λ z. Piece p H closed closed pc (first_field p.own.constants target z t j after)) (sym form.values)
-                (field_piece p W source H form.line form.object form.key form.value t j after pc t cs rest near_target.0.0 near_target.0.1 near_value.0 (omega arith) grows functions behind))
+                    let near_value = subst (λ z. ExpsAreNear source p z t (t + 2)) form.values (subst (λ m. ExpsAreNear source p es t m) value_at near_es) in
+                    let grows = subst (λ z. Grows (of_exps alone (with_any (stored_constant z alone) (of_exps z cs))) p.own.constants) form.target
+                    (subst (λ z. Grows (of_exps z (with_any (stored_constant ts z) (of_exps ts cs))) p.own.constants) form.values g) in
+                    let functions = subst (λ z. Functions p j (from_exps source z (from_exps source alone rest))) form.target (subst (λ z. Functions p j (from_exps source ts (from_exps source z rest))) form.values fs) in
+                    let behind = subst (λ z. Functions p after (from_exps source z rest)) form.values (after_exps source p ts j (from_exps source es rest) fs) in
+                    subst (λ z. Piece p H closed closed pc (first_field p.own.constants z es t j after)) (sym form.target)
+                    (subst (λ z. Piece p H closed closed pc (first_field p.own.constants target z t j after)) (sym form.values)
+                    (field_piece p W source H form.line form.object form.key form.value t j after pc t cs rest near_target.0.0 near_target.0.1 near_value.0 (omega arith) grows functions behind))
+            by_two (Some q) is =
+                let form = second_is ts es q is in
+                let both = MoreExps form.target (MoreExps (Var form.line form.name) EndExps) in
+                let values = MoreExps form.first (MoreExps form.second EndExps) in
+                let counted = ap count form.targets_are in
+                let named = with_any (stored_constant ts es) (of_exps ts cs) in
+                let near_targets = subst (λ z. TargetsAreNear source p z t t) form.targets_are near_ts in
+                let fits = subst (λ z. NameIsNear (length p.own.upvalues) z) form.place near_targets.1.0 in
+                let near_values = exps_lower source p values t (t + 2) (t + 2 * count ts) (omega (arith, counted)) (subst (λ z. ExpsAreNear source p z t (t + 2 * count ts)) form.values near_es) in
+                let third : t + 2 + 1 ≡ t + 3 = omega arith in
+                let known = subst (λ z. Grows (of_exps z cs) p.own.constants) form.targets_are (targets_grow ts es cs g) in
+                let first_known = of_exp form.target cs in
+                let grows_x = grows_then first_known (of_exps (MoreExps (Var form.line form.name) EndExps) first_known) p.own.constants (grows_exps (MoreExps (Var form.line form.name) EndExps) first_known) known in
+                let functions = subst (λ z. Functions p j (from_exps source z (from_exps source values rest))) form.targets_are (subst (λ z. Functions p j (from_exps source ts (from_exps source z rest))) form.values fs) in
+                subst (λ z. Piece p H closed closed pc (first_two p.own.constants z es q t j)) (sym form.targets_are)
+                (subst (λ z. Piece p H closed closed pc (first_two p.own.constants both z q t j)) (sym form.values)
+                (two_piece form.target form.first form.second q t j pc cs rest fits (omega (arith, r, counted)) near_targets.0 near_values.0 (subst (λ m. ExpIsNear source p form.second t m) third near_values.1.0)
+                grows_x named (subst (λ z. Grows (of_exps z named) p.own.constants) form.values g) functions))
         by (Some q) is =
             let form = assigned_is ts es q is in
             let target = subst (λ z. TargetsAreNear source p z t t) form.target near_ts in
             let fits = subst (λ z. NameIsNear (length p.own.upvalues) z) form.place target.0 in
-            first_piece es q t (j + made_in ts) pc t (of_exps ts cs) rest fits (exps_lower source p es t t (t + 2 * count ts) (omega arith) near_es) (omega arith) g (after_exps source p ts j (from_exps source es rest) fs)
+            first_piece es q t (j + made_in ts) pc t (with_any (stored_constant ts es) (of_exps ts cs)) rest fits (exps_lower source p es t t (t + 2 * count ts) (omega arith) near_es) (omega arith) g (after_exps source p ts j (from_exps source es rest) fs)
 
     -- returns
 
     values_return : (es : Exps) (t j line back pc : ℕ) (cs : List Const) (rest : Prototypes) → ResultIsNear source p es t → back < 2 ^ 8 → Grows (of_exps es cs) p.own.constants → Functions p j (from_exps source es rest)
         → Piece p H closed returned pc (values_last p.own.constants es t j line back)
-    values_return es t j line back pc cs rest near bf g fs =
-        let r = near.0 in
-        both p (list_law p W source es H t j line pc t cs rest near.1 (omega arith) g fs)
-        (return_piece p (open_mark es t) t (list_field 0 es) back line (omega (arith, r)) (field_below (ends_open es) (0 + count es + 1) (omega (arith, r))) bf (takes_list_field es (0 + count es + 1) t t (omega arith) (omega arith)))
+    values_return es t j line back pc cs rest near bf g fs = by (lone_local es) refl
+      where
+        by : (o : Option ℕ) → lone_local es ≡ o → Piece p H closed returned pc (returned_by p.own.constants o es t j line back)
+        by None is =
+            let r = near.0 in
+            both p (list_law p W source es H t j line pc t cs rest near.1 (omega arith) g fs)
+            (return_piece p (open_mark es t) t (list_field 0 es) back line (omega (arith, r)) (field_below (ends_open es) (0 + count es + 1) (omega (arith, r))) bf (takes_list_field es (0 + count es + 1) t t (omega arith) (omega arith)))
+        by (Some q) is =
+            let lone = lone_is es q is in
+            let alone = subst (λ z. ExpsAreNear source p z t t) lone.values near.1 in
+            any_return_piece p closed (nat_lt 0 t) q 2 back line (local_near source p lone.value t t q lone.is alone.0) (lit< tt) bf (omega arith)
 
     call_return : (call_line : ℕ) (f : Exp) (es : Exps) (t j back pc : ℕ) (cs : List Const) (rest : Prototypes) → ResultIsNear source p (MoreExps (Call call_line f es) EndExps) t → back < 2 ^ 8
         → Grows (of_exps (MoreExps (Call call_line f es) EndExps) cs) p.own.constants → Functions p j (from_exps source (MoreExps (Call call_line f es) EndExps) rest)

@@ -1,5 +1,5 @@
 -- The code of each statement, block and list of statements is a piece.
-use Rattle.std.proofs.Common.{◌≡◌, ℕ, ◌+◌, ◌<◌, ◌≤◌, ◌^◌, lit<, Bool, true, false, List, [], length, Option, Some, sym, ap, subst, ◌∙◌, arith}
+use Rattle.std.proofs.Common.{◌≡◌, ℕ, ◌+◌, ◌<◌, ◌≤◌, ◌^◌, lit<, Bool, true, false, ◌||◌, List, [], length, Option, Some, sym, ap, subst, ◌∙◌, arith}
 use Rattle.tree_core.specs.declared.name.Name.{Name}
 use Rattle.tree_core.specs.declared.name.Declared.{Declared}
 use Rattle.tree_core.specs.Tree.{Block, Falls, Returns, Body, Stats, Stat, Empty, Local, LocalFunction, Assign, CallStat, Do, While, Repeat, If, IfElse, NumFor, NumForStep, GenFor, Goto, Break, Arms, EndArms, MoreArms, Exp, Exps}
@@ -8,6 +8,7 @@ use Rattle.code_core.specs.declared.opcode.Opcode.TheVariants.{LoadI}
 use Rattle.code_core.specs.declared.proto.Const.{Const}
 use Rattle.code_core.specs.Prototype.{Prototype, Prototypes}
 use Rattle.std.specs.Prelude.{pos}
+use Rattle.code_of.specs.declared.leaving.Leaving.{Leaving}
 use Rattle.code_of.specs.Coded.{Coded}
 use Rattle.code_of.specs.Constants.{small_field, of_exp, of_exps, of_stat, of_arms, of_stats, of_block}
 use Rattle.code_of.specs.Expressions.{made_by, made_in, exp_code, exps_code}
@@ -32,9 +33,9 @@ use Rattle.code_checked.proofs.Forms.{while_piece, repeat_piece, arm_piece, coun
 use Rattle.code_checked.proofs.Reaching.{AllStand, Reaches, label_stands, leads_piece}
 use Rattle.code_checked.proofs.StatForms.{marks_piece, close_piece, as_closed, function_piece, values_piece, assign_piece, return_law}
 
-module _ (p : Prototype) (W : Whole p) (source : Option (List ℕ)) where
-  abbrev pub back : ℕ
-  back = back_field p.own.vararg p.own.params
+module _ (p : Prototype) (W : Whole p) (source : Option (List ℕ)) (closes : Bool) where
+  abbrev pub back : Leaving
+  back = record { back = back_field p.own.vararg p.own.params; closes = closes }
 
   abbrev pub StatLaw : Stat → Type 1
   StatLaw s =
@@ -195,7 +196,7 @@ module _ (p : Prototype) (W : Whole p) (source : Option (List ℕ)) where
       let second = of_exp limit (of_exp from cs) in
       let code = block_code cst back block closing (t + 3) (t + 4) k (pc + length start + 1) (in_loop reach q t) in
       let size = block_sized cst back block closing (t + 3) (t + 4) k (pc + length start + 1) (in_loop reach q t) in
-      let short = near.1.1.1.0 in
+      let short = near.1.1.1.0 closes in
       let fs2 = after_exp source p limit (j + made_by from) (from_block source block rest) (after_exp source p from j (from_exp source limit (from_block source block rest)) fs) in
       counting_piece p W start code t line pc q (omega (arith, r)) (omega (arith, short, size)) (ap (λ n. pc + n) (stat_sized cst back (NumFor line name from limit block) closing t j pc reach))
       (λ H h. both p (pair_piece H from limit t j pc cs (from_block source block rest) near.1.0 near.1.1.0 (grows_then second (of_block block second) cst (grows_block block second) g) fs)
@@ -213,7 +214,7 @@ module _ (p : Prototype) (W : Whole p) (source : Option (List ℕ)) where
       let third = of_exp step second in
       let code = block_code cst back block closing (t + 3) (t + 4) k (pc + length start + 1) (in_loop reach q t) in
       let size = block_sized cst back block closing (t + 3) (t + 4) k (pc + length start + 1) (in_loop reach q t) in
-      let short = near.1.1.1.1.0 in
+      let short = near.1.1.1.1.0 closes in
       let known = grows_then third (of_block block third) cst (grows_block block third) g in
       let fs2 = after_exp source p limit (j + made_by from) (from_exp source step (from_block source block rest)) (after_exp source p from j (from_exp source limit (from_exp source step (from_block source block rest))) fs) in
       let fs3 = after_exp source p step (j + made_by from + made_by limit) (from_block source block rest) fs2 in
@@ -232,17 +233,17 @@ module _ (p : Prototype) (W : Whole p) (source : Option (List ℕ)) where
       let first = of_exps es cs in
       let code = block_code cst back block true (t + 4) (t + 4 + length names) k (pc + length start + 1) (in_loop reach q t) in
       let size = block_sized cst back block true (t + 4) (t + 4 + length names) k (pc + length start + 1) (in_loop reach q t) in
-      let short = near.1.1.0 in
+      let short = near.1.1.0 closes in
       iterating_piece p W start code t (length names) line pc q (omega (arith, r)) (omega (arith, room)) (omega (arith, short, size)) (ap (λ n. pc + n) (stat_sized cst back (GenFor line names es block) closing t j pc reach))
       (λ H h. values_piece p W source H es 4 t j line pc t cs (from_block source block rest) near.1.0 (omega arith) (omega (arith, room)) (grows_then first (of_block block first) cst (grows_block block first) g) fs)
       (λ H h. law H true (t + 4) (t + 4 + length names) k (pc + length start + 1) (in_loop reach q t) first rest (λ x. let y = h x in in_loop_reaches reach q t (omega (arith, r)) (to y.0, y.1)) near.1.1.1 room (omega arith) g (after_exps source p es j (from_block source block rest) fs))
 
   pub goto_law : (line : ℕ) (name : Name) → StatLaw (Goto line name)
   goto_law line name G closing t j pc reach cs rest to near r g fs =
-      leads_piece p W (label_in name.text reach.labels) pc line (λ x. (to x).begin) (λ x. label_stands p name.text reach.labels (to x).labels)
+      leads_piece p (closes || closing) W (label_in name.text reach.labels) pc line (λ x. (to x).begin) (λ x. label_stands p name.text reach.labels (to x).labels)
 
   pub break_law : (line : ℕ) → StatLaw (Break line)
-  break_law line G closing t j pc reach cs rest to near r g fs = leads_piece p W reach.exit pc line (λ x. (to x).begin) (λ x. (to x).exit)
+  break_law line G closing t j pc reach cs rest to near r g fs = leads_piece p (closes || closing) W reach.exit pc line (λ x. (to x).begin) (λ x. (to x).exit)
 
   -- blocks
 
@@ -251,9 +252,9 @@ module _ (p : Prototype) (W : Whole p) (source : Option (List ℕ)) where
       both p (law G true closing outer t j pc [] reach cs rest to (λ x. tt) near r le g fs).piece (close_piece p outer (closed_below ss outer t) line _ (omega (arith, r, le)))
 
   pub result_piece : (G : Type 0) (ss : Stats) (es : Exps) (closing : Bool) (t j pc line : ℕ) (cs : List Const) (rest : Prototypes) → ResultIsNear source p es (levels_after ss t) → Grows (of_exps es (of_stats ss cs)) p.own.constants → Functions p j (from_stats source ss (from_exps source es rest))
-      → Piece p G closed returned pc (return_code p.own.constants (closings_after ss closing) es (levels_after ss t) (j + made_in_stats ss) line back)
+      → Piece p G closed returned pc (return_code p.own.constants (closings_after ss closing) es (levels_after ss t) (j + made_in_stats ss) line back.back)
   result_piece G ss es closing t j pc line cs rest near g fs =
-      return_law p W source G (closings_after ss closing) es (levels_after ss t) (j + made_in_stats ss) line back pc (of_stats ss cs) rest near W.returns g (after_stats source p ss j (from_exps source es rest) fs)
+      return_law p W source G (closings_after ss closing) es (levels_after ss t) (j + made_in_stats ss) line back.back pc (of_stats ss cs) rest near W.returns g (after_stats source p ss j (from_exps source es rest) fs)
 
   pub returns_law : (ss : Stats) (es : Exps) (tokens line : ℕ) → StatsLaw ss → BlockLaw (Returns ss es tokens line)
   returns_law ss es tokens line law G closing outer t j pc reach cs rest to near r le g fs =

@@ -10,6 +10,7 @@ use Rattle.tree_terms.specs.Bodies.{upvalues_of}
 use Rattle.code_core.specs.Prototype.{Prototype, list_of, count as count_of}
 use Rattle.code_core.specs.Writable.{name_fits, depth, greatest_depth}
 use Rattle.code_checked.specs.Written.{BodyIsWritten}
+use Rattle.code_of.specs.declared.leaving.Leaving.{Leaving}
 use Rattle.code_of.specs.CodeOf.{back_field, from_body, code_of}
 use Rattle.code_of.specs.Expressions.{made_by, made_in, count}
 use Rattle.code_of.specs.Levels.{made_by_stat, made_in_arms, made_in_block, closing_after}
@@ -35,7 +36,7 @@ AreCaptured (u ∷ us) size upvalues = (u.index < cond u.in_stack size upvalues)
 
 -- the block of a `for` is short enough for the loop's instructions to name its length
 abbrev pub IsShort : Prototype → Block → (closing : Bool) → (outer t j : ℕ) → Type 0
-IsShort p block closing outer t j = block_size p.own.constants (back_field p.own.vararg p.own.params) block closing outer t j + 2 < 2 ^ 17
+IsShort p block closing outer t j = (closes : Bool) → block_size p.own.constants (record { back = back_field p.own.vararg p.own.params; closes = closes }) block closing outer t j + 2 < 2 ^ 17
 
 -- a function's parts have no more entries than the instructions can name, and a chunk can hold them
 pub record FunctionIsNear (p : Prototype) : Type 0 where

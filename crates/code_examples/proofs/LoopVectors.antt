@@ -86,10 +86,9 @@ jumps_about = fun ("a" ∷ []) [] (block (
     ∷ when (bin Equal (loc "i" 4) (int 2)) (Goto 1 (no_variable "found") ∷ []) ∷ [])) ∷ []))
 
 abbrev pub jumps_about_code : Prototype
-jumps_about_code = hand 1 false 6 [] [] (variable "a" 0 14 ∷ hidden 3 13 ∷ hidden 3 13 ∷ hidden 3 13 ∷ variable "i" 4 12 ∷ []) []
-    (load_int 1 3 ∷ load_int 2 1 ∷ abc Move 3 0 0 false ∷ abx ForPrep 1 8
-    ∷ abc Close 5 0 0 false ∷ jump 2 ∷ abc Close 1 0 0 false ∷ jump 5
-    ∷ abc EqI 4 129 0 false ∷ jump 2 ∷ abc Close 5 0 0 false ∷ jump_back 6 ∷ abx ForLoop 1 9 ∷ abc Return 1 1 0 true ∷ [])
+jumps_about_code = hand 1 false 5 [] [] (variable "a" 0 11 ∷ hidden 3 10 ∷ hidden 3 10 ∷ hidden 3 10 ∷ variable "i" 4 9 ∷ []) []
+    (load_int 1 3 ∷ load_int 2 1 ∷ abc Move 3 0 0 false ∷ abx ForPrep 1 5 ∷ jump 1 ∷ jump 4
+    ∷ abc EqI 4 129 0 false ∷ jump 1 ∷ jump_back 4 ∷ abx ForLoop 1 6 ∷ abc Return 1 1 0 true ∷ [])
 
 jump_code : Compiles jumps_about jumps_about_code
 unfolding opcodes number_of
@@ -139,9 +138,9 @@ tests_at_once = fun ("f" ∷ []) [] (block (
     Repeat 1 (block (loc_is "x" 1 (call (loc "f" 0) []) ∷ Goto 1 (no_variable "test") ∷ does (call (loc "f" 0) []) ∷ Label 1 (no_variable "test") ∷ [])) (loc "x" 1) ∷ []))
 
 abbrev pub tests_at_once_code : Prototype
-tests_at_once_code = hand 1 false 3 [] [] (variable "f" 0 10 ∷ variable "x" 2 9 ∷ []) []
-    (abc Move 1 0 0 false ∷ abc Call 1 1 2 false ∷ abc Close 2 0 0 false ∷ jump 2 ∷ abc Move 2 0 0 false ∷ abc Call 2 1 1 false
-    ∷ abc Test 1 0 0 true ∷ jump 1 ∷ jump_back 9 ∷ abc Return 1 1 0 true ∷ [])
+tests_at_once_code = hand 1 false 3 [] [] (variable "f" 0 9 ∷ variable "x" 2 8 ∷ []) []
+    (abc Move 1 0 0 false ∷ abc Call 1 1 2 false ∷ jump 2 ∷ abc Move 2 0 0 false ∷ abc Call 2 1 1 false
+    ∷ abc Test 1 0 0 true ∷ jump 1 ∷ jump_back 8 ∷ abc Return 1 1 0 true ∷ [])
 
 label_code : Compiles tests_at_once tests_at_once_code
 unfolding opcodes number_of

@@ -2,10 +2,10 @@
 use Rattle.std.proofs.Common.{◌≡◌, ℕ, true, false, List, [], ◌∷◌, length, take, Some, refl}
 use Prim.Native.String.{String}
 use Rattle.code_core.specs.Opcode.{opcodes, number_of}
-use Rattle.code_core.specs.declared.opcode.Opcode.TheVariants.{Move, LoadFalse, LFalseSkip, LoadTrue, GetTabUp, GetTable, GetI, GetField, SetTable, SetI, SetField, Add, Mod, AddI, ShrI, MmBin, MmBinI, MulK, ModK, BOrK, MmBinK, EqK, Eq, Lt, Le, EqI, LeI, GtI, GeI, Test, OpSelf, Unm, BNot, Not, Len, Call, Return, VarArg, VarArgPrep, LoadK, LoadNil, SetTabUp}
+use Rattle.code_core.specs.declared.opcode.Opcode.TheVariants.{Move, LoadFalse, LFalseSkip, LoadTrue, GetTabUp, GetTable, GetI, GetField, SetTable, SetI, SetField, Add, Mod, AddI, ShrI, MmBin, MmBinI, MulK, ModK, BOrK, MmBinK, EqK, Eq, Lt, Le, EqI, LeI, GtI, GeI, Test, TestSet, OpSelf, Unm, BNot, Not, Len, Concat, Call, Return, VarArg, VarArgPrep, LoadK, LoadNil, SetTabUp}
 use Rattle.code_core.specs.declared.instruction.Instruction.{Instruction}
 use Rattle.code_core.specs.Instruction.{abc, abx}
-use Rattle.tree_core.specs.declared.operator.BinOp.TheVariants.{Add as Plus, Sub as Minus, Mul as Times, Mod as Modulo, Bor, Shr as ShiftRight, Eq as Equal, Ne, Lt as Less, Le as AtMost, Gt, Ge}
+use Rattle.tree_core.specs.declared.operator.BinOp.TheVariants.{Add as Plus, Sub as Minus, Mul as Times, Mod as Modulo, Bor, Shr as ShiftRight, Concat as Join, Eq as Equal, Ne, Lt as Less, Le as AtMost, Gt, Ge, Shl as ShiftLeft}
 use Rattle.tree_core.specs.declared.operator.UnOp.TheVariants.{Neg, BitNot, Not as Negation, Len as Length}
 use Rattle.tree_core.specs.Tree.{Body, Stat, Exp, True, False, Vararg, Index, Method, Unary, And, Or, Paren, While, If, IfElse, arms, exps, Nil, Var}
 use Rattle.tree_terms.proofs.Forms.{declared, no_variable, of_local, loc, global, int, field, call, bin, block, returning, locals, loc_is, assign, does, when, vararg_fun, str, name}
@@ -172,6 +172,12 @@ grows : Begins (chunk (loc_is "a" 0 (int 1) ∷ assign (loc "a" 0) (bin Plus (lo
 unfolding opcodes number_of
 grows = refl
 
+-- local a,b = f() a = b << 13
+moves_up : Begins (chunk (locals (declared "a" 0 ∷ declared "b" 1 ∷ []) (calls "f" ∷ []) ∷ assign (loc "a" 0) (bin ShiftLeft (loc "b" 1) (int 13)) ∷ []))
+    (abc VarArgPrep 0 0 0 false ∷ abc GetTabUp 0 0 0 false ∷ abc Call 0 1 3 false ∷ abc ShrI 0 1 114 false ∷ abc MmBinI 1 140 16 false ∷ [])
+unfolding opcodes number_of
+moves_up = refl
+
 -- local a,t = 1,f() a = t[a] a = g() + a
 straight : Begins (chunk (locals (declared "a" 0 ∷ declared "t" 1 ∷ []) (int 1 ∷ calls "f" ∷ [])
     ∷ assign (loc "a" 0) (Index 1 (loc "t" 1) (loc "a" 0)) ∷ assign (loc "a" 0) (bin Plus (calls "g") (loc "a" 0)) ∷ []))
@@ -241,3 +247,37 @@ environment_sets : Begins (chunk (loc_is "_ENV" 0 (calls "f") ∷ assign (Var 1 
     (abc VarArgPrep 0 0 0 false ∷ abc GetTabUp 0 0 0 false ∷ abc Call 0 1 2 false ∷ abc SetField 0 1 0 false ∷ [])
 unfolding opcodes number_of
 environment_sets = refl
+
+-- local t = f() t.x = 1 t[1] = true t[t] = nil g = "x"
+keeps : Begins (chunk (loc_is "t" 0 (calls "f")
+    ∷ assign (field (loc "t" 0) "x") (int 1) ∷ assign (Index 1 (loc "t" 0) (int 1)) (True 1) ∷ assign (Index 1 (loc "t" 0) (loc "t" 0)) (Nil 1) ∷ assign (global "g") (str "x") ∷ []))
+    (abc VarArgPrep 0 0 0 false ∷ abc GetTabUp 0 0 0 false ∷ abc Call 0 1 2 false ∷ abc SetField 0 1 2 true ∷ abc SetI 0 1 3 true ∷ abc SetTable 0 0 4 true ∷ abc SetTabUp 0 5 1 true ∷ [])
+unfolding opcodes number_of
+keeps = refl
+
+-- local _ENV = f() g = 5
+environment_keeps : Begins (chunk (loc_is "_ENV" 0 (calls "f") ∷ assign (Var 1 (name "g" (GlobalIn 0))) (int 5) ∷ []))
+    (abc VarArgPrep 0 0 0 false ∷ abc GetTabUp 0 0 0 false ∷ abc Call 0 1 2 false ∷ abc SetField 0 1 2 true ∷ [])
+unfolding opcodes number_of
+environment_keeps = refl
+
+-- local a,b,c = f() local x = a and b local y = a or (b and c) local z = a == b and c or a local u = (a or b) and c g(a and b,c)
+values_decide : Begins (chunk (locals (declared "a" 0 ∷ declared "b" 1 ∷ declared "c" 2 ∷ []) (calls "f" ∷ [])
+    ∷ loc_is "x" 3 (And 1 (loc "a" 0) (loc "b" 1)) ∷ loc_is "y" 4 (Or 1 (loc "a" 0) (Paren 1 (And 1 (loc "b" 1) (loc "c" 2))))
+    ∷ loc_is "z" 5 (Or 1 (And 1 (bin Equal (loc "a" 0) (loc "b" 1)) (loc "c" 2)) (loc "a" 0)) ∷ loc_is "u" 6 (And 1 (Paren 1 (Or 1 (loc "a" 0) (loc "b" 1))) (loc "c" 2))
+    ∷ does (call (global "g") (And 1 (loc "a" 0) (loc "b" 1) ∷ loc "c" 2 ∷ [])) ∷ []))
+    (abc VarArgPrep 0 0 0 false ∷ abc GetTabUp 0 0 0 false ∷ abc Call 0 1 4 false ∷ abc TestSet 3 0 0 false ∷ jump 1 ∷ abc Move 3 1 0 false
+    ∷ abc TestSet 4 0 0 true ∷ jump 3 ∷ abc TestSet 4 1 0 false ∷ jump 1 ∷ abc Move 4 2 0 false
+    ∷ abc Eq 0 1 0 false ∷ jump 2 ∷ abc TestSet 5 2 0 true ∷ jump 1 ∷ abc Move 5 0 0 false
+    ∷ abc Test 0 0 0 true ∷ jump 2 ∷ abc TestSet 6 1 0 false ∷ jump 1 ∷ abc Move 6 2 0 false
+    ∷ abc GetTabUp 7 0 1 false ∷ abc TestSet 8 0 0 false ∷ jump 1 ∷ abc Move 8 1 0 false ∷ abc Move 9 2 0 false ∷ abc Call 7 3 1 false ∷ [])
+unfolding opcodes number_of
+values_decide = refl
+
+-- local a,b = f() g(a .. b .. "x" .. 5, a .. b)
+chained : Begins (chunk (locals (declared "a" 0 ∷ declared "b" 1 ∷ []) (calls "f" ∷ [])
+    ∷ does (call (global "g") (bin Join (loc "a" 0) (bin Join (loc "b" 1) (bin Join (str "x") (int 5))) ∷ bin Join (loc "a" 0) (loc "b" 1) ∷ [])) ∷ []))
+    (abc VarArgPrep 0 0 0 false ∷ abc GetTabUp 0 0 0 false ∷ abc Call 0 1 3 false ∷ abc GetTabUp 2 0 1 false ∷ abc Move 3 0 0 false ∷ abc Move 4 1 0 false ∷ abx LoadK 5 2 ∷ load_int 6 5
+    ∷ abc Concat 3 4 0 false ∷ abc Move 4 0 0 false ∷ abc Move 5 1 0 false ∷ abc Concat 4 2 0 false ∷ abc Call 2 3 1 false ∷ [])
+unfolding opcodes number_of
+chained = refl

@@ -42,7 +42,7 @@ decides = fun ("a" ∷ "b" ∷ []) [] (returning [] (Or 1 (And 1 (loc "a" 0) (Un
 
 abbrev pub decides_code : Prototype
 decides_code = hand 2 false 3 [] [] (variable "a" 0 11 ∷ variable "b" 0 11 ∷ []) []
-    (abc Move 2 0 0 false ∷ abc Test 2 0 0 false ∷ jump 1 ∷ abc Not 2 1 0 false ∷ abc Test 2 0 0 true ∷ jump 4
+    (abc Test 0 0 0 false ∷ jump 4 ∷ abc Test 1 0 0 true ∷ jump 2 ∷ abc LoadTrue 2 0 0 false ∷ jump 4
     ∷ abc Le 0 1 0 true ∷ jump 1 ∷ abc LFalseSkip 2 0 0 false ∷ abc LoadTrue 2 0 0 false ∷ abc Return 2 2 0 true ∷ [])
 
 truth_code : Compiles decides decides_code
@@ -65,10 +65,10 @@ chooses = fun ("a" ∷ []) [] (returning (
     (loc "a" 0 ∷ []))
 
 abbrev pub chooses_code : Prototype
-chooses_code = hand 1 false 2 [] [] (variable "a" 0 12 ∷ []) []
+chooses_code = hand 1 false 2 [] [] (variable "a" 0 11 ∷ []) []
     (abc GtI 0 128 0 false ∷ jump 3
     ∷ load_int 1 1 ∷ abc Return 1 2 0 true ∷ jump 5 ∷ abc Test 0 0 0 false ∷ jump 2 ∷ load_int 0 2 ∷ jump 1
-    ∷ load_int 0 3 ∷ abc Move 1 0 0 false ∷ abc Return 1 2 0 true ∷ [])
+    ∷ load_int 0 3 ∷ abc Return 0 2 0 true ∷ [])
 
 arms_code : Compiles chooses chooses_code
 unfolding opcodes number_of
@@ -92,9 +92,9 @@ tests = fun ("a" ∷ "b" ∷ []) [] (block (
     If 1 (arms ((Or 1 (Unary 1 Negation (loc "a" 0)) (And 1 (bin Less (loc "a" 0) (loc "b" 1)) (bin Ne (loc "b" 1) (int 1))), returning [] (loc "a" 0 ∷ [])) ∷ [])) ∷ []))
 
 abbrev pub tests_code : Prototype
-tests_code = hand 2 false 3 [] [] (variable "a" 0 9 ∷ variable "b" 0 9 ∷ []) []
-    (abc Test 0 0 0 false ∷ jump 4 ∷ abc Lt 0 1 0 false ∷ jump 4
-    ∷ abc EqI 1 128 0 true ∷ jump 2 ∷ abc Move 2 0 0 false ∷ abc Return 2 2 0 true ∷ abc Return 2 1 0 true ∷ [])
+tests_code = hand 2 false 2 [] [] (variable "a" 0 8 ∷ variable "b" 0 8 ∷ []) []
+    (abc Test 0 0 0 false ∷ jump 4 ∷ abc Lt 0 1 0 false ∷ jump 3
+    ∷ abc EqI 1 128 0 true ∷ jump 1 ∷ abc Return 0 2 0 true ∷ abc Return 2 1 0 true ∷ [])
 
 conditions_code : Compiles tests tests_code
 unfolding opcodes number_of
@@ -129,11 +129,11 @@ unfolding opcodes number_of int_wrap
 open_lists = (refl, refl)
 
 abbrev pub makes_tables_code : Prototype
-makes_tables_code = hand 1 false 9 (text "a" ∷ text "b" ∷ text "m" ∷ text "x" ∷ text "c" ∷ []) [] (variable "o" 0 17 ∷ []) []
+makes_tables_code = hand 1 false 9 (text "a" ∷ text "b" ∷ text "m" ∷ text "x" ∷ IntConst (pos 4) ∷ text "c" ∷ []) [] (variable "o" 0 16 ∷ []) []
     (abc Move 1 0 0 false ∷ abc Move 3 0 0 false ∷ load_int 5 1
     ∷ abc OpSelf 6 0 2 true ∷ load_int 8 2 ∷ abc Call 6 3 2 false ∷ abc SetField 3 1 6 false ∷ abc SetField 1 0 5 false
-    ∷ abc NewTable 1 0 0 false ∷ op_ax ExtraArg 0 ∷ load_int 2 3 ∷ abc SetList 1 1 0 false ∷ load_int 3 4 ∷ abc SetField 1 3 3 false
-    ∷ abc GetField 2 0 4 false ∷ abc SetList 1 1 1 false ∷ abc Return 1 2 0 true ∷ [])
+    ∷ abc NewTable 1 0 0 false ∷ op_ax ExtraArg 0 ∷ load_int 2 3 ∷ abc SetList 1 1 0 false ∷ abc SetField 1 3 4 true
+    ∷ abc GetField 2 0 5 false ∷ abc SetList 1 1 1 false ∷ abc Return 1 2 0 true ∷ [])
 
 tables_code : Compiles makes_tables makes_tables_code
 unfolding opcodes number_of
@@ -159,9 +159,8 @@ abbrev swaps : Body
 swaps = fun ("a" ∷ "b" ∷ []) [] (returning (assigns (loc "a" 0 ∷ loc "b" 1 ∷ []) (loc "b" 1 ∷ loc "a" 0 ∷ []) ∷ []) (bin Minus (loc "a" 0) (loc "b" 1) ∷ []))
 
 abbrev pub swaps_code : Prototype
-swaps_code = hand 2 false 8 [] [] (variable "a" 0 7 ∷ variable "b" 0 7 ∷ []) []
-    (abc Move 6 1 0 false ∷ abc Move 7 0 0 false ∷ abc Move 1 7 0 false ∷ abc Move 0 6 0 false
-    ∷ abc Sub 2 0 1 false ∷ abc MmBin 0 1 7 false ∷ abc Return 2 2 0 true ∷ [])
+swaps_code = hand 2 false 5 [] [] (variable "a" 0 6 ∷ variable "b" 0 6 ∷ []) []
+    (abc Move 4 1 0 false ∷ abc Move 1 0 0 false ∷ abc Move 0 4 0 false ∷ abc Sub 2 0 1 false ∷ abc MmBin 0 1 7 false ∷ abc Return 2 2 0 true ∷ [])
 
 swap_code : Compiles swaps swaps_code
 unfolding opcodes number_of

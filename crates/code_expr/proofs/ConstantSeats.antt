@@ -8,7 +8,7 @@ use Rattle.code_of.specs.Coded.{Coded}
 use Rattle.code_of.specs.Constants.{with_any}
 use Rattle.code_of.specs.ConstantOperands.{constant_by, unless_numeral, constant_of}
 use Rattle.code_of.specs.Expressions.{made_by}
-use Rattle.code_of.specs.Operands.{local_of, greatest, numeral_of, Second, a_number, a_local, made, second_of, first_of, operands_code}
+use Rattle.code_of.specs.Operands.{local_of, Second, a_number, a_local, made, second_of, first_of, operands_code, operand_numeral}
 use Rattle.code_of.specs.Operations.{short_of, constant_in, operation_by}
 use Rattle.code_of.proofs.Operands.{operator_stands}
 use Rattle.code_of.proofs.Operations.{operand_makes}
@@ -29,17 +29,17 @@ without_numeral : (o : Option ℕ) (q : Option Const) → is_some o ≡ false �
 without_numeral None q e = refl
 without_numeral (Some n) q e = absurd (cc)
 
-pub numeral_adds : (op : BinOp) (d : Exp) (cs : List Const) → is_some (numeral_of d (greatest op)) ≡ true → with_any (constant_of op d) cs ≡ cs
-numeral_adds op d cs e = ap (λ o. with_any o cs) (with_numeral (numeral_of d (greatest op)) (constant_by op d) e)
+pub numeral_adds : (op : BinOp) (d : Exp) (cs : List Const) → is_some (operand_numeral op d) ≡ true → with_any (constant_of op d) cs ≡ cs
+numeral_adds op d cs e = ap (λ o. with_any o cs) (with_numeral (operand_numeral op d) (constant_by op d) e)
 
-pub none_adds : (op : BinOp) (d : Exp) (cs : List Const) → is_some (numeral_of d (greatest op)) ≡ false → with_any (constant_by op d) cs ≡ with_any (constant_of op d) cs
-none_adds op d cs e = ap (λ o. with_any o cs) (sym (without_numeral (numeral_of d (greatest op)) (constant_by op d) e))
+pub none_adds : (op : BinOp) (d : Exp) (cs : List Const) → is_some (operand_numeral op d) ≡ false → with_any (constant_by op d) cs ≡ with_any (constant_of op d) cs
+none_adds op d cs e = ap (λ o. with_any o cs) (sym (without_numeral (operand_numeral op d) (constant_by op d) e))
 
-pub numeral_none : (op : BinOp) (d : Exp) (cs : List Const) → is_some (numeral_of d (greatest op)) ≡ true → constant_in cs op d ≡ None
-numeral_none op d cs e = ap (short_of cs) (with_numeral (numeral_of d (greatest op)) (constant_by op d) e)
+pub numeral_none : (op : BinOp) (d : Exp) (cs : List Const) → is_some (operand_numeral op d) ≡ true → constant_in cs op d ≡ None
+numeral_none op d cs e = ap (short_of cs) (with_numeral (operand_numeral op d) (constant_by op d) e)
 
-pub no_numeral : (op : BinOp) (d : Exp) (cs : List Const) → is_some (numeral_of d (greatest op)) ≡ false → constant_in cs op d ≡ short_of cs (constant_by op d)
-no_numeral op d cs e = ap (short_of cs) (without_numeral (numeral_of d (greatest op)) (constant_by op d) e)
+pub no_numeral : (op : BinOp) (d : Exp) (cs : List Const) → is_some (operand_numeral op d) ≡ false → constant_in cs op d ≡ short_of cs (constant_by op d)
+no_numeral op d cs e = ap (short_of cs) (without_numeral (operand_numeral op d) (constant_by op d) e)
 
 -- where the second operand stays
 

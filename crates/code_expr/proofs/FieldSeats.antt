@@ -7,15 +7,18 @@ use Rattle.code_of.specs.Coded.{Coded}
 use Rattle.code_of.specs.Expressions.{made_by, exp_code}
 use Rattle.code_of.specs.Operands.{local_of, numeral_of, seat, unless}
 use Rattle.code_of.specs.Parts.{field_code}
-use Rattle.code_of.specs.Stores.{FieldKey, a_name, an_index, a_register, evaluated, short_number, name_in, field_key_by, is_quiet, beside_quiet, field_key, object_of, key_code, field_store}
+use Rattle.code_of.specs.Stores.{FieldKey, a_name, an_index, a_register, evaluated, StoredValue, value_code, is_constant, value_seat, short_number, name_in, field_key_by, is_quiet, beside_quiet, field_key, object_of, key_code, field_store_by}
+use Rattle.code_of.specs.StoredValues.{stored_value}
 use Rattle.code_of.proofs.Operands.{local_makes}
 use Rattle.code_of.proofs.Stores.{FieldKeyStands, name_is, field_key_stands, object_stays}
+use Rattle.code_of.proofs.StoredValues.{ValueStands, value_stands}
 use Rattle.code_expr.specs.Listing.{Listing, listed, followed}
 use Rattle.code_expr.specs.Parts.{keyed_code}
-use Rattle.code_expr.specs.Stores.{key_seat, object_at, made_unless, seat_code, seat_made, seat_store}
+use Rattle.code_expr.specs.Stores.{key_seat, object_at, made_unless, seat_code, seat_made, value_place, place_code, place_made, place_store}
 use Rattle.code_expr.specs.declared.stores.KeySeat.TheVariants.{Name, Index as Numeral, Register, Above}
 use Rattle.code_expr.proofs.Joining.{then_made, then_listed}
 use Rattle.code_expr.proofs.Seats.{nothing_more}
+use Rattle.code_expr.proofs.ValueSeats.{place_code_is, place_makes, place_store_is}
 
 -- numbers of 8 bits
 
@@ -70,12 +73,6 @@ seat_code_is (a_name number) code = refl
 seat_code_is (an_index n) code = refl
 seat_code_is (a_register r) code = refl
 
-pub seat_store_is : (s : FieldKey) (x t v line : ℕ) → seat_store (key_seat s) x (t + 1) v line ≡ field_store s x t v line
-seat_store_is evaluated x t v line = refl
-seat_store_is (a_name number) x t v line = refl
-seat_store_is (an_index n) x t v line = refl
-seat_store_is (a_register r) x t v line = refl
-
 object_at_is : (s : FieldKey) (quiet : Bool) (object : Exp) → object_at (key_seat s) quiet object ≡ object_of s quiet object
 object_at_is evaluated quiet object = refl
 object_at_is (a_name number) quiet object = refl
@@ -87,19 +84,22 @@ pub field_written :
     (s0 s1 s2 s3 q : Listing) (line : ℕ) (object key e : Exp) (t : ℕ) (at : Option ℕ) → at ≡ object_at (key_seat (field_key s0.constants (is_quiet e) key)) (is_quiet e) object
     → s1 ≡ followed s0 (unless at (exp_code s0.constants object t s0.made 2)) (made_unless at (made_by object))
     → s2 ≡ followed s1 (seat_code (key_seat (field_key s0.constants (is_quiet e) key)) (exp_code s1.constants key (t + 1) s1.made 2)) (seat_made (key_seat (field_key s0.constants (is_quiet e) key)) (made_by key))
-    → s3 ≡ followed s2 (unless (local_of e) (exp_code s2.constants e (t + 2) s2.made 2)) (made_unless (local_of e) (made_by e))
-    → q ≡ listed s3 (seat_store (key_seat (field_key s0.constants (is_quiet e) key)) (seat at t) (t + 1) (seat (local_of e) (t + 2)) line ∷ [])
+    → s3 ≡ followed s2 (place_code (value_place (stored_value s0.constants e)) (exp_code s2.constants e (t + 2) s2.made 2)) (place_made (value_place (stored_value s0.constants e)) (made_by e))
+    → q ≡ listed s3 (place_store (key_seat (field_key s0.constants (is_quiet e) key)) (value_place (stored_value s0.constants e)) (seat at t) (t + 1) (t + 2) line ∷ [])
     → q ≡ followed s0 (field_code s0.constants (Index line object key) e t s0.made (s0.made + (made_by object + made_by key))) (made_by object + made_by key + made_by e)
 field_written s0 s1 s2 s3 q line object key e t at at_is e1 e2 e3 e4 =
-    then_made s0 s1 q (first at) m1 (λ k j. key_code s (exp_code k key (t + 1) j 2) ++ (unless value (exp_code k e (t + 2) (j + m2) 2) ++ last)) (m2 + m3) (e1 ∙ ap (followed s0 (first at)) (unless_makes at object at_local))
-    (then_made s1 s2 q (key_code s (exp_code s1.constants key (t + 1) s1.made 2)) m2 (λ k j. unless value (exp_code k e (t + 2) j 2) ++ last) m3 (e2 ∙ ap₂ (followed s1) (seat_code_is s (exp_code s1.constants key (t + 1) s1.made 2)) (key_makes s s0.constants (is_quiet e) key stands))
-    (then_listed s2 s3 q (unless value (exp_code s2.constants e (t + 2) s2.made 2)) m3 (λ k. last) (e3 ∙ ap (followed s2 (unless value (exp_code s2.constants e (t + 2) s2.made 2))) (unless_makes value e (λ r h. h)))
-    (e4 ∙ ap (λ c. listed s3 (c ∷ [])) (seat_store_is s (seat at t) t (seat value (t + 2)) line))))
-    ∙ ap₂ (λ j n. followed s0 (first at ++ (second ++ (unless value (exp_code s0.constants e (t + 2) j 2) ++ last))) n) joined counted
-    ∙ ap (λ o. followed s0 (first o ++ (second ++ (unless value (exp_code s0.constants e (t + 2) (s0.made + (m1 + m2)) 2) ++ field_store s (seat o t) t (seat value (t + 2)) line ∷ []))) (m1 + m2 + m3)) object_is
+    then_made s0 s1 q (first at) m1 (λ k j. key_code s (exp_code k key (t + 1) j 2) ++ (value_code value (exp_code k e (t + 2) (j + m2) 2) ++ last)) (m2 + m3) (e1 ∙ ap (followed s0 (first at)) (unless_makes at object at_local))
+    (then_made s1 s2 q (key_code s (exp_code s1.constants key (t + 1) s1.made 2)) m2 (λ k j. value_code value (exp_code k e (t + 2) j 2) ++ last) m3 (e2 ∙ ap₂ (followed s1) (seat_code_is s (exp_code s1.constants key (t + 1) s1.made 2)) (key_makes s s0.constants (is_quiet e) key stands))
+    (then_listed s2 s3 q (value_code value (exp_code s2.constants e (t + 2) s2.made 2)) m3 (λ k. last) (e3 ∙ ap₂ (followed s2) (place_code_is value (exp_code s2.constants e (t + 2) s2.made 2)) (place_makes value s0.constants e at_value))
+    (e4 ∙ ap (λ c. listed s3 (c ∷ [])) (place_store_is s value (seat at t) t (t + 2) line))))
+    ∙ ap₂ (λ j n. followed s0 (first at ++ (second ++ (value_code value (exp_code s0.constants e (t + 2) j 2) ++ last))) n) joined counted
+    ∙ ap (λ o. followed s0 (first o ++ (second ++ (value_code value (exp_code s0.constants e (t + 2) (s0.made + (m1 + m2)) 2) ++ field_store_by s (is_constant value) (seat o t) t (value_seat value (t + 2)) line ∷ []))) (m1 + m2 + m3)) object_is
   where
-    value : Option ℕ
-    value = local_of e
+    value : StoredValue
+    value = stored_value s0.constants e
+
+    at_value : ValueStands s0.constants e (stored_value s0.constants e)
+    at_value = value_stands s0.constants e
 
     s : FieldKey
     s = field_key s0.constants (is_quiet e) key
@@ -123,7 +123,7 @@ field_written s0 s1 s2 s3 q line object key e t at at_is e1 e2 e3 e4 =
     second = key_code s (exp_code s0.constants key (t + 1) (s0.made + m1) 2)
 
     last : List Coded
-    last = field_store s (seat at t) t (seat value (t + 2)) line ∷ []
+    last = field_store_by s (is_constant value) (seat at t) t (value_seat value (t + 2)) line ∷ []
 
     object_is : at ≡ object_of s (is_quiet e) object
     object_is = at_is ∙ object_at_is s (is_quiet e) object
@@ -141,15 +141,16 @@ field_written s0 s1 s2 s3 q line object key e t at at_is e1 e2 e3 e4 =
 pub keyed_written :
     (s0 s2 s3 q : Listing) (line : ℕ) (key e : Exp) (t : ℕ)
     → s2 ≡ followed s0 (seat_code (key_seat (field_key s0.constants (is_quiet e) key)) (exp_code s0.constants key (t + 1) s0.made 2)) (seat_made (key_seat (field_key s0.constants (is_quiet e) key)) (made_by key))
-    → s3 ≡ followed s2 (unless (local_of e) (exp_code s2.constants e (t + 2) s2.made 2)) (made_by e)
-    → q ≡ listed s3 (seat_store (key_seat (field_key s0.constants (is_quiet e) key)) t (t + 1) (seat (local_of e) (t + 2)) line ∷ [])
+    → s3 ≡ followed s2 (place_code (value_place (stored_value s0.constants e)) (exp_code s2.constants e (t + 2) s2.made 2)) (place_made (value_place (stored_value s0.constants e)) (made_by e))
+    → q ≡ listed s3 (place_store (key_seat (field_key s0.constants (is_quiet e) key)) (value_place (stored_value s0.constants e)) t (t + 1) (t + 2) line ∷ [])
     → q ≡ followed s0 (keyed_code s0.constants key e t s0.made line) (made_by key + made_by e)
 keyed_written s0 s2 s3 q line key e t e2 e3 e4 =
     let s = field_key s0.constants (is_quiet e) key in
-    let value = local_of e in
+    let value = stored_value s0.constants e in
     let second = exp_code s0.constants key (t + 1) s0.made 2 in
-    let last = field_store s t t (seat value (t + 2)) line ∷ [] in
-    then_made s0 s2 q (key_code s second) (made_by key) (λ k j. unless value (exp_code k e (t + 2) j 2) ++ last) (made_by e)
+    let last = field_store_by s (is_constant value) t t (value_seat value (t + 2)) line ∷ [] in
+    then_made s0 s2 q (key_code s second) (made_by key) (λ k j. value_code value (exp_code k e (t + 2) j 2) ++ last) (made_by e)
     (e2 ∙ ap₂ (followed s0) (seat_code_is s second) (key_makes s s0.constants (is_quiet e) key (field_key_stands s0.constants (is_quiet e) key)))
-    (then_listed s2 s3 q (unless value (exp_code s2.constants e (t + 2) s2.made 2)) (made_by e) (λ k. last) e3
-    (e4 ∙ ap (λ c. listed s3 (c ∷ [])) (seat_store_is s t t (seat value (t + 2)) line)))
+    (then_listed s2 s3 q (value_code value (exp_code s2.constants e (t + 2) s2.made 2)) (made_by e) (λ k. last)
+    (e3 ∙ ap₂ (followed s2) (place_code_is value (exp_code s2.constants e (t + 2) s2.made 2)) (place_makes value s0.constants e (value_stands s0.constants e)))
+    (e4 ∙ ap (λ c. listed s3 (c ∷ [])) (place_store_is s value t t (t + 2) line)))

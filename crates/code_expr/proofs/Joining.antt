@@ -78,14 +78,3 @@ landed k xs n place word l d before line code made p e w is l_is =
     ∙ ap (λ v. before.steps ++ v ∷ steps code) put in
     ap₂ (λ c m. listing c (slice_set xs place (with_line word l)) m) (ap (λ s. s.constants) e) (ap (λ s. s.made) e)
     ∙ ap (λ x. listing before.constants x (before.made + made)) set_is
-
--- a test, a jump that was left open and what it leads past
-pub jumped :
-    (s0 s1 s2 s3 s4 s5 : Listing) (a : List Coded) (m : ℕ) (test : Coded) (line : ℕ) (b : List Const → ℕ → List Coded) (n place : ℕ)
-    → s1 ≡ followed s0 a m → s2 ≡ listed s1 (test ∷ []) → s3 ≡ listed s2 (jump_over 0 line ∷ []) → place ≡ length s2.steps → s4 ≡ followed s3 (b s3.constants s3.made) n
-    → ((before : Listing) (line : ℕ) (code : List Coded) (made : ℕ) → place ≡ length before.steps → s4 ≡ followed (listed before (jump_over 0 line ∷ [])) code made → s5 ≡ followed before (jump_over (length code) line ∷ code) made)
-    → s5 ≡ followed s0 (a ++ (test ∷ jump_over (length (b s0.constants (s0.made + m))) line ∷ b s0.constants (s0.made + m))) (m + n)
-jumped s0 s1 s2 s3 s4 s5 a m test line b n place e1 e2 e3 place_is e4 lands =
-    let open_jump : s4 ≡ followed (listed s2 (jump_over 0 line ∷ [])) (b s2.constants s2.made) n = subst (λ x. s4 ≡ followed x (b x.constants x.made) n) e3 e4 in
-    then_made s0 s1 s5 a m (λ k j. test ∷ jump_over (length (b k j)) line ∷ b k j) n e1
-    (listed_then s1 s2 s5 (test ∷ []) (λ k j. jump_over (length (b k j)) line ∷ b k j) n e2 (lands s2 line (b s2.constants s2.made) n place_is open_jump))

@@ -1,7 +1,9 @@
 pub mod Numbers
 pub mod Joining
 pub mod Seats
+pub mod Links
 pub mod ConstantSeats
+pub mod ValueSeats
 pub mod FieldSeats
 pub mod TargetSeats
 pub mod Rows
@@ -10,3 +12,4 @@ pub mod Going
 pub mod Patching
 pub mod Leading
 pub mod Testing
+pub mod Kept

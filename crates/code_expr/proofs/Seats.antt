@@ -1,5 +1,5 @@
 -- Operands by where they stand.
-use Rattle.std.proofs.Common.{leb-true, ◌≡◌, ℕ, ◌+◌, ◌<◌, ◌≤◌, pos, Bool, true, false, cond, List, [], ◌++◌, Option, Some, None, refl, sym, ap, ap₂, ◌∙◌, arith, append-nil, append_assoc}
+use Rattle.std.proofs.Common.{leb-true, ◌≡◌, ℕ, zero, suc, ◌+◌, ◌<◌, ◌≤◌, pos, Bool, true, false, cond, List, [], ◌++◌, Option, Some, None, refl, sym, ap, ap₂, ◌∙◌, arith, append-nil, append_assoc}
 use Rattle.std.specs.Prelude.{nat_le, is_some}
 use borrow.Author.Tests.{le-leb}
 use Rattle.tree_core.specs.declared.operator.BinOp.{BinOp}
@@ -7,7 +7,7 @@ use Rattle.tree_core.specs.declared.operator.BinOp.TheVariants.{Add as Plus, Sub
 use Rattle.tree_core.specs.Tree.{Exp}
 use Rattle.code_of.specs.Coded.{Coded}
 use Rattle.code_of.specs.Expressions.{made_by}
-use Rattle.code_of.specs.Operands.{local_of, greatest, up_to, numeral_of, joins, Second, a_number, a_local, made, second_by, second_of, key_operand, first_of, seat, unless, operands_code}
+use Rattle.code_of.specs.Operands.{local_of, up_to, numeral_of, joins, Second, a_number, a_local, made, second_by, second_of, key_operand, first_of, seat, unless, operands_code, from_one, operand_numeral}
 use Rattle.code_of.proofs.Operands.{numeral_none}
 use Rattle.code_of.proofs.Operands as operands
 use Rattle.code_expr.specs.Listing.{Listing, listed, followed}
@@ -18,7 +18,7 @@ use Rattle.code_expr.proofs.Joining.{listing, then_listed}
 
 -- where the second operand stands
 
-join_none : (op : BinOp) (d : Exp) → joins op ≡ true → numeral_of d (greatest op) ≡ None
+join_none : (op : BinOp) (d : Exp) → joins op ≡ true → operand_numeral op d ≡ None
 join_none Join d e = none (numeral_of d None) refl
   where
     none : (o : Option ℕ) → numeral_of d None ≡ o → o ≡ None
@@ -41,8 +41,8 @@ join_none AtMost d e = absurd (cc)
 join_none Gt d e = absurd (cc)
 join_none Ge d e = absurd (cc)
 
-pub second_numeral : (op : BinOp) (d : Exp) → number_of_second (second_of op d) ≡ numeral_of d (greatest op)
-second_numeral op d = by (joins op) (numeral_of d (greatest op)) (local_of d) (join_none op d)
+pub second_numeral : (op : BinOp) (d : Exp) → number_of_second (second_of op d) ≡ operand_numeral op d
+second_numeral op d = by (joins op) (operand_numeral op d) (local_of d) (join_none op d)
   where
     by : (b : Bool) (number local : Option ℕ) → (b ≡ true → number ≡ None) → number_of_second (cond b made (second_by number local)) ≡ number
     by true number local h = sym (h refl)
@@ -53,8 +53,8 @@ second_numeral op d = by (joins op) (numeral_of d (greatest op)) (local_of d) (j
 pub second_joins : (d : Exp) → local_of_second (second_of Join d) ≡ None
 second_joins d = refl
 
-pub second_number : (op : BinOp) (d : Exp) → is_some (numeral_of d (greatest op)) ≡ true → local_of_second (second_of op d) ≡ None
-second_number op d e = by (joins op) (numeral_of d (greatest op)) (local_of d) e
+pub second_number : (op : BinOp) (d : Exp) → is_some (operand_numeral op d) ≡ true → local_of_second (second_of op d) ≡ None
+second_number op d e = by (joins op) (operand_numeral op d) (local_of d) e
   where
     by : (b : Bool) (number local : Option ℕ) → is_some number ≡ true → local_of_second (cond b made (second_by number local)) ≡ None
     by true number local e = refl
@@ -80,8 +80,8 @@ not_join AtMost h = refl
 not_join Gt h = refl
 not_join Ge h = refl
 
-pub second_local : (op : BinOp) (d : Exp) → (op ≡ Join → ⊥) → is_some (numeral_of d (greatest op)) ≡ false → local_of_second (second_of op d) ≡ local_of d
-second_local op d other e = by (joins op) (numeral_of d (greatest op)) (local_of d) (not_join op other) e
+pub second_local : (op : BinOp) (d : Exp) → (op ≡ Join → ⊥) → is_some (operand_numeral op d) ≡ false → local_of_second (second_of op d) ≡ local_of d
+second_local op d other e = by (joins op) (operand_numeral op d) (local_of d) (not_join op other) e
   where
     by : (b : Bool) (number local : Option ℕ) → b ≡ false → is_some number ≡ false → local_of_second (cond b made (second_by number local)) ≡ local
     by false None (Some r) b_is e = refl
@@ -100,6 +100,14 @@ above most n h = by (nat_le n most) refl
     by : (b : Bool) → nat_le n most ≡ b → cond b (Some n) None ≡ None
     by false e = refl
     by true e = let le = leb-true n most e in absurd (omega (arith, le, h))
+
+pub one_or_more : (n : ℕ) → 1 ≤ n → from_one (Some n) ≡ Some n
+one_or_more zero h = absurd (omega (arith, h))
+one_or_more (suc n) h = refl
+
+pub less_than_one : (n : ℕ) → n < 1 → from_one (Some n) ≡ None
+less_than_one zero h = refl
+less_than_one (suc n) h = absurd (omega (arith, h))
 
 -- what stands first is the operands, and then what is done with them
 

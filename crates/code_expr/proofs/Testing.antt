@@ -4,12 +4,14 @@ use Rattle.std.specs.Prelude.{not, IfOk, IfSome}
 use Rattle.std.specs.declared.alloc.AllocError.{AllocError}
 use Rattle.std.proofs.lemmas.Result.{IfOk-weaker}
 use Rattle.tree_core.specs.declared.operator.BinOp.{BinOp}
+use Rattle.tree_core.specs.declared.operator.UnOp.TheVariants.{Not as Negation}
 use Rattle.tree_core.specs.Tree.{Exp, Nil, True, False, Int, Str, Vararg, Function, Var, Index, Call, Method, Unary, Binary, And, Or, Paren, Table}
 use Rattle.code_core.specs.declared.opcode.Opcode.{Opcode}
 use Rattle.code_core.specs.declared.opcode.Opcode.TheVariants.{Test, EqK}
 use Rattle.code_core.specs.declared.proto.Const.{Const}
 use Rattle.code_of.specs.Coded.{Coded}
-use Rattle.code_of.specs.Conditions.{jump_if, pick, compared, is_not, line_of, value_test, test_code}
+use Rattle.code_of.specs.Truths.{jump_if, pick, compared, is_not, line_of}
+use Rattle.code_of.specs.Conditions.{value_test, test_code}
 use Rattle.code_of.specs.Expressions.{exp_code, made_by}
 use Rattle.code_of.specs.Operands.{local_of, second_of, first_of, seat, unless, operands_code}
 use Rattle.code_of.specs.Operations.{constant_in, operation_by}
@@ -31,6 +33,25 @@ Compares o op = (other : List Coded) (by : Opcode → Bool → Bool → List Cod
 
 pub operator_is : (o : Option Comparison) (c : Comparison) (op : BinOp) → o ≡ Some c → IfSome o (λ x. x.op ≡ op) → c.op ≡ op
 operator_is o c op is h = subst (λ x. IfSome x (λ y. y.op ≡ op)) is h
+
+-- brackets, `not`, and `and` and `or`, by their parts
+
+module _ (s q : Listing) (w : Bool) (t : ℕ) (r : Places) (x : Exp) (line : ℕ) where
+  pub paren_tests : (e : Exp) → x ≡ Paren line e → IfOk r (λ places. Tests s q e w t places.items) → IfOk r (λ places. Tests s q x w t places.items)
+  paren_tests e is h = subst (λ y. IfOk r (λ places. Tests s q y w t places.items)) (sym is) h
+
+  pub not_tests : (e : Exp) → x ≡ Unary line Negation e → IfOk r (λ places. Tests s q e (not w) t places.items) → IfOk r (λ places. Tests s q x w t places.items)
+  not_tests e is h = subst (λ y. IfOk r (λ places. Tests s q y w t places.items)) (sym is) h
+
+  pub and_tests :
+      (e d : Exp) → x ≡ And line e d → IfOk r (λ places. Opened s q (λ ahead. either_test s.constants false e d w ahead t s.made) (made_by e + made_by d) places.items)
+      → IfOk r (λ places. Tests s q x w t places.items)
+  and_tests e d is h = subst (λ y. IfOk r (λ places. Tests s q y w t places.items)) (sym is) h
+
+  pub or_tests :
+      (e d : Exp) → x ≡ Or line e d → IfOk r (λ places. Opened s q (λ ahead. either_test s.constants true e d w ahead t s.made) (made_by e + made_by d) places.items)
+      → IfOk r (λ places. Tests s q x w t places.items)
+  or_tests e d is h = subst (λ y. IfOk r (λ places. Tests s q y w t places.items)) (sym is) h
 
 module _ (s q : Listing) (w : Bool) (t : ℕ) (r : Places) where
   pub by_value_tests :

@@ -1,13 +1,16 @@
 -- Where the key of a stored field stands, and what is written of the object, the key and the value.
-use Rattle.std.specs.Prelude.{ℕ, ◌+◌, Bool, List, [], Option, Some, None}
+use Rattle.std.specs.Prelude.{ℕ, ◌+◌, Bool, true, false, List, [], Option, Some, None}
 use Rattle.tree_core.specs.Tree.{Exp, Index}
 use Rattle.code_core.specs.declared.opcode.Opcode.TheVariants.{SetTable, SetI, SetField}
-use Rattle.code_of.specs.Coded.{Coded, with_abc}
+use Rattle.code_core.specs.Instruction.{abc}
+use Rattle.code_of.specs.Coded.{Coded}
 use Rattle.code_of.specs.Expressions.{made_by}
 use Rattle.code_of.specs.Operands.{local_of}
-use Rattle.code_of.specs.Stores.{FieldKey, a_name, an_index, a_register, evaluated, beside_quiet}
+use Rattle.code_of.specs.Stores.{FieldKey, a_name, an_index, a_register, evaluated, StoredValue, constant_value, local_value, made_value, beside_quiet}
 use Rattle.code_expr.specs.declared.stores.KeySeat.{KeySeat}
 use Rattle.code_expr.specs.declared.stores.KeySeat.TheVariants.{Name, Index as Numeral, Register, Above}
+use Rattle.code_expr.specs.declared.stores.ValueSeat.{ValueSeat}
+use Rattle.code_expr.specs.declared.stores.ValueSeat.TheVariants.{Constant, Local, Made}
 
 abbrev pub key_seat : FieldKey → KeySeat
 key_seat (a_name number) = Name number
@@ -32,12 +35,33 @@ abbrev pub seat_made : KeySeat → ℕ → ℕ
 seat_made Above n = n
 seat_made _ n = 0
 
--- the key stands in register y if it is made
-abbrev pub seat_store : KeySeat → (x y v line : ℕ) → Coded
-seat_store (Name number) x y v line = with_abc SetField x number v line
-seat_store (Numeral n) x y v line = with_abc SetI x n v line
-seat_store (Register r) x y v line = with_abc SetTable x r v line
-seat_store Above x y v line = with_abc SetTable x y v line
+-- the key stands in register y if it is made, and the value is a constant or stands in register v
+abbrev pub seat_store : KeySeat → (x y : ℕ) → (constant : Bool) → (v line : ℕ) → Coded
+seat_store (Name number) x y constant v line = (abc SetField x number v constant, line)
+seat_store (Numeral n) x y constant v line = (abc SetI x n v constant, line)
+seat_store (Register r) x y constant v line = (abc SetTable x r v constant, line)
+seat_store Above x y constant v line = (abc SetTable x y v constant, line)
+
+-- where the value stands
+
+abbrev pub value_place : StoredValue → ValueSeat
+value_place (constant_value number) = Constant number
+value_place (local_value r) = Local r
+value_place made_value = Made
+
+abbrev pub place_code : ValueSeat → List Coded → List Coded
+place_code Made code = code
+place_code _ code = []
+
+abbrev pub place_made : ValueSeat → ℕ → ℕ
+place_made Made n = n
+place_made _ n = 0
+
+-- the value stands in register z if it is made
+abbrev pub place_store : KeySeat → ValueSeat → (x y z line : ℕ) → Coded
+place_store stands (Constant number) x y z line = seat_store stands x y true number line
+place_store stands (Local r) x y z line = seat_store stands x y false r line
+place_store stands Made x y z line = seat_store stands x y false z line
 
 -- how many functions the store in a field makes
 abbrev pub made_in_field : (target value : Exp) → ℕ

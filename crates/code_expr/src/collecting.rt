@@ -2,7 +2,8 @@
 ghost use Rattle.std.specs.Prelude.{◌≡◌, OnOk, map};
 ghost use Rattle.tree_core.specs.Tree.{exps, fields};
 ghost use Rattle.tree_core.specs.Plain.{plain_exp, plain_exps, plain_field};
-ghost use Rattle.code_of.specs.Constants.{of_name, of_exp, of_exps, of_fields, of_field};
+ghost use Rattle.code_of.specs.ConstantOperands.{global_constant, target_constant, stored_constant};
+ghost use Rattle.code_of.specs.Constants.{with_any, of_name, of_exp, of_exps, of_fields, of_field};
 
 use crate::constants::{Constants, is_small};
 use std::alloc::{AllocError, Global};
@@ -90,8 +91,63 @@ impl Constants {
             Field::Item(value) => self.add_exp(alloc, value),
             Field::Keyed { key, value, .. } => {
                 self.add_exp(alloc, key)?;
+                self.add_literal(alloc, value)?;
                 self.add_exp(alloc, value)
             }
         }
+    }
+    /// Adds a constant that is stored in a global name.
+    fn add_global(&mut self, alloc: Global, name: &Name, value: &Exp) -> Result<(), AllocError>
+        ensures { OnOk result (self.new ≡ with_any (global_constant name.now.place (plain_exp value.now)) self.old) }
+    {
+        match name.place {
+            Place::GlobalIn(_) | Place::GlobalOf(_) => self.add_literal(alloc, value),
+            Place::Unset | Place::Local(_) | Place::Upvalue(_) => Ok(()),
+        }
+    }
+
+    /// Adds a constant that is stored in a target, where its store may name it.
+    fn add_target(&mut self, alloc: Global, target: &Exp, value: &Exp) -> Result<(), AllocError>
+        ensures { OnOk result (self.new ≡ with_any (target_constant (plain_exp target.now) (plain_exp value.now)) self.old) }
+    {
+        match &target.node {
+            ExpNode::Var(name) => self.add_global(alloc, name, value),
+            ExpNode::Index(_, _) => self.add_literal(alloc, value),
+            ExpNode::Nil
+            | ExpNode::True
+            | ExpNode::False
+            | ExpNode::Int(_)
+            | ExpNode::Str(_)
+            | ExpNode::Vararg
+            | ExpNode::Function(_)
+            | ExpNode::Call(_, _)
+            | ExpNode::Method(_, _, _)
+            | ExpNode::Unary(_, _)
+            | ExpNode::Binary(_, _, _)
+            | ExpNode::And(_, _)
+            | ExpNode::Or(_, _)
+            | ExpNode::Paren(_)
+            | ExpNode::Table(_) => Ok(()),
+        }
+    }
+
+    /// Adds the value of an assignment of one value to one target, where its store may name it as a constant.
+    pub fn add_stored(
+        &mut self,
+        alloc: Global,
+        targets: &Vec<Exp>,
+        values: &Vec<Exp>,
+    ) -> Result<(), AllocError>
+        ensures { OnOk result (self.new ≡ with_any (stored_constant (exps (plain_exps targets.now.items)) (exps (plain_exps values.now.items))) self.old) }
+    {
+        if targets.len() != 1 {
+            return Ok(());
+        }
+        if values.len() != 1 {
+            return Ok(());
+        }
+        let target = &targets[0];
+        let value = &values[0];
+        self.add_target(alloc, target, value)
     }
 }

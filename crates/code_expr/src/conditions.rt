@@ -3,7 +3,8 @@ ghost use Rattle.std.specs.Prelude.{◌≡◌, ◌+◌, [], ◌∷◌, List, Boo
 ghost use Rattle.tree_core.specs.Plain.{plain_exp};
 ghost use Rattle.code_core.specs.declared.opcode.Opcode as opcode;
 ghost use Rattle.code_of.specs.Coded.{Coded, jump_over};
-ghost use Rattle.code_of.specs.Conditions.{jump_if, pick, compared, value_test};
+ghost use Rattle.code_of.specs.Truths.{jump_if, pick, compared};
+ghost use Rattle.code_of.specs.Conditions.{value_test};
 ghost use Rattle.code_of.specs.Expressions.{made_by};
 ghost use Rattle.code_expr.specs.Leading.{Opened};
 ghost use Rattle.code_expr.specs.Listing.{listed};
@@ -80,7 +81,7 @@ impl Emitter {
     /// Writes a condition. Code goes on behind it where its truth is the wanted one, and else leads
     /// away: answers the places of the jumps that do, which `lead` leads somewhere. The registers
     /// from one on are free.
-    #[cycle(conditions)]
+    #[cycle(expressions)]
     pub fn condition(
         &mut self,
         exp: &Exp,
@@ -119,7 +120,7 @@ impl Emitter {
     }
 
     /// Writes `and` or `or` as a condition, where the first operand decides if its truth is `decides`.
-    #[cycle(conditions)]
+    #[cycle(expressions)]
     fn either_of(
         &mut self,
         decides: bool,
@@ -142,6 +143,7 @@ impl Emitter {
     }
 
     /// Writes a comparison of two operands and the jump where it does not come to what is wanted.
+    #[cycle(expressions)]
     fn compare(
         &mut self,
         comparison: &Comparison,
@@ -229,6 +231,7 @@ impl Emitter {
     }
 
     /// Writes an expression whose value is tested, and the jump where its truth is not the wanted one.
+    #[cycle(expressions)]
     fn by_value(&mut self, exp: &Exp, wanted: bool, free: usize) -> Result<Vec<usize>, AllocError>
         ensures { IfOk result (λ places. Opened self.old self.new (λ ahead. value_test self.old.constants (plain_exp exp.now) wanted ahead free self.old.made) (made_by (plain_exp exp.now)) places.items) }
     {
@@ -249,7 +252,7 @@ impl Emitter {
     }
 
     /// Writes an instruction that tests and the jump behind it, which is taken or passed over.
-    fn test(
+    pub(crate) fn test(
         &mut self,
         op: Opcode,
         x: usize,
@@ -265,7 +268,7 @@ impl Emitter {
     }
 
     /// Writes a jump that leads away, and answers its place.
-    fn jump_away(&mut self, line: u32) -> Result<Vec<usize>, AllocError>
+    pub(crate) fn jump_away(&mut self, line: u32) -> Result<Vec<usize>, AllocError>
         ensures jump { OnOk result (self.new ≡ listed self.old (jump_over 0 line ∷ [])) }
         ensures place { IfOk result (λ away. away.items ≡ length self.old.steps ∷ []) }
     {

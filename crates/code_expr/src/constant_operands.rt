@@ -9,7 +9,7 @@ ghost use Rattle.code_expr.specs.Operands.{operation_staying};
 
 use crate::constants::Constants;
 use crate::emitter::Emitter;
-use crate::operands::{Second, greatest, numeral_of, staying};
+use crate::operands::{Second, operand_numeral, staying};
 use std::alloc::{AllocError, Global};
 use tree_core::{BinOp, Exp, ExpNode};
 
@@ -24,7 +24,7 @@ impl Constants {
     ) -> Result<(), AllocError>
         ensures { OnOk result (self.new ≡ with_any (constant_of op (plain_exp exp.now)) self.old) }
     {
-        if numeral_of(exp, greatest(op)).is_some() {
+        if operand_numeral(op, exp).is_some() {
             return Ok(());
         }
         self.add_literal_of(alloc, op, exp)
@@ -80,7 +80,7 @@ impl Constants {
     }
 
     /// Adds a constant that is written out.
-    fn add_literal(&mut self, alloc: Global, exp: &Exp) -> Result<(), AllocError>
+    pub(crate) fn add_literal(&mut self, alloc: Global, exp: &Exp) -> Result<(), AllocError>
         ensures { OnOk result (self.new ≡ with_any (any_constant (plain_exp exp.now)) self.old) }
     {
         match &exp.node {
@@ -130,7 +130,7 @@ impl Constants {
     }
 
     /// The number of a constant that is written out, if it has 8 bits, or none.
-    fn literal_number(&self, exp: &Exp) -> Option<usize>
+    pub(crate) fn literal_number(&self, exp: &Exp) -> Option<usize>
         ensures { result ≡ short_of self.now (any_constant (plain_exp exp.now)) }
     {
         match &exp.node {
@@ -183,7 +183,7 @@ impl Constants {
     fn operand(&self, op: BinOp, exp: &Exp) -> Option<usize>
         ensures { result ≡ constant_in self.now op (plain_exp exp.now) }
     {
-        if numeral_of(exp, greatest(op)).is_some() {
+        if operand_numeral(op, exp).is_some() {
             return None;
         }
         self.literal_of(op, exp)

@@ -2,14 +2,16 @@
 ghost use Rattle.std.specs.Prelude.{◌≡◌, ◌+◌, ◌++◌, OnOk, IfOk, map, nat_eq};
 ghost use Rattle.tree_core.specs.Tree.{exps, fields, Call, Method, Index, Binary, Unary, Table};
 ghost use Rattle.tree_core.specs.Plain.{plain_exp, plain_exps, plain_field};
-ghost use Rattle.code_of.specs.Expressions.{exp_code, exps_code, either_code, made_by, made_in, made_in_fields, made_by_field};
+ghost use Rattle.code_of.specs.Expressions.{exp_code, exps_code, made_by, made_in, made_in_fields, made_by_field};
 ghost use Rattle.code_of.specs.Operands.{local_of, seat, unless};
 ghost use Rattle.code_of.specs.Parts.{direct_code};
 ghost use Rattle.code_expr.specs.Listing.{followed};
 ghost use Rattle.code_expr.specs.declared.operands.Second.TheVariants.{Register};
 ghost use Rattle.code_expr.specs.Operands.{stays_code, stays_made, stays_at};
 ghost use Rattle.code_expr.specs.Parts.{item_code, keyed_code, field_code, items_after};
+ghost use Rattle.code_expr.specs.Testing.{either_value};
 
+use crate::chains::joins;
 use crate::emitter::{Emitter, next};
 use crate::lists::{field_where, fills, item_field, list_field, stored_field, wanted_where};
 use crate::operands::{Operands, Second, key_staying, local_of};
@@ -40,8 +42,8 @@ impl Emitter {
             ExpNode::Unary(op, operand) => self.unary(*op, operand, target, target, line),
             ExpNode::Binary(op, left, right) => self.binary(*op, left, right, target, line),
             ExpNode::Index(object, key) => self.index(object, key, target, target, line),
-            ExpNode::And(left, right) => self.either(false, left, right, target, line),
-            ExpNode::Or(left, right) => self.either(true, left, right, target, line),
+            ExpNode::And(left, right) => self.either(false, left, right, target),
+            ExpNode::Or(left, right) => self.either(true, left, right, target),
             ExpNode::Call(called, arguments) => self.call(called, arguments, target, results, line),
             ExpNode::Method(object, name, arguments) => {
                 self.method(object, name, arguments, target, results, line)
@@ -79,6 +81,9 @@ impl Emitter {
     ) -> Result<(), AllocError>
         ensures { OnOk result (self.new ≡ followed self.old (exp_code self.old.constants (Binary line op (plain_exp left.now) (plain_exp right.now)) target self.old.made 2) (made_by (Binary line op (plain_exp left.now) (plain_exp right.now)))) }
     {
+        if joins(op) {
+            return self.join(left, right, target, line);
+        }
         let stays = self.standing(op, right);
         let operands = self.operands(stays, left, right, target)?;
         self.apply(op, operands, target, line)?;
@@ -173,15 +178,13 @@ impl Emitter {
         first: &Exp,
         second: &Exp,
         target: usize,
-        line: u32,
     ) -> Result<(), AllocError>
-        ensures { OnOk result (self.new ≡ followed self.old (either_code decides (exp_code self.old.constants (plain_exp first.now) target self.old.made 2) (exp_code self.old.constants (plain_exp second.now) target (self.old.made + made_by (plain_exp first.now)) 2) target line) (made_by (plain_exp first.now) + made_by (plain_exp second.now))) }
+        ensures { OnOk result (self.new ≡ followed self.old (either_value self.old.constants decides (plain_exp first.now) (plain_exp second.now) target self.old.made) (made_by (plain_exp first.now) + made_by (plain_exp second.now))) }
     {
-        self.expression(first, target, 2)?;
-        self.put_flagged(Opcode::Test, target, 0, 0, decides, line)?;
-        let jump = self.put_open_jump(line)?;
+        let decided = self.keep(first, decides, target)?;
         self.expression(second, target, 2)?;
-        self.land(jump);
+        let end = self.steps().len();
+        self.lead(&decided, end)?;
         Ok(())
     }
 
@@ -328,11 +331,12 @@ impl Emitter {
     {
         let above = next(target)?;
         let top = next(above)?;
+        let seat = self.value_seat(value);
         let quiet = is_quiet(value);
         let stands = self.key_seat(quiet, key);
         self.write_key(stands, key, above)?;
-        let register = self.operand(value, top)?;
-        self.put_store(stands, target, above, register, line)?;
+        self.write_value(seat, value, top)?;
+        self.put_value(stands, seat, target, above, top, line)?;
         Ok(())
     }
 }

@@ -1,6 +1,7 @@
 //! The code of expressions (Lua 5.4 manual, 3.4), written into the code of the function that they stand in.
 #![tactic(auto)]
 
+mod chains;
 mod collecting;
 mod conditions;
 mod constant_operands;
@@ -8,6 +9,7 @@ mod constants;
 mod direct;
 mod emitter;
 mod expressions;
+mod keeping;
 mod lists;
 mod names;
 mod operands;
@@ -20,5 +22,5 @@ mod word;
 pub use constants::Constants;
 pub use direct::direct_local;
 pub use emitter::{Emitted, Emitter, Step, next};
-pub use lists::{is_open, list_field};
+pub use lists::{is_open, list_field, lone_local};
 pub use stores::is_field;

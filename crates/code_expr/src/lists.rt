@@ -3,10 +3,12 @@ ghost use Rattle.std.specs.Prelude.{◌≡◌, ◌&&◌, OnOk, IfOk, cond, nat_e
 ghost use Rattle.tree_core.specs.Tree.{exps};
 ghost use Rattle.tree_core.specs.Plain.{plain_exp, plain_exps};
 ghost use Rattle.code_of.specs.Expressions.{is_open, list_field, nils_code, set_list};
+ghost use Rattle.code_of.specs.Operands.{lone_local};
 ghost use Rattle.code_expr.specs.Listing.{listed};
 ghost use Rattle.code_expr.specs.Parts.{field_where, wanted_where};
 
 use crate::emitter::{Emitter, next};
+use crate::operands::local_of;
 use code_core::Opcode;
 use std::alloc::AllocError;
 use tree_core::{Exp, ExpNode};
@@ -42,6 +44,17 @@ pub fn list_field(before: u8, list: &Vec<Exp>) -> usize
         return 0;
     }
     usize::from(before) + count + 1
+}
+
+/// The register of a local that is all of a list, in brackets or not, or none.
+pub fn lone_local(list: &Vec<Exp>) -> Option<usize>
+    ensures { result ≡ lone_local (exps (plain_exps list.now.items)) }
+{
+    if list.len() != 1 {
+        return None;
+    }
+    let only = &list[0];
+    local_of(only)
 }
 
 /// The field C of an expression, which may fill what is left of the wanted values.

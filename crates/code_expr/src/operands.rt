@@ -1,7 +1,7 @@
 // Where the operands of an operator stand, and an object and its key.
 ghost use Rattle.std.specs.Prelude.{◌≡◌};
 ghost use Rattle.tree_core.specs.Plain.{plain_exp};
-ghost use Rattle.code_of.specs.Operands.{local_at, local_of, greatest, up_to, numeral_of, second_of, key_operand};
+ghost use Rattle.code_of.specs.Operands.{local_at, local_of, greatest, up_to, numeral_of, from_one, operand_numeral, second_of, key_operand};
 ghost use Rattle.code_expr.specs.Operands.{number_of_second, local_of_second, staying};
 
 use tree_core::{BinOp, Exp, ExpNode, Name, Place};
@@ -62,7 +62,7 @@ pub(crate) fn local_of(exp: &Exp) -> Option<usize>
 }
 
 /// The greatest numeral that the instruction of an operator may hold, or none.
-pub(crate) fn greatest(op: BinOp) -> Option<usize>
+fn greatest(op: BinOp) -> Option<usize>
     ensures { result ≡ greatest op }
 {
     match op {
@@ -74,14 +74,13 @@ pub(crate) fn greatest(op: BinOp) -> Option<usize>
         | BinOp::Le
         | BinOp::Gt
         | BinOp::Ge => Some(128),
-        BinOp::Sub => Some(127),
+        BinOp::Sub | BinOp::Shl => Some(127),
         BinOp::Mul
         | BinOp::Mod
         | BinOp::Idiv
         | BinOp::Band
         | BinOp::Bor
         | BinOp::Bxor
-        | BinOp::Shl
         | BinOp::Concat => None,
     }
 }
@@ -126,12 +125,49 @@ pub(crate) fn numeral_of(exp: &Exp, most: Option<usize>) -> Option<usize>
     }
 }
 
+/// A number that is at least 1, or none.
+#[tactic(auto, using(crate::proofs::Seats::one_or_more, crate::proofs::Seats::less_than_one))]
+fn from_one(number: Option<usize>) -> Option<usize>
+    ensures { result ≡ from_one number }
+{
+    let number = number?;
+    if number < 1 {
+        return None;
+    }
+    Some(number)
+}
+
+/// The second operand of an operator, where it is a numeral in its instruction, or none.
+pub(crate) fn operand_numeral(op: BinOp, exp: &Exp) -> Option<usize>
+    ensures { result ≡ operand_numeral op (plain_exp exp.now) }
+{
+    match op {
+        BinOp::Shl => from_one(numeral_of(exp, greatest(op))),
+        BinOp::Add
+        | BinOp::Sub
+        | BinOp::Mul
+        | BinOp::Mod
+        | BinOp::Idiv
+        | BinOp::Band
+        | BinOp::Bor
+        | BinOp::Bxor
+        | BinOp::Shr
+        | BinOp::Concat
+        | BinOp::Eq
+        | BinOp::Ne
+        | BinOp::Lt
+        | BinOp::Le
+        | BinOp::Gt
+        | BinOp::Ge => numeral_of(exp, greatest(op)),
+    }
+}
+
 /// The second operand of an operator as a numeral in the instruction, or none.
 #[tactic(auto, using(crate::proofs::Seats::second_numeral))]
 fn numeral(op: BinOp, exp: &Exp) -> Option<usize>
     ensures { result ≡ number_of_second (second_of op (plain_exp exp.now)) }
 {
-    numeral_of(exp, greatest(op))
+    operand_numeral(op, exp)
 }
 
 /// The register of a local that is the second operand of an operator and no numeral, or none.
@@ -139,7 +175,7 @@ fn numeral(op: BinOp, exp: &Exp) -> Option<usize>
 fn local(op: BinOp, exp: &Exp) -> Option<usize>
     ensures { result ≡ local_of_second (second_of op (plain_exp exp.now)) }
 {
-    if op == BinOp::Concat || numeral_of(exp, greatest(op)).is_some() {
+    if op == BinOp::Concat || operand_numeral(op, exp).is_some() {
         return None;
     }
     local_of(exp)

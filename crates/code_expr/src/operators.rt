@@ -178,6 +178,7 @@ impl Emitter {
         match op {
             BinOp::Add => self.sum(Opcode::AddI, raised, 6, x, number, target, line),
             BinOp::Sub => self.sum(Opcode::AddI, lowered, 7, x, number, target, line),
+            BinOp::Shl => self.sum(Opcode::ShrI, lowered, 16, x, number, target, line),
             BinOp::Shr => self.sum(Opcode::ShrI, raised, 17, x, number, target, line),
             BinOp::Eq => self.truth(Opcode::EqI, x, raised, true, target, line),
             BinOp::Ne => self.truth(Opcode::EqI, x, raised, false, target, line),
@@ -191,7 +192,6 @@ impl Emitter {
             | BinOp::Band
             | BinOp::Bor
             | BinOp::Bxor
-            | BinOp::Shl
             | BinOp::Concat => Ok(()),
         }
     }

@@ -6,8 +6,9 @@ ghost use Rattle.code_of.specs.Expressions.{exp_code, made_by};
 ghost use Rattle.code_of.specs.Operands.{local_of, seat, unless};
 ghost use Rattle.code_of.specs.Parts.{field_code};
 ghost use Rattle.code_of.specs.Stores.{short_number, name_in, field_key, is_field};
+ghost use Rattle.code_of.specs.StoredValues.{stored_value};
 ghost use Rattle.code_expr.specs.Listing.{followed, listed};
-ghost use Rattle.code_expr.specs.Stores.{key_seat, object_at, made_unless, seat_code, seat_made, seat_store, made_in_field};
+ghost use Rattle.code_expr.specs.Stores.{key_seat, object_at, made_unless, seat_code, seat_made, seat_store, value_place, place_code, place_made, place_store, made_in_field};
 
 use crate::emitter::{Emitter, next};
 use crate::operands::{local_of, numeral_of};
@@ -27,6 +28,17 @@ pub(crate) enum KeySeat {
     Register(usize),
     /// It is made above the object.
     Above,
+}
+
+/// Where the value of a store stands.
+#[derive(Clone, Copy, Debug, PartialEq, Eq)]
+pub(crate) enum ValueSeat {
+    /// It is the constant of this number.
+    Constant(usize),
+    /// It is a local in its own register.
+    Local(usize),
+    /// It is made above the key.
+    Made,
 }
 
 /// The number of a constant, where a field of 8 bits holds it, or none.
@@ -120,6 +132,20 @@ impl Emitter {
         }
     }
 
+    /// Where a value that is stored stands.
+    #[tactic(auto, using(crate::proofs::ValueSeats::seat_constant, crate::proofs::ValueSeats::seat_local, crate::proofs::ValueSeats::seat_made))]
+    pub(crate) fn value_seat(&self, value: &Exp) -> ValueSeat
+        ensures { result ≡ value_place (stored_value self.now.constants (plain_exp value.now)) }
+    {
+        if let Some(number) = self.constants().literal_number(value) {
+            return ValueSeat::Constant(number);
+        }
+        match local_of(value) {
+            Some(register) => ValueSeat::Local(register),
+            None => ValueSeat::Made,
+        }
+    }
+
     /// Writes an operand that does not stay in a register, and answers where it stands.
     #[tactic(auto, using(crate::proofs::FieldSeats::stays_written))]
     fn stand(&mut self, stays: Option<usize>, exp: &Exp, target: usize) -> Result<usize, AllocError>
@@ -152,22 +178,72 @@ impl Emitter {
         }
     }
 
-    /// Writes the store of a value, where the object and the value stand in registers, and a key that is made in another.
+    /// Writes a value that is made.
+    #[cycle(expressions)]
+    #[tactic(auto, using(crate::proofs::Seats::nothing_more))]
+    pub(crate) fn write_value(
+        &mut self,
+        seat: ValueSeat,
+        value: &Exp,
+        target: usize,
+    ) -> Result<(), AllocError>
+        ensures { OnOk result (self.new ≡ followed self.old (place_code seat (exp_code self.old.constants (plain_exp value.now) target self.old.made 2)) (place_made seat (made_by (plain_exp value.now)))) }
+    {
+        match seat {
+            ValueSeat::Made => self.expression(value, target, 2),
+            ValueSeat::Constant(_) => Ok(()),
+            ValueSeat::Local(_) => Ok(()),
+        }
+    }
+
+    /// Writes the store of a constant or of a register's value, where the object stands in a register and a key that is made in another.
     pub(crate) fn put_store(
         &mut self,
         stands: KeySeat,
         object: usize,
         above: usize,
+        constant: bool,
         value: usize,
         line: u32,
     ) -> Result<(), AllocError>
-        ensures { OnOk result (self.new ≡ listed self.old (seat_store stands object above value line ∷ [])) }
+        ensures { OnOk result (self.new ≡ listed self.old (seat_store stands object above constant value line ∷ [])) }
     {
         match stands {
-            KeySeat::Name(number) => self.put_abc(Opcode::SetField, object, number, value, line),
-            KeySeat::Index(number) => self.put_abc(Opcode::SetI, object, number, value, line),
-            KeySeat::Register(key) => self.put_abc(Opcode::SetTable, object, key, value, line),
-            KeySeat::Above => self.put_abc(Opcode::SetTable, object, above, value, line),
+            KeySeat::Name(number) => {
+                self.put_flagged(Opcode::SetField, object, number, value, constant, line)
+            }
+            KeySeat::Index(number) => {
+                self.put_flagged(Opcode::SetI, object, number, value, constant, line)
+            }
+            KeySeat::Register(key) => {
+                self.put_flagged(Opcode::SetTable, object, key, value, constant, line)
+            }
+            KeySeat::Above => {
+                self.put_flagged(Opcode::SetTable, object, above, value, constant, line)
+            }
+        }
+    }
+
+    /// Writes the store of a value, which stands in the register `top` if it is made.
+    pub(crate) fn put_value(
+        &mut self,
+        stands: KeySeat,
+        seat: ValueSeat,
+        object: usize,
+        above: usize,
+        top: usize,
+        line: u32,
+    ) -> Result<(), AllocError>
+        ensures { OnOk result (self.new ≡ listed self.old (place_store stands seat object above top line ∷ [])) }
+    {
+        match seat {
+            ValueSeat::Constant(number) => {
+                self.put_store(stands, object, above, true, number, line)
+            }
+            ValueSeat::Local(register) => {
+                self.put_store(stands, object, above, false, register, line)
+            }
+            ValueSeat::Made => self.put_store(stands, object, above, false, top, line),
         }
     }
 
@@ -184,13 +260,13 @@ impl Emitter {
     {
         let above = next(free)?;
         let top = next(above)?;
-        let local = local_of(value);
+        let seat = self.value_seat(value);
         let quiet = is_quiet(value);
         let stands = self.key_seat(quiet, key);
         let first = self.stand(object_at(stands, quiet, object), object, free)?;
         self.write_key(stands, key, above)?;
-        let third = self.stand(local, value, top)?;
-        self.put_store(stands, first, above, third, line)?;
+        self.write_value(seat, value, top)?;
+        self.put_value(stands, seat, first, above, top, line)?;
         Ok(())
     }
 

@@ -1,10 +1,11 @@
 // Targets of assignments, whose tables and keys wait in registers for the values (Lua 5.4 manual, 3.3.3).
-ghost use Rattle.std.specs.Prelude.{◌≡◌, ◌+◌, ◌++◌, [], ◌∷◌, OnOk};
+ghost use Rattle.std.specs.Prelude.{◌≡◌, ◌+◌, ◌++◌, [], ◌∷◌, Some, OnOk};
 ghost use Rattle.tree_core.specs.Plain.{plain_exp};
 ghost use Rattle.code_core.specs.declared.proto.Const.TheVariants.{Str};
 ghost use Rattle.code_of.specs.Constants.{loads};
 ghost use Rattle.code_of.specs.Expressions.{exp_code, made_by};
 ghost use Rattle.code_of.specs.Stores.{key_code, field_store};
+ghost use Rattle.code_of.specs.StoredValues.{stored_value};
 ghost use Rattle.code_of.specs.Targets.{waiting_key, text_key, text_number, global_store, local_store_by, local_store};
 ghost use Rattle.code_expr.specs.Listing.{followed, listed};
 ghost use Rattle.code_expr.specs.Stores.{key_seat, seat_code};
@@ -19,9 +20,15 @@ use int_core::Bytes;
 use std::alloc::AllocError;
 use tree_core::{Exp, ExpNode, Name, Place};
 
-/// The instruction that stores a register's value in a global name, whose key is a constant of this number. A name of another kind has none.
-fn global_store(place: Place, number: usize, value: usize, line: u32) -> Option<Step>
-    ensures { result ≡ stored_step (global_store place number value line) }
+/// The instruction that stores a register's value, or the constant of a number, in a global name, whose key is a constant. A name of another kind has none.
+fn global_store(
+    place: Place,
+    number: usize,
+    constant: bool,
+    value: usize,
+    line: u32,
+) -> Option<Step>
+    ensures { result ≡ stored_step (global_store place number constant value line) }
 {
     match place {
         Place::GlobalIn(register) => Some(Step {
@@ -30,12 +37,18 @@ fn global_store(place: Place, number: usize, value: usize, line: u32) -> Option<
                 usize::from(register),
                 number,
                 value,
-                false,
+                constant,
             ),
             line,
         }),
         Place::GlobalOf(upvalue) => Some(Step {
-            instruction: word_abc(Opcode::SetTabUp, usize::from(upvalue), number, value, false),
+            instruction: word_abc(
+                Opcode::SetTabUp,
+                usize::from(upvalue),
+                number,
+                value,
+                constant,
+            ),
             line,
         }),
         Place::Unset | Place::Local(_) | Place::Upvalue(_) => None,
@@ -126,7 +139,7 @@ impl Emitter {
     {
         let above = next(register)?;
         let stands = self.waiting_seat(key);
-        self.put_store(stands, register, above, value, line)?;
+        self.put_store(stands, register, above, false, value, line)?;
         Ok(())
     }
 
@@ -142,29 +155,40 @@ impl Emitter {
     {
         let above = next(register)?;
         let stands = self.text_seat(text);
-        self.put_store(stands, register, above, value, line)?;
+        self.put_store(stands, register, above, false, value, line)?;
         Ok(())
     }
 
-    /// The instruction that stores a local in a name, or none.
-    fn name_store(&self, name: &Name, value: Option<usize>, line: u32) -> Option<Step>
-        ensures { result ≡ stored_step (local_store_by (text_number self.now.constants name.now.text) value name.now.place line) }
+    /// The instruction that stores a constant or a local in a name whose key is a constant of this number, or none.
+    #[tactic(auto, using(crate::proofs::ValueSeats::constant_named, crate::proofs::ValueSeats::local_named, crate::proofs::ValueSeats::none_named))]
+    fn value_store(&self, place: Place, number: usize, value: &Exp, line: u32) -> Option<Step>
+        ensures { result ≡ stored_step (local_store_by (Some number) (stored_value self.now.constants (plain_exp value.now)) place line) }
     {
-        match self.text_number(&name.text) {
-            Some(number) => match value {
-                Some(register) => global_store(name.place, number, register, line),
-                None => None,
-            },
+        if let Some(constant) = self.constants().literal_number(value) {
+            return global_store(place, number, true, constant, line);
+        }
+        match local_of(value) {
+            Some(register) => global_store(place, number, false, register, line),
             None => None,
         }
     }
 
-    /// The instruction that alone stores a value in a target: a local goes to a global name from its own register. For all others none.
+    /// The instruction that stores a constant or a local in a name, or none.
+    fn name_store(&self, name: &Name, value: &Exp, line: u32) -> Option<Step>
+        ensures { result ≡ stored_step (local_store_by (text_number self.now.constants name.now.text) (stored_value self.now.constants (plain_exp value.now)) name.now.place line) }
+    {
+        match self.text_number(&name.text) {
+            Some(number) => self.value_store(name.place, number, value, line),
+            None => None,
+        }
+    }
+
+    /// The instruction that alone stores a value in a target: a constant goes to a global name, and so does a local from its own register. For all others none.
     pub fn local_store(&self, target: &Exp, value: &Exp) -> Option<Step>
         ensures { result ≡ stored_step (local_store self.now.constants (plain_exp target.now) (plain_exp value.now)) }
     {
         match &target.node {
-            ExpNode::Var(name) => self.name_store(name, local_of(value), target.line),
+            ExpNode::Var(name) => self.name_store(name, value, target.line),
             ExpNode::Nil
             | ExpNode::True
             | ExpNode::False

@@ -13,12 +13,13 @@ use Rattle.code_core.specs.declared.proto.Const.TheVariants.{Int as IntConst, St
 use Rattle.code_core.specs.Instruction.{op_ax}
 use Rattle.code_of.specs.Coded.{Coded, with_abc, with_abx}
 use Rattle.code_of.specs.Constants.{number_in, is_small, small_field, loads_numbered, loads}
-use Rattle.code_of.specs.Operands.{local_of, greatest, numeral_of, Second, a_number, a_local, made, second_of, key_operand, first_of, unless, seat, operands_code}
+use Rattle.code_of.specs.Operands.{local_of, joins, operand_numeral, Second, a_number, a_local, made, second_of, key_operand, first_of, unless, seat, operands_code}
 use Rattle.code_of.specs.Stores.{name_in}
 use Rattle.code_of.specs.FieldReads.{read_code}
 use Rattle.code_of.specs.Operators.{name_code, self_code, prefix_code, operator_code, number_code}
-use Rattle.code_of.specs.Expressions.{made_by, list_field, field_of, exp_code, exps_code}
+use Rattle.code_of.specs.Expressions.{made_by, list_field, field_of, exp_code, exps_code, kept_by}
 use Rattle.code_of.specs.Operations.{constant_in, constant_code, operation_code}
+use Rattle.code_of.specs.Chains.{chain_code}
 use Rattle.code_of.proofs.Operations.{constant_is, operand_form, constant_some}
 use Rattle.code_of.proofs.Operands.{numeral_none, second_number}
 
@@ -27,6 +28,10 @@ some_behind xs ys h = let sum = length-append xs ys in omega (arith, sum, h)
 
 some_before : (xs ys : List Coded) → 1 ≤ length xs → 1 ≤ length (xs ++ ys)
 some_before xs ys h = let sum = length-append xs ys in omega (arith, sum, h)
+
+one_some : (b : Bool) (xs ys : List Coded) → 1 ≤ length xs → 1 ≤ length ys → 1 ≤ length (cond b xs ys)
+one_some true xs ys h k = h
+one_some false xs ys h k = k
 
 numbered_some : (number t line : ℕ) → 1 ≤ length (loads_numbered number t line)
 numbered_some number t line = by (nat_lt number 131072)
@@ -55,9 +60,10 @@ operator_some Gt x y t line = omega arith
 operator_some Ge x y t line = omega arith
 
 -- an operator that takes no numeral is never asked for one
-number_some : (op : BinOp) (d : Exp) (m : ℕ) → numeral_of d (greatest op) ≡ Some m → (x n t line : ℕ) → 1 ≤ length (number_code op x n t line)
+number_some : (op : BinOp) (d : Exp) (m : ℕ) → operand_numeral op d ≡ Some m → (x n t line : ℕ) → 1 ≤ length (number_code op x n t line)
 number_some Plus d m e x n t line = omega arith
 number_some Minus d m e x n t line = omega arith
+number_some ShiftLeft d m e x n t line = omega arith
 number_some ShiftRight d m e x n t line = omega arith
 number_some Equal d m e x n t line = omega arith
 number_some Ne d m e x n t line = omega arith
@@ -71,7 +77,6 @@ number_some Idiv d m e x n t line = absurd (numeral_none d m e)
 number_some Band d m e x n t line = absurd (numeral_none d m e)
 number_some Bor d m e x n t line = absurd (numeral_none d m e)
 number_some Bxor d m e x n t line = absurd (numeral_none d m e)
-number_some ShiftLeft d m e x n t line = absurd (numeral_none d m e)
 number_some Join d m e x n t line = absurd (numeral_none d m e)
 
 operands_some : (s : Second) (at : Option ℕ) (first code : List Coded) (t : ℕ) (by num : (x y : ℕ) → List Coded) → ((x y : ℕ) → 1 ≤ length (by x y)) → ((n : ℕ) → s ≡ a_number n → (x : ℕ) → 1 ≤ length (num x n))
@@ -129,9 +134,16 @@ module _ (cs : List Const) where
       (some_behind (self_code cs name.text x t line) _ (some_behind (exps_code cs es None (t + 2) (j + made_by object) line) (with_abc CallCode t (list_field 1 es) c line ∷ []) (omega arith)))
   exp_some (Unary line op e) t j c = some_behind (unless (local_of e) (exp_code cs e t j 2)) (prefix_code op (seat (local_of e) t) t line) (omega arith)
   exp_some (Binary line op e d) t j c =
-      operation_some cs op e d (exp_code cs e t j 2) (exp_code cs d (t + 1) (j + made_by e) 2) t t line (constant_in cs op d) refl
-  exp_some (And line e d) t j c = some_before (exp_code cs e t j 2) _ (exp_some e t j 2)
-  exp_some (Or line e d) t j c = some_before (exp_code cs e t j 2) _ (exp_some e t j 2)
+      let first = exp_code cs e t j 2 in
+      let second = exp_code cs d (t + 1) (j + made_by e) 2 in
+      one_some (joins op) (chain_code line d first second t) (operation_code (constant_in cs op d) op e d first second t t line) (some_before first _ (exp_some e t j 2))
+      (operation_some cs op e d first second t t line (constant_in cs op d) refl)
+  exp_some (And line e d) t j c =
+      let second = exp_code cs d t (j + made_by e) 2 in
+      some_behind (kept_by cs e (exp_code cs e t j 2) false (length second) t j) second (exp_some d t (j + made_by e) 2)
+  exp_some (Or line e d) t j c =
+      let second = exp_code cs d t (j + made_by e) 2 in
+      some_behind (kept_by cs e (exp_code cs e t j 2) true (length second) t j) second (exp_some d t (j + made_by e) 2)
   exp_some (Paren line e) t j c = exp_some e t j 2
   exp_some (Table line fs) t j c = omega arith
 

@@ -1,5 +1,5 @@
 -- What operands are, by where they stand.
-use Rattle.std.proofs.Common.{leb-true, ◌≡◌, ℕ, ◌+◌, ◌≤◌, max, pos, negsuc, Bool, true, false, cond, List, ◌++◌, length, Option, Some, None, refl, sym, ap, ◌∙◌, arith, length-append}
+use Rattle.std.proofs.Common.{leb-true, ◌≡◌, ℕ, zero, suc, ◌+◌, ◌≤◌, max, pos, negsuc, Bool, true, false, cond, List, ◌++◌, length, Option, Some, None, refl, sym, ap, ◌∙◌, arith, length-append}
 use Rattle.std.specs.Prelude.{nat_le}
 use Rattle.tree_core.specs.declared.operator.BinOp.{BinOp}
 use Rattle.tree_core.specs.declared.operator.BinOp.TheVariants.{Add as Plus, Sub as Minus, Mul as Times, Mod as Modulo, Idiv, Band, Bor, Bxor, Shl as ShiftLeft, Shr as ShiftRight, Concat as Join, Eq as Equal, Ne, Lt as Less, Le as AtMost, Gt, Ge}
@@ -9,7 +9,7 @@ use Rattle.tree_core.specs.declared.name.Place.TheVariants.{Local as LocalPlace}
 use Rattle.tree_core.specs.Tree.{Exp, Nil, True, False, Int, Str, Vararg, Function, Var, Index, Call, Method, Unary, Binary, And, Or, Paren, Table, Exps, EndExps, MoreExps}
 use Rattle.code_of.specs.Coded.{Coded}
 use Rattle.code_of.specs.Expressions.{made_by}
-use Rattle.code_of.specs.Operands.{local_at, local_of, computes, is_direct, target_local, assigned, greatest, numeral_of, joins, Second, a_number, a_local, made, second_by, second_of, key_operand, first_of, unless, seat, operand_code, second_code, operands_code, operands_room}
+use Rattle.code_of.specs.Operands.{local_at, local_of, lone_local, computes, is_direct, target_local, assigned, numeral_of, from_one, operand_numeral, joins, Second, a_number, a_local, made, second_by, second_of, key_operand, first_of, unless, seat, operand_code, second_code, operands_code, operands_room, second_assigned}
 
 -- a numeral, and a local
 
@@ -31,19 +31,19 @@ local_by (Some m) local r e = let no : None ≡ Some r = ap local_part e in absu
 local_by None (Some q) r e = ap local_part e
 local_by None None r e = ap local_part e
 
-pub second_number : (op : BinOp) (d : Exp) (n : ℕ) → second_of op d ≡ a_number n → numeral_of d (greatest op) ≡ Some n
+pub second_number : (op : BinOp) (d : Exp) (n : ℕ) → second_of op d ≡ a_number n → operand_numeral op d ≡ Some n
 second_number op d n e = by (joins op) e
   where
-    by : (b : Bool) → cond b made (second_by (numeral_of d (greatest op)) (local_of d)) ≡ a_number n → numeral_of d (greatest op) ≡ Some n
+    by : (b : Bool) → cond b made (second_by (operand_numeral op d) (local_of d)) ≡ a_number n → operand_numeral op d ≡ Some n
     by true e = let no : None ≡ Some n = ap number_part e in absurd (cc)
-    by false e = number_by (numeral_of d (greatest op)) (local_of d) n e
+    by false e = number_by (operand_numeral op d) (local_of d) n e
 
 pub second_local : (op : BinOp) (d : Exp) (r : ℕ) → second_of op d ≡ a_local r → local_of d ≡ Some r
 second_local op d r e = by (joins op) e
   where
-    by : (b : Bool) → cond b made (second_by (numeral_of d (greatest op)) (local_of d)) ≡ a_local r → local_of d ≡ Some r
+    by : (b : Bool) → cond b made (second_by (operand_numeral op d) (local_of d)) ≡ a_local r → local_of d ≡ Some r
     by true e = let no : None ≡ Some r = ap local_part e in absurd (cc)
-    by false e = local_by (numeral_of d (greatest op)) (local_of d) r e
+    by false e = local_by (operand_numeral op d) (local_of d) r e
 
 pub record IsNumeral (d : Exp) (n most : ℕ) : Type 0 where
   pub line : ℕ
@@ -97,8 +97,17 @@ numeral_none (Or line e d) n h = absurd (cc)
 numeral_none (Paren line e) n h = absurd (cc)
 numeral_none (Table line fs) n h = absurd (cc)
 
+-- that of `<<` is not 0
+pub shift_is : (d : Exp) (n : ℕ) → operand_numeral ShiftLeft d ≡ Some n → IsNumeral d n 127 × (1 ≤ n)
+shift_is d n e = by (numeral_of d (Some 127)) refl e
+  where
+    by : (o : Option ℕ) → numeral_of d (Some 127) ≡ o → from_one o ≡ Some n → IsNumeral d n 127 × (1 ≤ n)
+    by (Some (suc m)) is e = (numeral_is d 127 n (is ∙ e), (let same = some_is (suc m) n e in omega (arith, same)))
+    by (Some zero) is e = absurd (cc)
+    by None is e = absurd (cc)
+
 -- no operator takes a greater one than its field holds
-pub numeral_form : (op : BinOp) (d : Exp) (n : ℕ) → numeral_of d (greatest op) ≡ Some n → IsNumeral d n 128
+pub numeral_form : (op : BinOp) (d : Exp) (n : ℕ) → operand_numeral op d ≡ Some n → IsNumeral d n 128
 numeral_form Plus d n e = numeral_is d 128 n e
 numeral_form ShiftRight d n e = numeral_is d 128 n e
 numeral_form Equal d n e = numeral_is d 128 n e
@@ -108,13 +117,13 @@ numeral_form AtMost d n e = numeral_is d 128 n e
 numeral_form Gt d n e = numeral_is d 128 n e
 numeral_form Ge d n e = numeral_is d 128 n e
 numeral_form Minus d n e = let h = numeral_is d 127 n e in let le = h.small in record { line = h.line; is = h.is; small = omega (arith, le) }
+numeral_form ShiftLeft d n e = let h = (shift_is d n e).0 in let le = h.small in record { line = h.line; is = h.is; small = omega (arith, le) }
 numeral_form Times d n e = absurd (numeral_none d n e)
 numeral_form Modulo d n e = absurd (numeral_none d n e)
 numeral_form Idiv d n e = absurd (numeral_none d n e)
 numeral_form Band d n e = absurd (numeral_none d n e)
 numeral_form Bor d n e = absurd (numeral_none d n e)
 numeral_form Bxor d n e = absurd (numeral_none d n e)
-numeral_form ShiftLeft d n e = absurd (numeral_none d n e)
 numeral_form Join d n e = absurd (numeral_none d n e)
 
 -- the operands of `..` are made
@@ -126,7 +135,7 @@ pub number_not_made : (n : ℕ) → a_number n ≡ made → ⊥
 number_not_made n e = let no : Some n ≡ None = ap number_part e in absurd (cc)
 
 pub joins_made : (op : BinOp) (d : Exp) → joins op ≡ true → second_of op d ≡ made
-joins_made op d joined = ap (λ b. cond b made (second_by (numeral_of d (greatest op)) (local_of d))) joined
+joins_made op d joined = ap (λ b. cond b made (second_by (operand_numeral op d) (local_of d))) joined
 
 pub local_no_join : (op : BinOp) (d : Exp) (r : ℕ) → second_of op d ≡ a_local r → joins op ≡ true → ⊥
 local_no_join op d r e joined = local_not_made r (sym e ∙ joins_made op d joined)
@@ -184,6 +193,36 @@ assigned_is (MoreExps x EndExps) (MoreExps e EndExps) r h = by (is_direct e) ref
     by true is h = target_is x e r is h
     by false is h = absurd (cc)
 
+-- where the second one of two values goes straight to a local's register
+
+pub record IsSecond (targets es : Exps) (r : ℕ) : Type 0 where
+  pub target : Exp
+  pub line : ℕ
+  pub name : Name
+  pub first : Exp
+  pub second : Exp
+  pub targets_are : targets ≡ MoreExps target (MoreExps (Var line name) EndExps)
+  pub values : es ≡ MoreExps first (MoreExps second EndExps)
+  pub place : name.place ≡ LocalPlace r
+  pub direct : is_direct second ≡ true
+
+second_target_is : (x y e d : Exp) (r : ℕ) → is_direct d ≡ true → target_local y ≡ Some r → IsSecond (MoreExps x (MoreExps y EndExps)) (MoreExps e (MoreExps d EndExps)) r
+second_target_is x (Var line name) e d r is h = record { target = x; line = line; name = name; first = e; second = d; targets_are = refl; values = refl; place = place_is name.place r h; direct = is }
+second_target_is x _ e d r is h = absurd (cc)
+
+pub second_is : (targets es : Exps) (r : ℕ) → second_assigned targets es ≡ Some r → IsSecond targets es r
+second_is EndExps es r h = absurd (cc)
+second_is (MoreExps x EndExps) es r h = absurd (cc)
+second_is (MoreExps x (MoreExps y (MoreExps z targets))) es r h = absurd (cc)
+second_is (MoreExps x (MoreExps y EndExps)) EndExps r h = absurd (cc)
+second_is (MoreExps x (MoreExps y EndExps)) (MoreExps e EndExps) r h = absurd (cc)
+second_is (MoreExps x (MoreExps y EndExps)) (MoreExps e (MoreExps d (MoreExps c es))) r h = absurd (cc)
+second_is (MoreExps x (MoreExps y EndExps)) (MoreExps e (MoreExps d EndExps)) r h = by (is_direct d) refl h
+  where
+    by : (b : Bool) → is_direct d ≡ b → cond b (target_local y) None ≡ Some r → IsSecond (MoreExps x (MoreExps y EndExps)) (MoreExps e (MoreExps d EndExps)) r
+    by true is h = second_target_is x y e d r is h
+    by false is h = absurd (cc)
+
 -- an operand that stands so is that local, or that numeral
 pub record Stands (s : Second) (d : Exp) (most : ℕ) : Type 0 where
   pub local : (r : ℕ) → s ≡ a_local r → local_of d ≡ Some r
@@ -197,6 +236,18 @@ key_stands key = record {
   local = λ r e. local_by (numeral_of key (Some 255)) (local_of key) r e;
   number = λ n e. numeral_is key 255 n (number_by (numeral_of key (Some 255)) (local_of key) n e);
 }
+
+-- a local that is all of a list
+
+pub record IsLone (es : Exps) (r : ℕ) : Type 0 where
+  pub value : Exp
+  pub values : es ≡ MoreExps value EndExps
+  pub is : local_of value ≡ Some r
+
+pub lone_is : (es : Exps) (r : ℕ) → lone_local es ≡ Some r → IsLone es r
+lone_is EndExps r h = absurd (cc)
+lone_is (MoreExps e (MoreExps d es)) r h = absurd (cc)
+lone_is (MoreExps e EndExps) r h = record { value = e; values = refl; is = h }
 
 -- a local makes no function
 pub local_makes : (e : Exp) (r : ℕ) → local_of e ≡ Some r → made_by e ≡ 0

@@ -10,7 +10,7 @@ use Rattle.code_of.specs.Coded.{Coded}
 use Rattle.code_of.specs.Constants.{same_constant, number_in}
 use Rattle.code_of.specs.ConstantOperands.{integer_constant, any_constant, constant_by, unless_numeral, constant_of}
 use Rattle.code_of.specs.Expressions.{made_by}
-use Rattle.code_of.specs.Operands.{local_of, greatest, numeral_of, computes, second_of, first_of, seat, unless}
+use Rattle.code_of.specs.Operands.{local_of, computes, second_of, first_of, seat, unless, operand_numeral}
 use Rattle.code_of.specs.Operations.{short_in, short_of, constant_in, constant_code, operation_by, operation_room}
 use Rattle.code_of.specs.FieldReads.{object_room}
 use Rattle.code_of.specs.Stores.{short_number}
@@ -60,7 +60,7 @@ form_is None q x h = h
 form_is (Some n) q x h = absurd (cc)
 
 pub operand_form : (op : BinOp) (d : Exp) (x : Const) → constant_of op d ≡ Some x → constant_by op d ≡ Some x
-operand_form op d x h = form_is (numeral_of d (greatest op)) (constant_by op d) x h
+operand_form op d x h = form_is (operand_numeral op d) (constant_by op d) x h
 
 -- arithmetic takes integers alone
 

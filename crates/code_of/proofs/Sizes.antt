@@ -8,7 +8,8 @@ use Rattle.code_core.specs.declared.opcode.Opcode.{Opcode}
 use Rattle.tree_activation.specs.Activation.{line_of_end}
 use Rattle.code_core.specs.declared.opcode.Opcode.TheVariants.{Close, Eq, Lt, Le, EqK, ForLoop, ForPrep, TForPrep, TForCall, TForLoop, Return}
 use Rattle.code_core.specs.declared.proto.Const.{Const}
-use Rattle.code_of.specs.Conditions.{jump_if, pick, compared, is_not, value_test, test_code}
+use Rattle.code_of.specs.Truths.{jump_if, pick, compared, is_not}
+use Rattle.code_of.specs.Conditions.{value_test, test_code}
 use Rattle.code_of.specs.Coded.{Coded, with_abc, with_abx, jump_over, jump_back, leaving_by}
 use Rattle.code_of.specs.Expressions.{made_by, made_in, exp_code, exps_code}
 use Rattle.code_of.specs.Operands.{local_of, second_of, first_of}
@@ -16,13 +17,14 @@ use Rattle.code_of.specs.Operators.{number_opcode}
 use Rattle.code_of.proofs.Operands.{unless_sized, operands_sized}
 use Rattle.code_of.specs.Operations.{constant_in}
 use Rattle.code_of.proofs.Operations.{operation_sized}
-use Rattle.code_of.specs.Jumps.{Landing, Visible, Reach, label_in, leads}
+use Rattle.code_of.specs.declared.leaving.Leaving.{Leaving}
+use Rattle.code_of.specs.Jumps.{Landing, Visible, Reach, label_in, jump_size, leads}
 use Rattle.code_of.specs.Levels.{made_by_stat, made_in_arms, made_in_stats, made_in_block, closing_after, closings_after, closed_below, closed_until}
 use Rattle.tree_terms.specs.Levels.{level_after, levels_after, levels_in}
 use Rattle.code_of.specs.Parts.{marks_code, close_code, captures_local, closure_code, function_code, while_code, repeat_code, past_size, past, arm_code, counting_code, iterating_code, return_code, bounds_code, steps_code}
 use Rattle.code_of.specs.Sizes.{stat_size, arms_size, stats_size, block_size, open_size, whole_size}
 use Rattle.code_of.specs.Statements.{in_loop, passed_after, labels_ahead, stat_code, arms_code, stats_code, block_code, open_code, whole_code}
-use Rattle.std.specs.Prelude.{cond, not, nat_eq}
+use Rattle.std.specs.Prelude.{cond, not, nat_eq, ◌||◌}
 
 -- a condition is as long wherever it leads
 
@@ -154,9 +156,15 @@ iterating_sized start block t n line m e =
     let b = length-append block back in
     omega (arith, a, b, e)
 
-leads_sized : (o : Option Landing) (pc line : ℕ) → length (leads o pc line) ≡ 2
-leads_sized None pc line = refl
-leads_sized (Some x) pc line = refl
+leads_sized : (closes : Bool) (o : Option Landing) (pc line : ℕ) → length (leads closes o pc line) ≡ jump_size closes
+leads_sized true None pc line = refl
+leads_sized true (Some x) pc line = refl
+leads_sized false None pc line = refl
+leads_sized false (Some x) pc line = refl
+
+pub jump_short : (closes : Bool) → jump_size closes ≤ 2
+jump_short true = omega arith
+jump_short false = omega arith
 
 pub close_sized : (before after line other : ℕ) → length (close_code before after line) ≡ length (close_code before after other)
 close_sized before after line other = by (nat_eq before after)
@@ -165,7 +173,7 @@ close_sized before after line other = by (nat_eq before after)
     by true = refl
     by false = refl
 
-module _ (cs : List Const) (back : ℕ) where
+module _ (cs : List Const) (back : Leaving) where
   mutual
     pub stat_sized : (s : Stat) (closing : Bool) (t j pc : ℕ) (reach : Reach) → length (stat_code cs back s closing t j pc reach) ≡ stat_size cs back s closing t j
     stat_sized (Empty line) closing t j pc reach = refl
@@ -211,8 +219,8 @@ module _ (cs : List Const) (back : ℕ) where
         iterating_sized start (block_code cs back block true (t + 4) (t + 4 + length names) k (pc + length start + 1) inner) t (length names) line _
         (block_sized block true (t + 4) (t + 4 + length names) k (pc + length start + 1) inner)
     stat_sized (Label line name) closing t j pc reach = refl
-    stat_sized (Goto line name) closing t j pc reach = leads_sized (label_in name.text reach.labels) pc line
-    stat_sized (Break line) closing t j pc reach = leads_sized reach.exit pc line
+    stat_sized (Goto line name) closing t j pc reach = leads_sized (back.closes || closing) (label_in name.text reach.labels) pc line
+    stat_sized (Break line) closing t j pc reach = leads_sized (back.closes || closing) reach.exit pc line
 
     pub arms_sized : (arms : Arms) (otherwise : List Coded) (closing : Bool) (t j pc line : ℕ) (reach : Reach)
         → length (arms_code cs back arms otherwise closing t j pc line reach) ≡ arms_size cs back arms (length otherwise) closing t j + length otherwise
@@ -244,14 +252,14 @@ module _ (cs : List Const) (back : ℕ) where
         length-append (stats_code cs back ss true closing outer t j pc [] reach) (close_code outer (closed_below ss outer t) line)
         ∙ ap (λ n. n + length (close_code outer (closed_below ss outer t) line)) (stats_sized ss true closing outer t j pc [] reach)
     block_sized (Returns ss es tokens line) closing outer t j pc reach =
-        let last = return_code cs (closings_after ss closing) es (levels_after ss t) (j + made_in_stats ss) line back in
+        let last = return_code cs (closings_after ss closing) es (levels_after ss t) (j + made_in_stats ss) line back.back in
         length-append (stats_code cs back ss false closing outer t j pc [] reach) last
         ∙ ap (λ n. n + length last) (stats_sized ss false closing outer t j pc [] reach)
 
     pub open_sized : (block : Block) (closing : Bool) (t j pc : ℕ) (reach : Reach) → length (open_code cs back block closing t j pc reach) ≡ open_size cs back block closing t j
     open_sized (Falls ss tokens line) closing t j pc reach = stats_sized ss false closing t t j pc [] reach
     open_sized (Returns ss es tokens line) closing t j pc reach =
-        let last = return_code cs (closings_after ss closing) es (levels_after ss t) (j + made_in_stats ss) line back in
+        let last = return_code cs (closings_after ss closing) es (levels_after ss t) (j + made_in_stats ss) line back.back in
         length-append (stats_code cs back ss false closing t t j pc [] reach) last
         ∙ ap (λ n. n + length last) (stats_sized ss false closing t t j pc [] reach)
 
@@ -262,10 +270,10 @@ close_short before after line = by (nat_eq before after)
     by true = omega arith
     by false = omega arith
 
-pub whole_sized : (cs : List Const) (back : ℕ) (block : Block) (params pc : ℕ) → length (whole_code cs back block params pc) ≡ whole_size cs back block params 0
+pub whole_sized : (cs : List Const) (back : Leaving) (block : Block) (params pc : ℕ) → length (whole_code cs back block params pc) ≡ whole_size cs back block params 0
 whole_sized cs back (Falls ss tokens line) params pc =
     let reach : Reach = record { labels = []; exit = None } in
-    let a = length-append (stats_code cs back ss true false 0 params 0 pc [] reach) (leaving_by Return (levels_after ss params) 1 back line ∷ []) in
+    let a = length-append (stats_code cs back ss true false 0 params 0 pc [] reach) (leaving_by Return (levels_after ss params) 1 back.back line ∷ []) in
     let b = stats_sized cs back ss true false 0 params 0 pc [] reach in
     omega (arith, a, b)
 whole_sized cs back (Returns ss es tokens line) params pc = block_sized cs back (Returns ss es tokens line) false 0 params 0 pc (record { labels = []; exit = None })

@@ -8,7 +8,7 @@ use Rattle.code_of.specs.Coded.{Coded}
 use Rattle.code_of.specs.Constants.{number_in}
 use Rattle.code_of.specs.Operands.{local_of, numeral_of, seat, unless}
 use Rattle.code_of.proofs.Operands.{some_is, IsNumeral, numeral_is, unless_short}
-use Rattle.code_of.specs.Stores.{FieldKey, a_name, an_index, a_register, evaluated, short_number, name_in, field_key_by, beside_quiet, field_key, object_of, key_code, field_store, fields_store, keyed_store, is_field, stores_field, room_unless, room_of_key, room_above, keyed_room}
+use Rattle.code_of.specs.Stores.{FieldKey, a_name, an_index, a_register, evaluated, short_number, name_in, field_key_by, beside_quiet, field_key, object_of, key_code, StoredValue, constant_value, local_value, made_value, value_code, is_constant, value_seat, field_store_by, fields_store, keyed_store, is_field, stores_field, room_of_key, room_of_value, room_above, keyed_room}
 
 pub record StoresField (targets es : Exps) : Type 0 where
   pub line : ℕ
@@ -134,26 +134,31 @@ key_short (a_name number) code = omega arith
 key_short (an_index n) code = omega arith
 key_short (a_register r) code = omega arith
 
-pub keyed_store_short : (key : FieldKey) (value : Option ℕ) (second third : List Coded) (t line : ℕ) → length (keyed_store key value second third t line) ≤ length second + (length third + 1)
+value_short : (value : StoredValue) (code : List Coded) → length (value_code value code) ≤ length code
+value_short made_value code = omega arith
+value_short (constant_value number) code = omega arith
+value_short (local_value r) code = omega arith
+
+pub keyed_store_short : (key : FieldKey) (value : StoredValue) (second third : List Coded) (t line : ℕ) → length (keyed_store key value second third t line) ≤ length second + (length third + 1)
 keyed_store_short key value second third t line =
     omega (
       arith,
       key_short key second,
-      unless_short value third,
-      length-append (key_code key second) (unless value third ++ field_store key t t (seat value (t + 2)) line ∷ []),
-      length-append (unless value third) (field_store key t t (seat value (t + 2)) line ∷ []),
+      value_short value third,
+      length-append (key_code key second) (value_code value third ++ field_store_by key (is_constant value) t t (value_seat value (t + 2)) line ∷ []),
+      length-append (value_code value third) (field_store_by key (is_constant value) t t (value_seat value (t + 2)) line ∷ []),
     )
 
-pub fields_store_short : (key : FieldKey) (object value : Option ℕ) (first second third : List Coded) (t line : ℕ) → length (fields_store key object value first second third t line) ≤ length first + (length second + (length third + 1))
+pub fields_store_short : (key : FieldKey) (object : Option ℕ) (value : StoredValue) (first second third : List Coded) (t line : ℕ) → length (fields_store key object value first second third t line) ≤ length first + (length second + (length third + 1))
 fields_store_short key object value first second third t line =
     omega (
       arith,
       unless_short object first,
       key_short key second,
-      unless_short value third,
-      length-append (unless object first) (key_code key second ++ (unless value third ++ field_store key (seat object t) t (seat value (t + 2)) line ∷ [])),
-      length-append (key_code key second) (unless value third ++ field_store key (seat object t) t (seat value (t + 2)) line ∷ []),
-      length-append (unless value third) (field_store key (seat object t) t (seat value (t + 2)) line ∷ []),
+      value_short value third,
+      length-append (unless object first) (key_code key second ++ (value_code value third ++ field_store_by key (is_constant value) (seat object t) t (value_seat value (t + 2)) line ∷ [])),
+      length-append (key_code key second) (value_code value third ++ field_store_by key (is_constant value) (seat object t) t (value_seat value (t + 2)) line ∷ []),
+      length-append (value_code value third) (field_store_by key (is_constant value) (seat object t) t (value_seat value (t + 2)) line ∷ []),
     )
 
 -- rooms of a field of a constructor, whose table stands in front
@@ -164,12 +169,13 @@ room_above_table (a_name number) second = omega arith
 room_above_table (an_index n) second = omega arith
 room_above_table (a_register r) second = omega arith
 
-pub room_above_key : (value : Option ℕ) (third : ℕ) → room_unless value (2 + third) ≤ 1 + room_unless value (1 + third)
-room_above_key None third = omega arith
-room_above_key (Some r) third = omega arith
+pub room_above_key : (value : StoredValue) (third : ℕ) → room_of_value value (2 + third) ≤ 1 + room_of_value value (1 + third)
+room_above_key made_value third = omega arith
+room_above_key (constant_value number) third = omega arith
+room_above_key (local_value r) third = omega arith
 
-pub keyed_room_few : (key : FieldKey) (value : Option ℕ) (second third : ℕ) → keyed_room key value second third ≤ max second (1 + third)
-keyed_room_few key value second third = by (room_above key second) (room_unless value (1 + third)) (above_few key) (unless_few value)
+pub keyed_room_few : (key : FieldKey) (value : StoredValue) (second third : ℕ) → keyed_room key value second third ≤ max second (1 + third)
+keyed_room_few key value second third = by (room_above key second) (room_of_value value (1 + third)) (above_few key) (value_few value)
   where
     above_few : (key : FieldKey) → room_above key second ≤ second
     above_few evaluated = omega arith
@@ -177,9 +183,10 @@ keyed_room_few key value second third = by (room_above key second) (room_unless 
     above_few (an_index n) = omega arith
     above_few (a_register r) = omega arith
 
-    unless_few : (value : Option ℕ) → room_unless value (1 + third) ≤ 1 + third
-    unless_few None = omega arith
-    unless_few (Some r) = omega arith
+    value_few : (value : StoredValue) → room_of_value value (1 + third) ≤ 1 + third
+    value_few made_value = omega arith
+    value_few (constant_value number) = omega arith
+    value_few (local_value r) = omega arith
 
     by : (a b : ℕ) → a ≤ second → b ≤ 1 + third → max a b ≤ max second (1 + third)
     by a b h k = omega arith

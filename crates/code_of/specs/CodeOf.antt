@@ -1,5 +1,5 @@
 -- The prototype that a function's body is compiled to. Where a source name is given, lines and names are kept.
-use Rattle.std.specs.Prelude.{ℕ, suc, ◌+◌, ◌%◌, ◌-ℤ◌, ℤ, pos, negsuc, Bool, false, cond, max, List, [], ◌∷◌, ◌++◌, length, map, nat_eq, nat_le, Option, Some, None}
+use Rattle.std.specs.Prelude.{ℕ, suc, ◌+◌, ◌%◌, ◌-ℤ◌, ℤ, pos, negsuc, Bool, false, cond, max, List, [], ◌∷◌, ◌++◌, length, map, nat_eq, nat_lt, nat_le, Option, Some, None}
 use Rattle.tree_core.specs.declared.name.UpName.{UpName}
 use Rattle.tree_core.specs.Tree.{Block, Falls, Returns, Body, BodyOf, Stats, EndStats, MoreStats, Stat, Empty, Local, LocalFunction, Assign, CallStat, Do, While, Repeat, If, IfElse, NumFor, NumForStep, GenFor, Label, Goto, Break, Arms, EndArms, MoreArms, Exp, Nil, True, False, Int, Str, Vararg, Var, Function, Index, Call, Method, Unary, Binary, And, Or, Paren, Table, Exps, EndExps, MoreExps, Fields, EndFields, MoreFields, Field, Item, Keyed}
 use Rattle.tree_activation.specs.Activation.{line_of_end}
@@ -12,7 +12,9 @@ use Rattle.code_core.specs.Instruction.{opcode_of}
 use Rattle.code_core.specs.Fields.{registers}
 use Rattle.code_core.specs.Prototype.{Parts, Prototype, Prototypes, none, more}
 use Rattle.code_of.specs.Coded.{Coded, words, lines, with_abc}
+use Rattle.code_of.specs.declared.leaving.Leaving.{Leaving}
 use Rattle.code_of.specs.Constants.{of_block}
+use Rattle.code_of.specs.Levels.{made_in_block}
 use Rattle.code_of.specs.Statements.{whole_code}
 use Rattle.code_of.specs.Variables.{variables, within_whole}
 
@@ -20,6 +22,10 @@ use Rattle.code_of.specs.Variables.{variables, within_whole}
 
 abbrev pub back_field : (vararg : Bool) → (params : ℕ) → ℕ
 back_field vararg params = cond vararg (params + 1) 0
+
+-- a function that makes none has no cells
+abbrev pub leaving_of : (vararg : Bool) → (params : ℕ) → Block → Leaving
+leaving_of vararg params inner = record { back = back_field vararg params; closes = nat_lt 0 (made_in_block inner) }
 
 -- the main function has line 0, and begins on line 1
 abbrev pub first_line : (line : ℕ) → ℕ
@@ -31,7 +37,7 @@ opening vararg params line = cond vararg (with_abc VarArgPrep params 0 0 (first_
 abbrev pub body_code : Body → List Coded
 body_code (BodyOf params vararg inner ups line) =
     let begin = opening vararg (length params) line in
-    begin ++ whole_code (of_block inner []) (back_field vararg (length params)) inner (length params) (length begin)
+    begin ++ whole_code (of_block inner []) (leaving_of vararg (length params) inner) inner (length params) (length begin)
 
 -- a frame has room for the parameters and for each register that the code names
 
@@ -78,7 +84,7 @@ where_known (Some source) xs = xs
 abbrev pub variables_of : Body → List LocVar
 variables_of (BodyOf params vararg inner ups line) =
     variables params 0 (length (body_code (BodyOf params vararg inner ups line)))
-    ++ within_whole (of_block inner []) (back_field vararg (length params)) inner (length params) 0 (cond vararg 1 0)
+    ++ within_whole (of_block inner []) (leaving_of vararg (length params) inner) inner (length params) 0 (cond vararg 1 0)
 
 -- the main function has line 0, and no last line either
 abbrev pub last_line_of : Block → (line : ℕ) → ℕ

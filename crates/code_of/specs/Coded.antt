@@ -1,7 +1,7 @@
 -- Instructions as the compiler lists them: each with its line. A jump counts from the instruction behind it.
 use Rattle.std.specs.Prelude.{ℕ, ◌+◌, ◌-◌, false, List, map, nat_lt}
 use Rattle.code_core.specs.declared.opcode.Opcode.{Opcode}
-use Rattle.code_core.specs.declared.opcode.Opcode.TheVariants.{Jmp}
+use Rattle.code_core.specs.declared.opcode.Opcode.TheVariants.{Jmp, Return}
 use Rattle.code_core.specs.declared.instruction.Instruction.{Instruction}
 use Rattle.code_core.specs.Instruction.{abc, abx, op_ax}
 
@@ -26,6 +26,10 @@ with_abx op a bx line = (abx op a bx, line)
 -- cells and variables may have to be closed. Field C is one more than the number of parameters of a function with `...`, else 0
 abbrev pub leaving_by : Opcode → (t b back line : ℕ) → Coded
 leaving_by op t b back line = (abc op t b back (nat_lt 0 t), line)
+
+-- or with the value of the local in register r alone
+abbrev pub leaving_local : (r t back line : ℕ) → Coded
+leaving_local r t back line = (abc Return r 2 back (nat_lt 0 t), line)
 
 abbrev pub jump_over : (places line : ℕ) → Coded
 jump_over places line = (op_ax Jmp (16777215 + places), line)

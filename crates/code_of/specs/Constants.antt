@@ -1,5 +1,5 @@
--- The constants of a function, each once, in the order in which its code first names them: its strings, its greater integers, and the second operands that may be constants of
--- an operator's instruction.
+-- The constants of a function, each once, in the order in which its code first names them: its strings, its greater integers, the second operands that may be constants of
+-- an operator's instruction, and the values that may be constants of a store.
 use Rattle.std.specs.Prelude.{◌≡◌, ℕ, suc, ◌+◌, ◌-◌, ◌<◌, ◌^◌, Option, Some, None, slice_get, ℤ, pos, negsuc, Bool, true, false, cond, List, [], ◌∷◌, nat_le, nat_lt, bytes_eq}
 use Rattle.int_core.specs.Value.{same_integer}
 use Rattle.tree_core.specs.declared.name.Place.{Place}
@@ -10,7 +10,7 @@ use Rattle.code_core.specs.declared.proto.Const.{Const}
 use Rattle.code_core.specs.declared.proto.Const.TheVariants.{Nil as NilConst, False as FalseConst, True as TrueConst, Int as IntConst, Str as StrConst}
 use Rattle.code_core.specs.Instruction.{op_ax}
 use Rattle.code_of.specs.Coded.{Coded, with_abx}
-use Rattle.code_of.specs.ConstantOperands.{constant_of}
+use Rattle.code_of.specs.ConstantOperands.{any_constant, constant_of, stored_constant}
 
 abbrev pub same_constant : Const → Const → Bool
 same_constant (IntConst m) (IntConst n) = same_integer m n
@@ -91,14 +91,14 @@ abbrev mutual
 
   pub of_field : Field → List Const → List Const
   of_field (Item e) cs = of_exp e cs
-  of_field (Keyed line e d) cs = of_exp d (of_exp e cs)
+  of_field (Keyed line e d) cs = of_exp d (with_any (any_constant d) (of_exp e cs))
 
 abbrev mutual
   pub of_stat : Stat → List Const → List Const
   of_stat (Empty line) cs = cs
   of_stat (Local line names es) cs = of_exps es cs
   of_stat (LocalFunction line name body) cs = cs
-  of_stat (Assign line targets es) cs = of_exps es (of_exps targets cs)
+  of_stat (Assign line targets es) cs = of_exps es (with_any (stored_constant targets es) (of_exps targets cs))
   of_stat (CallStat line e) cs = of_exp e cs
   of_stat (Do line block) cs = of_block block cs
   of_stat (While line e block) cs = of_block block (of_exp e cs)

@@ -7,6 +7,9 @@ pub mod Targets
 pub mod FieldReads
 pub mod Operators
 pub mod Operations
+pub mod StoredValues
+pub mod Truths
+pub mod Chains
 pub mod Expressions
 pub mod Conditions
 pub mod Levels

@@ -1,10 +1,10 @@
 -- Where the operands of an operator, or an object and its key, stand. The second one may be a numeral in the instruction, and a local stays in its own register where nothing is
 -- evaluated between its turn and the instruction; any other operand has a register of its own.
-use Rattle.std.specs.Prelude.{ℕ, ◌+◌, ℤ, pos, negsuc, Bool, true, false, cond, List, [], ◌++◌, max, nat_le, Option, Some, None}
+use Rattle.std.specs.Prelude.{ℕ, zero, suc, ◌+◌, ℤ, pos, negsuc, Bool, true, false, cond, List, [], ◌++◌, max, nat_le, Option, Some, None}
 use Rattle.tree_core.specs.declared.name.Place.{Place}
 use Rattle.tree_core.specs.declared.name.Place.TheVariants.{Local as LocalPlace}
 use Rattle.tree_core.specs.declared.operator.BinOp.{BinOp}
-use Rattle.tree_core.specs.declared.operator.BinOp.TheVariants.{Add as Plus, Sub as Minus, Shr as ShiftRight, Concat as Join, Eq as Equal, Ne, Lt as Less, Le as AtMost, Gt, Ge}
+use Rattle.tree_core.specs.declared.operator.BinOp.TheVariants.{Add as Plus, Sub as Minus, Shl as ShiftLeft, Shr as ShiftRight, Concat as Join, Eq as Equal, Ne, Lt as Less, Le as AtMost, Gt, Ge}
 use Rattle.tree_core.specs.Tree.{Exp, Nil, True, False, Int, Str, Var, Index, Unary, Binary, Paren, Exps, EndExps, MoreExps}
 use Rattle.code_of.specs.Coded.{Coded}
 
@@ -19,10 +19,16 @@ local_of (Var line name) = local_at name.place
 local_of (Paren line e) = local_of e
 local_of _ = None
 
--- the greatest numeral that may stand in an operator's instruction, whose fields sB and sC have 127 added
+-- the local that is all of a list
+abbrev pub lone_local : Exps → Option ℕ
+lone_local (MoreExps e EndExps) = local_of e
+lone_local _ = None
+
+-- the greatest numeral that may stand in an operator's instruction, whose fields sB and sC have 127 added; that of `-` and `<<` stands there as its opposite
 abbrev pub greatest : BinOp → Option ℕ
 greatest Plus = Some 128
 greatest Minus = Some 127
+greatest ShiftLeft = Some 127
 greatest ShiftRight = Some 128
 greatest Equal = Some 128
 greatest Ne = Some 128
@@ -39,6 +45,17 @@ up_to most (negsuc n) = None
 abbrev pub numeral_of : Exp → (most : Option ℕ) → Option ℕ
 numeral_of (Int line z) (Some most) = up_to most z
 numeral_of _ _ = None
+
+-- SHRI moves the bits up by the opposite of its number, which is at least 1
+abbrev pub from_one : Option ℕ → Option ℕ
+from_one (Some (suc n)) = Some (suc n)
+from_one (Some zero) = None
+from_one None = None
+
+-- the second operand of an operator, where it is a numeral in the instruction
+abbrev pub operand_numeral : BinOp → Exp → Option ℕ
+operand_numeral ShiftLeft d = from_one (numeral_of d (greatest ShiftLeft))
+operand_numeral op d = numeral_of d (greatest op)
 
 -- `..` joins registers that follow each other
 abbrev pub joins : BinOp → Bool
@@ -57,7 +74,7 @@ second_by None (Some r) = a_local r
 second_by None None = made
 
 abbrev pub second_of : BinOp → Exp → Second
-second_of op d = cond (joins op) made (second_by (numeral_of d (greatest op)) (local_of d))
+second_of op d = cond (joins op) made (second_by (operand_numeral op d) (local_of d))
 
 -- the key of a field: GETI holds numbers up to 255
 abbrev pub key_operand : Exp → Second
@@ -96,6 +113,11 @@ target_local _ = None
 abbrev pub assigned : (targets es : Exps) → Option ℕ
 assigned (MoreExps x EndExps) (MoreExps e EndExps) = cond (is_direct e) (target_local x) None
 assigned _ _ = None
+
+-- where two values go to two targets, the second one goes to a local so too: it is stored first
+abbrev pub second_assigned : (targets es : Exps) → Option ℕ
+second_assigned (MoreExps x (MoreExps y EndExps)) (MoreExps e (MoreExps d EndExps)) = cond (is_direct d) (target_local y) None
+second_assigned _ _ = None
 
 -- the register of a local that is the first operand; any other one is made in register t
 abbrev pub first_of : Second → Exp → Option ℕ

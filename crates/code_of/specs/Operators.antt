@@ -87,7 +87,8 @@ operator_code AtMost x y t line = truth_code Le x y true t line
 operator_code Gt x y t line = truth_code Lt y x true t line
 operator_code Ge x y t line = truth_code Le y x true t line
 
--- The second operand is a numeral in the instruction. A difference is the sum with the opposite; its event is told the numeral itself
+-- The second operand is a numeral in the instruction. A difference is the sum with the opposite, and bits are moved up by moving them down by the opposite; the event is told the
+-- numeral itself
 
 abbrev pub sum_code : Opcode → (field event x n t line : ℕ) → List Coded
 sum_code op field event x n t line = with_abc op t x field line ∷ with_abc MmBinI x (n + 127) event line ∷ []
@@ -102,6 +103,7 @@ number_opcode _ = EqI
 abbrev pub number_code : BinOp → (x n t line : ℕ) → List Coded
 number_code Plus x n t line = sum_code AddI (n + 127) 6 x n t line
 number_code Minus x n t line = sum_code AddI (127 - n) 7 x n t line
+number_code ShiftLeft x n t line = sum_code ShrI (127 - n) 16 x n t line
 number_code ShiftRight x n t line = sum_code ShrI (n + 127) 17 x n t line
 number_code Equal x n t line = truth_code EqI x (n + 127) true t line
 number_code Ne x n t line = truth_code EqI x (n + 127) false t line

@@ -11,10 +11,11 @@ use Rattle.tree_activation.specs.Statements.{is_closed}
 use Rattle.code_core.specs.declared.opcode.Opcode.TheVariants.{Move, LoadI, LoadNil, LoadTrue, LoadFalse, GetUpval, SetUpval, Close, Tbc, TailCall, Return, ForLoop, ForPrep, TForPrep, TForCall, TForLoop, Closure}
 use Rattle.code_core.specs.declared.proto.Const.{Const}
 use Rattle.code_core.specs.declared.proto.Const.TheVariants.{Str as StrConst}
-use Rattle.code_of.specs.Coded.{Coded, with_abc, with_abx, jump_over, jump_back, leaving_by}
+use Rattle.code_of.specs.Coded.{Coded, with_abc, with_abx, jump_over, jump_back, leaving_by, leaving_local}
 use Rattle.code_of.specs.Constants.{small_field, loads, loads_integer}
-use Rattle.code_of.specs.Operands.{local_of, second_of, first_of, operand_code, operands_code, assigned}
+use Rattle.code_of.specs.Operands.{local_of, lone_local, second_of, first_of, operand_code, operands_code, assigned, second_assigned}
 use Rattle.code_of.specs.Stores.{name_in, field_key, object_of, key_code, field_store, fields_store, stores_field, is_quiet}
+use Rattle.code_of.specs.StoredValues.{stored_value}
 use Rattle.code_of.specs.Targets.{waiting_key, text_key, single_store}
 use Rattle.code_of.specs.FieldReads.{read_code}
 use Rattle.code_of.specs.Operators.{name_into, self_code, prefix_code, operator_code, number_code}
@@ -151,11 +152,21 @@ module _ (constants : List Const) where
   first_direct EndExps r t j = []
   first_direct (MoreExps e es) r t j = direct_code e r t j
 
+  -- Two values for a target and a local: the first value and what the target needs wait in the registers from t on, while the second one goes straight to register r
+
+  abbrev pub two_code : (x e d : Exp) → (r t j : ℕ) → List Coded
+  two_code x e d r t j =
+      target_code x t j ++ (exp_code constants e (t + 2) (j + made_by x) 2 ++ (direct_code d r (t + 3) (j + made_by x + made_by e) ++ store_code x t (t + 2)))
+
+  abbrev pub first_two : (targets values : Exps) → (r t j : ℕ) → List Coded
+  first_two (MoreExps x targets) (MoreExps e (MoreExps d es)) r t j = two_code x e d r t j
+  first_two _ _ r t j = []
+
   -- the value of an expression goes to a field
 
   abbrev pub field_code : Exp → Exp → (t j after : ℕ) → List Coded
   field_code (Index line object key) e t j after =
-      fields_store (field_key constants (is_quiet e) key) (object_of (field_key constants (is_quiet e) key) (is_quiet e) object) (local_of e)
+      fields_store (field_key constants (is_quiet e) key) (object_of (field_key constants (is_quiet e) key) (is_quiet e) object) (stored_value constants e)
       (exp_code constants object t j 2) (exp_code constants key (t + 1) (j + made_by object) 2) (exp_code constants e (t + 2) after 2) t line
   field_code _ e t j after = []
 
@@ -167,8 +178,12 @@ module _ (constants : List Const) where
   store_by true targets es t j line = first_field targets es t j (j + made_in targets)
   store_by false targets es t j line = kept_code (single_store constants targets es) targets es t j line
 
+  abbrev pub two_by : Option ℕ → (targets values : Exps) → (t j line : ℕ) → List Coded
+  two_by None targets es t j line = store_by (stores_field targets es) targets es t j line
+  two_by (Some r) targets es t j line = first_two targets es r t j
+
   abbrev pub assign_by : Option ℕ → (targets values : Exps) → (t j line : ℕ) → List Coded
-  assign_by None targets es t j line = store_by (stores_field targets es) targets es t j line
+  assign_by None targets es t j line = two_by (second_assigned targets es) targets es t j line
   assign_by (Some r) targets es t j line = first_direct es r t (j + made_in targets)
 
   abbrev pub assign_code : (targets values : Exps) → (t j line : ℕ) → List Coded
@@ -187,8 +202,17 @@ module _ (constants : List Const) where
       (λ x. self_code constants name x t line ++ (exps_code constants es None (t + 2) (j + made_by object) line
       ++ (leaving_by TailCall t (list_field 1 es) back line ∷ leaving_by Return t 0 back line ∷ [])))
 
+  -- the values of a list; a local that is all of it stays in its register
+
+  abbrev pub listed_last : Exps → (t j line back : ℕ) → List Coded
+  listed_last es t j line back = exps_code constants es None t j line ++ leaving_by Return t (list_field 0 es) back line ∷ []
+
+  abbrev pub returned_by : (local : Option ℕ) → Exps → (t j line back : ℕ) → List Coded
+  returned_by None es t j line back = listed_last es t j line back
+  returned_by (Some r) es t j line back = leaving_local r t back line ∷ []
+
   abbrev pub values_last : Exps → (t j line back : ℕ) → List Coded
-  values_last es t j line back = exps_code constants es None t j line ++ leaving_by Return t (list_field 0 es) back line ∷ []
+  values_last es t j line back = returned_by (lone_local es) es t j line back
 
   -- `back` is the field C of each RETURN
   abbrev pub return_code : (closing : Bool) → Exps → (t j line back : ℕ) → List Coded

@@ -1,5 +1,5 @@
 -- How many registers the code of an expression names, from its own on.
-use Rattle.std.specs.Prelude.{ℕ, zero, suc, ◌+◌, max, cond, List, Some, None, nat_lt}
+use Rattle.std.specs.Prelude.{ℕ, zero, suc, ◌+◌, max, Bool, true, false, cond, List, Some, None, nat_lt}
 use Rattle.tree_core.specs.declared.name.Place.{Place}
 use Rattle.tree_core.specs.declared.name.Place.TheVariants.{GlobalIn, GlobalOf}
 use Rattle.tree_core.specs.Tree.{Exp, True, Vararg, Var, Index, Call, Method, Unary, Binary, And, Or, Paren, Table, Exps, EndExps, MoreExps, Fields, EndFields, MoreFields, Item, Keyed}
@@ -7,9 +7,10 @@ use Rattle.code_core.specs.declared.proto.Const.{Const}
 use Rattle.code_core.specs.declared.proto.Const.TheVariants.{Str as StrConst}
 use Rattle.code_of.specs.Constants.{number_in}
 use Rattle.code_of.specs.Expressions.{Wanted, field_of, wanted_after, is_last_item}
-use Rattle.code_of.specs.Conditions.{is_not, is_compared}
-use Rattle.code_of.specs.Operands.{local_at, local_of, second_of, first_of, operands_room}
-use Rattle.code_of.specs.Stores.{name_in, field_key, object_of, fields_room, is_quiet, keyed_room}
+use Rattle.code_of.specs.Truths.{is_not, is_compared}
+use Rattle.code_of.specs.Operands.{local_at, local_of, lone_local, second_of, first_of, operands_room}
+use Rattle.code_of.specs.Stores.{name_in, field_key, object_of, room_unless, fields_room, is_quiet, keyed_room}
+use Rattle.code_of.specs.StoredValues.{stored_value}
 use Rattle.code_of.specs.FieldReads.{object_room, read_room}
 use Rattle.code_of.specs.Operations.{constant_in, operation_room}
 
@@ -45,11 +46,32 @@ module _ (cs : List Const) where
     room_of (Method line object name es) field = max (room_of object 2) (max (max (room_of_self name.text) (room_of_list 2 es None)) (room_of_values field))
     room_of (Unary line op e) field = room_of e 2
     room_of (Binary line op e d) field = operation_room 1 (constant_in cs op d) op e d (room_of e 2) (room_of d 2)
-    room_of (And line e d) field = max (room_of e 2) (room_of d 2)
-    room_of (Or line e d) field = max (room_of e 2) (room_of d 2)
+    room_of (And line e d) field = max (room_kept e (room_of e 2) false) (room_of d 2)
+    room_of (Or line e d) field = max (room_kept e (room_of e 2) true) (room_of d 2)
     room_of (Paren line e) field = room_of e 2
     room_of (Table line fs) field = max 1 (1 + room_of_fields fs)
     room_of _ field = 1
+
+    -- an expression of which only the truth is wanted, where its value would take so many
+    pub room_tested : Exp → (value : ℕ) → ℕ
+    room_tested (Paren line e) value = room_tested e value
+    room_tested (Unary line op e) value = cond (is_not op) (room_tested e (room_of e 2)) value
+    room_tested (Binary line op e d) value = operation_room (cond (is_compared op) 0 1) (constant_in cs op d) op e d (room_of e 2) (room_of d 2)
+    room_tested (And line e d) value = max (room_tested e (room_of e 2)) (room_tested d (room_of d 2))
+    room_tested (Or line e d) value = max (room_tested e (room_of e 2)) (room_tested d (room_of d 2))
+    room_tested (Var line name) value = object_room 0 (local_at name.place) value
+    room_tested (True line) value = 0
+    room_tested e value = value
+
+    -- one whose value is kept where its truth is k
+    pub room_kept : Exp → (value : ℕ) → (k : Bool) → ℕ
+    room_kept (Paren line e) value k = room_kept e value k
+    room_kept (And line e d) value k = max (cond k (room_tested e (room_of e 2)) (room_kept e (room_of e 2) false)) (room_kept d (room_of d 2) k)
+    room_kept (Or line e d) value k = max (cond k (room_kept e (room_of e 2) true) (room_tested e (room_of e 2))) (room_kept d (room_of d 2) k)
+    room_kept (Unary line op e) value k = cond (is_not op) (max (room_tested e (room_of e 2)) 1) value
+    room_kept (Binary line op e d) value k =
+        cond (is_compared op) (max (operation_room (cond (is_compared op) 0 1) (constant_in cs op d) op e d (room_of e 2) (room_of d 2)) 1) value
+    room_kept e value k = value
 
     -- a list that stands `above` registers higher
     pub room_of_list : (above : ℕ) → Exps → Wanted → ℕ
@@ -60,7 +82,11 @@ module _ (cs : List Const) where
     pub room_of_fields : Fields → ℕ
     room_of_fields EndFields = 0
     room_of_fields (MoreFields (Item e) fs) = max (room_of e (cond (is_last_item e fs) 0 2)) (room_of_fields fs)
-    room_of_fields (MoreFields (Keyed line e d) fs) = max (keyed_room (field_key cs (is_quiet d) e) (local_of d) (room_of e 2) (room_of d 2)) (room_of_fields fs)
+    room_of_fields (MoreFields (Keyed line e d) fs) = max (keyed_room (field_key cs (is_quiet d) e) (stored_value cs d) (room_of e 2) (room_of d 2)) (room_of_fields fs)
+
+  -- what a `return` gives, where no call takes the function's place
+  abbrev pub room_of_last : Exps → ℕ
+  room_of_last es = room_unless (lone_local es) (room_of_list 0 es None)
 
   -- a target, whose table and key go to two registers
   abbrev pub room_of_target : Exp → ℕ
@@ -78,6 +104,11 @@ module _ (cs : List Const) where
   room_of_direct (Index line object key) = read_room 0 (name_in cs key) object key (room_of object 2) (room_of key 2)
   room_of_direct _ = 0
 
+  -- two values for a target and a local
+  abbrev pub room_of_two : (targets values : Exps) → ℕ
+  room_of_two (MoreExps x targets) (MoreExps e (MoreExps d es)) = max (2 + room_of e 2) (3 + room_of_direct d)
+  room_of_two _ _ = 0
+
   abbrev pub room_of_assigned : Exps → ℕ
   room_of_assigned EndExps = 0
   room_of_assigned (MoreExps e es) = room_of_direct e
@@ -86,7 +117,7 @@ module _ (cs : List Const) where
 
   abbrev pub room_of_field : Exp → Exp → ℕ
   room_of_field (Index line object key) e =
-      fields_room (field_key cs (is_quiet e) key) (object_of (field_key cs (is_quiet e) key) (is_quiet e) object) (local_of e) (room_of object 2) (room_of key 2) (room_of e 2)
+      fields_room (field_key cs (is_quiet e) key) (object_of (field_key cs (is_quiet e) key) (is_quiet e) object) (stored_value cs e) (room_of object 2) (room_of key 2) (room_of e 2)
   room_of_field _ e = 0
 
   abbrev pub room_of_first : (targets es : Exps) → ℕ
@@ -95,12 +126,8 @@ module _ (cs : List Const) where
 
   -- a condition, of which only the truth is wanted
   abbrev pub room_of_test : Exp → ℕ
-  room_of_test (Paren line e) = room_of_test e
-  room_of_test (Unary line op e) = cond (is_not op) (room_of_test e) (room_of e 2)
-  room_of_test (Binary line op e d) =
-      operation_room (cond (is_compared op) 0 1) (constant_in cs op d) op e d (room_of e 2) (room_of d 2)
-  room_of_test (And line e d) = max (room_of_test e) (room_of_test d)
-  room_of_test (Or line e d) = max (room_of_test e) (room_of_test d)
-  room_of_test (Var line name) = object_room 0 (local_at name.place) (room_of_name name.place name.text)
-  room_of_test (True line) = 0
-  room_of_test e = room_of e 2
+  room_of_test e = room_tested e (room_of e 2)
+
+  -- the first operand of `and` or `or`, whose value is kept where its truth is k
+  abbrev pub room_of_keep : Exp → (k : Bool) → ℕ
+  room_of_keep e k = room_kept e (room_of e 2) k

@@ -1,14 +1,16 @@
 -- How many instructions a statement has. It does not hang on where its jumps lead.
-use Rattle.std.specs.Prelude.{ℕ, ◌+◌, Bool, true, false, List, length, Some}
+use Rattle.std.specs.Prelude.{ℕ, ◌+◌, Bool, true, false, ◌||◌, List, length, Some}
 use Rattle.tree_core.specs.Tree.{Block, Falls, Returns, Stats, EndStats, MoreStats, Stat, Empty, Local, LocalFunction, Assign, CallStat, Do, While, Repeat, If, IfElse, NumFor, NumForStep, GenFor, Label, Goto, Break, Arms, EndArms, MoreArms}
 use Rattle.code_core.specs.declared.proto.Const.{Const}
+use Rattle.code_of.specs.declared.leaving.Leaving.{Leaving}
+use Rattle.code_of.specs.Jumps.{jump_size}
 use Rattle.code_of.specs.Expressions.{made_by, made_in, exp_code, exps_code}
 use Rattle.code_of.specs.Conditions.{test_code}
 use Rattle.code_of.specs.Levels.{made_by_stat, made_in_arms, made_in_stats, made_in_block, closing_after, closings_after, closed_below, closed_until}
 use Rattle.tree_terms.specs.Levels.{level_after, levels_after, levels_in}
 use Rattle.code_of.specs.Parts.{marks_code, close_code, function_code, past_size, assign_code, return_code, bounds_code, steps_code}
 
-module _ (constants : List Const) (back : ℕ) where
+module _ (constants : List Const) (back : Leaving) where
   abbrev mutual
     pub stat_size : Stat → (closing : Bool) → (t j : ℕ) → ℕ
     stat_size (Empty line) closing t j = 0
@@ -34,8 +36,8 @@ module _ (constants : List Const) (back : ℕ) where
     stat_size (GenFor line names es block) closing t j =
         length (exps_code constants es (Some 4) t j line) + (block_size block true (t + 4) (t + 4 + length names) (j + made_in es) + 4)
     stat_size (Label line name) closing t j = 0
-    stat_size (Goto line name) closing t j = 2
-    stat_size (Break line) closing t j = 2
+    stat_size (Goto line name) closing t j = jump_size (back.closes || closing)
+    stat_size (Break line) closing t j = jump_size (back.closes || closing)
 
     -- the arms, without the `rest` that stands behind them
     pub arms_size : Arms → (rest : ℕ) → (closing : Bool) → (t j : ℕ) → ℕ
@@ -53,14 +55,14 @@ module _ (constants : List Const) (back : ℕ) where
     block_size (Falls ss tokens line) closing outer t j = stats_size ss closing t j + length (close_code outer (closed_below ss outer t) line)
     block_size (Returns ss es tokens line) closing outer t j =
         stats_size ss closing t j
-        + length (return_code constants (closings_after ss closing) es (levels_after ss t) (j + made_in_stats ss) line back)
+        + length (return_code constants (closings_after ss closing) es (levels_after ss t) (j + made_in_stats ss) line back.back)
 
     -- the block of a `repeat`, whose locals are not closed at its end
     pub open_size : Block → (closing : Bool) → (t j : ℕ) → ℕ
     open_size (Falls ss tokens line) closing t j = stats_size ss closing t j
     open_size (Returns ss es tokens line) closing t j =
         stats_size ss closing t j
-        + length (return_code constants (closings_after ss closing) es (levels_after ss t) (j + made_in_stats ss) line back)
+        + length (return_code constants (closings_after ss closing) es (levels_after ss t) (j + made_in_stats ss) line back.back)
 
   -- the block of a function, which ends by a return
   abbrev pub whole_size : Block → (params j : ℕ) → ℕ

@@ -1,10 +1,11 @@
 -- The code of statements and blocks (Lua 5.4 manual, 3.3), where t locals are in scope and the next place of the code is pc.
-use Rattle.std.specs.Prelude.{ℕ, ◌+◌, Bool, true, false, cond, ◌&&◌, List, [], ◌∷◌, ◌++◌, length, Some, None}
+use Rattle.std.specs.Prelude.{ℕ, ◌+◌, Bool, true, false, cond, ◌&&◌, ◌||◌, List, [], ◌∷◌, ◌++◌, length, Some, None}
 use Rattle.tree_core.specs.Tree.{Block, Falls, Returns, Stats, EndStats, MoreStats, Stat, Empty, Local, LocalFunction, Assign, CallStat, Do, While, Repeat, If, IfElse, NumFor, NumForStep, GenFor, Label, Goto, Break, Arms, EndArms, MoreArms}
 use Rattle.tree_activation.specs.Activation.{line_of_end}
 use Rattle.tree_terms.specs.Labels.{are_void}
 use Rattle.code_core.specs.declared.opcode.Opcode.TheVariants.{Return}
 use Rattle.code_core.specs.declared.proto.Const.{Const}
+use Rattle.code_of.specs.declared.leaving.Leaving.{Leaving}
 use Rattle.code_of.specs.Coded.{Coded, leaving_by}
 use Rattle.code_of.specs.Expressions.{made_by, made_in, exp_code, exps_code}
 use Rattle.code_of.specs.Conditions.{test_code}
@@ -26,7 +27,7 @@ abbrev pub passed_after : Stat → (t pc : ℕ) → List Visible → List Visibl
 passed_after (Label line name) t pc passed = visible name.text pc t ∷ passed
 passed_after _ t pc passed = passed
 
-module _ (constants : List Const) (back : ℕ) where
+module _ (constants : List Const) (back : Leaving) where
   -- the labels among the statements to come. Where the block falls off its end, a label that only void statements follow stands outside the
   -- scope of the block's locals
   abbrev pub labels_ahead : Stats → (falls closing : Bool) → (outer t j pc : ℕ) → List Visible
@@ -78,8 +79,8 @@ module _ (constants : List Const) (back : ℕ) where
         (in_loop reach (pc + stat_size constants back (GenFor line names es block) closing t j) t))
         t (length names) line
     stat_code (Label line name) closing t j pc reach = []
-    stat_code (Goto line name) closing t j pc reach = leads (label_in name.text reach.labels) pc line
-    stat_code (Break line) closing t j pc reach = leads reach.exit pc line
+    stat_code (Goto line name) closing t j pc reach = leads (back.closes || closing) (label_in name.text reach.labels) pc line
+    stat_code (Break line) closing t j pc reach = leads (back.closes || closing) reach.exit pc line
 
     -- `otherwise` is the code that stands behind the arms
     pub arms_code : Arms → (otherwise : List Coded) → (closing : Bool) → (t j pc line : ℕ) → Reach → List Coded
@@ -107,17 +108,17 @@ module _ (constants : List Const) (back : ℕ) where
         stats_code ss true closing outer t j pc [] reach ++ close_code outer (closed_below ss outer t) line
     block_code (Returns ss es tokens line) closing outer t j pc reach =
         stats_code ss false closing outer t j pc [] reach
-        ++ return_code constants (closings_after ss closing) es (levels_after ss t) (j + made_in_stats ss) line back
+        ++ return_code constants (closings_after ss closing) es (levels_after ss t) (j + made_in_stats ss) line back.back
 
     -- the block of a `repeat`, in front of its test
     pub open_code : Block → (closing : Bool) → (t j pc : ℕ) → Reach → List Coded
     open_code (Falls ss tokens line) closing t j pc reach = stats_code ss false closing t t j pc [] reach
     open_code (Returns ss es tokens line) closing t j pc reach =
         stats_code ss false closing t t j pc [] reach
-        ++ return_code constants (closings_after ss closing) es (levels_after ss t) (j + made_in_stats ss) line back
+        ++ return_code constants (closings_after ss closing) es (levels_after ss t) (j + made_in_stats ss) line back.back
 
   -- the block of a function, whose parameters are its first locals: it ends by a return
   abbrev pub whole_code : Block → (params pc : ℕ) → List Coded
   whole_code (Falls ss tokens line) params pc =
-      stats_code ss true false 0 params 0 pc [] (record { labels = []; exit = None }) ++ leaving_by Return (levels_after ss params) 1 back line ∷ []
+      stats_code ss true false 0 params 0 pc [] (record { labels = []; exit = None }) ++ leaving_by Return (levels_after ss params) 1 back.back line ∷ []
   whole_code (Returns ss es tokens line) params pc = block_code (Returns ss es tokens line) false 0 params 0 pc (record { labels = []; exit = None })

@@ -1,5 +1,5 @@
 -- Where a value is stored in a field, by a statement with one target or in a constructor: the object, the key and the value stand where they are, if nothing that may assign a
--- local is evaluated between their turn and the store, and else in the registers t, t + 1 and t + 2.
+-- local is evaluated between their turn and the store, and else in the registers t, t + 1 and t + 2. A constant value is named by the store, whose field k says so.
 use Rattle.std.specs.Prelude.{ℕ, ◌+◌, max, Bool, true, false, cond, nat_lt, List, [], ◌∷◌, ◌++◌, Option, Some, None}
 use Rattle.tree_core.specs.declared.name.Place.{Place}
 use Rattle.tree_core.specs.declared.name.Place.TheVariants.{Upvalue, Local as LocalPlace}
@@ -8,7 +8,8 @@ use Rattle.tree_core.specs.Tree.{Exp, Nil, True, False, Int, Str, Function, Var,
 use Rattle.code_core.specs.declared.opcode.Opcode.TheVariants.{SetTable, SetI, SetField}
 use Rattle.code_core.specs.declared.proto.Const.{Const}
 use Rattle.code_core.specs.declared.proto.Const.TheVariants.{Str as StrConst}
-use Rattle.code_of.specs.Coded.{Coded, with_abc}
+use Rattle.code_core.specs.Instruction.{abc}
+use Rattle.code_of.specs.Coded.{Coded}
 use Rattle.code_of.specs.Constants.{number_in}
 use Rattle.code_of.specs.Operands.{local_of, numeral_of, seat, unless}
 
@@ -72,21 +73,50 @@ abbrev pub key_code : FieldKey → List Coded → List Coded
 key_code evaluated code = code
 key_code _ code = []
 
--- the object stands in register x and the value in register v
+-- The value is a constant of the store, a local, or made
+pub data StoredValue : Type 0 where
+  constant_value : (number : ℕ) → StoredValue
+  local_value : (r : ℕ) → StoredValue
+  made_value : StoredValue
+
+abbrev pub value_by : (constant local : Option ℕ) → StoredValue
+value_by (Some number) local = constant_value number
+value_by None (Some r) = local_value r
+value_by None None = made_value
+
+abbrev pub value_code : StoredValue → List Coded → List Coded
+value_code made_value code = code
+value_code _ code = []
+
+-- the fields k and C of its store
+
+abbrev pub is_constant : StoredValue → Bool
+is_constant (constant_value number) = true
+is_constant _ = false
+
+abbrev pub value_seat : StoredValue → (above : ℕ) → ℕ
+value_seat (constant_value number) above = number
+value_seat (local_value r) above = r
+value_seat made_value above = above
+
+-- the object stands in register x, and the value in register v or among the constants
+abbrev pub field_store_by : FieldKey → (constant : Bool) → (x t v line : ℕ) → Coded
+field_store_by (a_name number) constant x t v line = (abc SetField x number v constant, line)
+field_store_by (an_index n) constant x t v line = (abc SetI x n v constant, line)
+field_store_by (a_register r) constant x t v line = (abc SetTable x r v constant, line)
+field_store_by evaluated constant x t v line = (abc SetTable x (t + 1) v constant, line)
+
 abbrev pub field_store : FieldKey → (x t v line : ℕ) → Coded
-field_store (a_name number) x t v line = with_abc SetField x number v line
-field_store (an_index n) x t v line = with_abc SetI x n v line
-field_store (a_register r) x t v line = with_abc SetTable x r v line
-field_store evaluated x t v line = with_abc SetTable x (t + 1) v line
+field_store key x t v line = field_store_by key false x t v line
 
 -- the code of all three is given
-abbrev pub fields_store : FieldKey → (object value : Option ℕ) → (first second third : List Coded) → (t line : ℕ) → List Coded
+abbrev pub fields_store : FieldKey → (object : Option ℕ) → StoredValue → (first second third : List Coded) → (t line : ℕ) → List Coded
 fields_store key object value first second third t line =
-    unless object first ++ (key_code key second ++ (unless value third ++ field_store key (seat object t) t (seat value (t + 2)) line ∷ []))
+    unless object first ++ (key_code key second ++ (value_code value third ++ field_store_by key (is_constant value) (seat object t) t (value_seat value (t + 2)) line ∷ []))
 
 -- a field of a constructor, whose table stands in register t
-abbrev pub keyed_store : FieldKey → (value : Option ℕ) → (second third : List Coded) → (t line : ℕ) → List Coded
-keyed_store key value second third t line = key_code key second ++ (unless value third ++ field_store key t t (seat value (t + 2)) line ∷ [])
+abbrev pub keyed_store : FieldKey → StoredValue → (second third : List Coded) → (t line : ℕ) → List Coded
+keyed_store key value second third t line = key_code key second ++ (value_code value third ++ field_store_by key (is_constant value) t t (value_seat value (t + 2)) line ∷ [])
 
 -- a statement that does so
 
@@ -107,8 +137,12 @@ abbrev pub room_of_key : FieldKey → (room : ℕ) → ℕ
 room_of_key evaluated room = 1 + room
 room_of_key _ room = 0
 
-abbrev pub fields_room : FieldKey → (object value : Option ℕ) → (first second third : ℕ) → ℕ
-fields_room key object value first second third = max (room_unless object first) (max (room_of_key key second) (room_unless value (2 + third)))
+abbrev pub room_of_value : StoredValue → (room : ℕ) → ℕ
+room_of_value made_value room = room
+room_of_value _ room = 0
+
+abbrev pub fields_room : FieldKey → (object : Option ℕ) → StoredValue → (first second third : ℕ) → ℕ
+fields_room key object value first second third = max (room_unless object first) (max (room_of_key key second) (room_of_value value (2 + third)))
 
 -- and from t + 1 on, by a field of a constructor
 
@@ -116,5 +150,5 @@ abbrev pub room_above : FieldKey → (room : ℕ) → ℕ
 room_above evaluated room = room
 room_above _ room = 0
 
-abbrev pub keyed_room : FieldKey → (value : Option ℕ) → (second third : ℕ) → ℕ
-keyed_room key value second third = max (room_above key second) (room_unless value (1 + third))
+abbrev pub keyed_room : FieldKey → StoredValue → (second third : ℕ) → ℕ
+keyed_room key value second third = max (room_above key second) (room_of_value value (1 + third))

@@ -5,6 +5,7 @@ use Rattle.tree_core.specs.declared.name.Declared.{Declared}
 use Rattle.tree_core.specs.Tree.{Block, Falls, Returns, Stats, EndStats, MoreStats, Stat, Empty, Local, LocalFunction, Assign, CallStat, Do, While, Repeat, If, IfElse, NumFor, NumForStep, GenFor, Label, Goto, Break, Arms, EndArms, MoreArms}
 use Rattle.code_core.specs.declared.proto.Const.{Const}
 use Rattle.code_core.specs.declared.proto.LocVar.{LocVar}
+use Rattle.code_of.specs.declared.leaving.Leaving.{Leaving}
 use Rattle.code_of.specs.Expressions.{made_by, made_in, exps_code}
 use Rattle.code_of.specs.Conditions.{test_code}
 use Rattle.code_of.specs.Levels.{made_by_stat, made_in_arms, made_in_block, closing_after}
@@ -26,7 +27,7 @@ abbrev pub hidden : (n : ℕ) → (from to : ℕ) → List LocVar
 hidden zero from to = []
 hidden (suc n) from to = record { name = None; start = from; end = to } ∷ hidden n from to
 
-module _ (constants : List Const) (back : ℕ) where
+module _ (constants : List Const) (back : Leaving) where
   -- what a statement declares is in scope from behind its values on, up to the end of the block
   abbrev pub declared_by : Stat → (t j pc end : ℕ) → List LocVar
   declared_by (Local line names es) t j pc end =

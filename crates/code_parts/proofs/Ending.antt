@@ -6,6 +6,7 @@ use Rattle.tree_core.specs.declared.name.Declared.{Declared}
 use Rattle.tree_core.specs.Tree.{Stats, EndStats, MoreStats, Stat, Empty, Local, LocalFunction, Assign, CallStat, Do, While, Repeat, If, IfElse, NumFor, NumForStep, GenFor, Label, Goto, Break}
 use Rattle.code_core.specs.declared.proto.Const.{Const}
 use Rattle.code_core.specs.declared.proto.LocVar.{LocVar}
+use Rattle.code_of.specs.declared.leaving.Leaving.{Leaving}
 use Rattle.code_of.specs.Expressions.{exps_code}
 use Rattle.code_of.specs.Levels.{made_by_stat, closing_after}
 use Rattle.tree_terms.specs.Levels.{level_after}
@@ -88,7 +89,7 @@ body_ended params place inner =
     ∙ ap₂ (λ xs ys. xs ++ ys) (names_ended params 0 place) (ended_over place inner)
     ∙ sym (over_append (variables params 0 place) inner)
 
-module _ (constants : List Const) (back : ℕ) where
+module _ (constants : List Const) (back : Leaving) where
   declared_ended : (s : Stat) (t j pc place : ℕ) → ended_from zero place (begun_by constants back s t j pc) ≡ map over (declared_by constants back s t j pc place)
   declared_ended (Local line names es) t j pc place = locals_ended names (pc + length (exps_code constants es (Some (length names)) t j line)) place
   declared_ended (LocalFunction line name body) t j pc place = refl

@@ -3,3 +3,4 @@ pub mod Written
 pub mod Whole
 pub mod Ending
 pub mod Compiling
+pub mod Made

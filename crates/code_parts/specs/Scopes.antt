@@ -3,6 +3,7 @@ use Rattle.std.specs.Prelude.{ℕ, zero, suc, ◌+◌, Bool, List, [], ◌∷◌
 use Rattle.tree_core.specs.Tree.{Stats, EndStats, MoreStats, Stat, Local, LocalFunction}
 use Rattle.code_core.specs.declared.proto.Const.{Const}
 use Rattle.code_core.specs.declared.proto.LocVar.{LocVar}
+use Rattle.code_of.specs.declared.leaving.Leaving.{Leaving}
 use Rattle.code_of.specs.Expressions.{exps_code}
 use Rattle.code_of.specs.Levels.{made_by_stat, closing_after}
 use Rattle.tree_terms.specs.Levels.{level_after}
@@ -45,7 +46,7 @@ abbrev pub finished : Variable → LocVar
 finished v = record { name = v.name; start = v.start; end = end_or_none v.end }
 
 -- what statements declare, in the block in which they stand and whose end is still to come, with what is within them
-module _ (constants : List Const) (back : ℕ) where
+module _ (constants : List Const) (back : Leaving) where
   abbrev pub begun_by : Stat → (t j pc : ℕ) → List Variable
   begun_by (Local line names es) t j pc = map (λ d. begun (Some d.name.text) (pc + length (exps_code constants es (Some (length names)) t j line))) names
   begun_by (LocalFunction line name body) t j pc = begun (Some name.text) (pc + 1) ∷ []

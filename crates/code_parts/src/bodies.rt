@@ -1,7 +1,8 @@
 // The functions that a block makes.
-ghost use Rattle.std.specs.Prelude.{◌≡◌, ◌++◌, OnOk, IfOk, map};
+ghost use Rattle.std.specs.Prelude.{◌≡◌, ◌++◌, OnOk, IfOk, map, nat_lt};
 ghost use Rattle.tree_core.specs.Tree.{exps, fields, stats, arms};
 ghost use Rattle.tree_core.specs.Plain.{plain_exp, plain_exps, plain_field, plain_stat, plain_arm, plain_block, plain_body};
+ghost use Rattle.code_of.specs.Levels.{made_in_block};
 ghost use Rattle.code_parts.specs.Bodies.{exp_bodies, exps_bodies, fields_bodies, field_bodies, stat_bodies, arms_bodies, stats_bodies, block_bodies};
 
 use std::alloc::{AllocError, Global};
@@ -15,6 +16,15 @@ pub fn inner_bodies<'a>(alloc: Global, block: &'a Block) -> Result<Vec<&'a Body>
     let mut found = Vec::new(alloc);
     find_in_block(&mut found, block)?;
     Ok(found)
+}
+
+/// Whether a block makes functions.
+pub fn makes_functions(alloc: Global, block: &Block) -> Result<bool, AllocError>
+    ensures { IfOk result (λ makes. makes ≡ nat_lt 0 (made_in_block (plain_block block.now))) }
+{
+    let found = inner_bodies(alloc, block)?;
+    let count = found.len();
+    Ok(count > 0)
 }
 
 /// Lists the functions of an expression.

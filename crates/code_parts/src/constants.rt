@@ -69,6 +69,7 @@ fn add_stat(constants: &mut Constants, alloc: Global, stat: &Stat) -> Result<(),
         StatNode::Local(_, values) => constants.add_exps(alloc, values),
         StatNode::Assign(targets, values) => {
             constants.add_exps(alloc, targets)?;
+            constants.add_stored(alloc, targets, values)?;
             constants.add_exps(alloc, values)
         }
         StatNode::Call(call) => constants.add_exp(alloc, call),

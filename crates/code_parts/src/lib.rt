@@ -12,7 +12,7 @@ mod variables;
 
 pub use assembling::prototype;
 pub use begin::{back_field, byte, last_line, put_opening};
-pub use bodies::inner_bodies;
+pub use bodies::{inner_bodies, makes_functions};
 pub use captured::{up_names, upvalues};
 pub use constants::{add_block, block_constants};
 pub use lines::{changes, far_lines};

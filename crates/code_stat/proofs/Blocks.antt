@@ -3,6 +3,7 @@ use Rattle.std.proofs.Common.{arith, ℕ, ◌+◌, ◌≡◌, Bool, List, [], �
 use Rattle.std.proofs.lemmas.List.{map-append, append-nil}
 use Rattle.tree_core.specs.Tree.{Stats, MoreStats, Stat, Empty, Local, LocalFunction, Assign, CallStat, Do, While, Repeat, If, IfElse, NumFor, NumForStep, GenFor, Label, Goto, Break}
 use Rattle.code_core.specs.declared.proto.Const.{Const}
+use Rattle.code_of.specs.declared.leaving.Leaving.{Leaving}
 use Rattle.code_of.specs.Coded.{Coded}
 use Rattle.code_of.specs.Jumps.{Landing, Visible, Reach}
 use Rattle.code_of.specs.Levels.{made_by_stat, made_in_stats, closing_after}
@@ -62,7 +63,7 @@ none_more n = omega arith
 
 -- a label is seen by what stands in front of it, and a statement that is a label has no code
 
-module _ (k : List Const) (back : ℕ) where
+module _ (k : List Const) (back : Leaving) where
   pub ahead_step :
       (s : Stat) (ss : Stats) (falls closing : Bool) (outer t j pc : ℕ)
       → labels_ahead k back (MoreStats s ss) falls closing outer t j pc
@@ -107,7 +108,7 @@ module _ (k : List Const) (back : ℕ) where
 -- what hangs on the place behind a statement
 
 pub moved :
-    {X : Type 0} (g : List Const → (back made place : ℕ) → X) (b c : Writer) (code : List Coded) (m size : ℕ)
+    {X : Type 0} (g : List Const → (back : Leaving) → (made place : ℕ) → X) (b c : Writer) (code : List Coded) (m size : ℕ)
     → c.emitter ≡ followed b.emitter code m → c.back ≡ b.back → length code ≡ size
     → g c.emitter.constants c.back c.emitter.made (length c.emitter.steps) ≡ g b.emitter.constants b.back (b.emitter.made + m) (length b.emitter.steps + size)
 moved g b c code m size e k h =

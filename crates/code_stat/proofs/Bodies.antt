@@ -10,8 +10,9 @@ use Rattle.tree_core.specs.Plain.{plain_block, plain_body}
 use Rattle.tree_core.proofs.Rows.{plain-body}
 use Rattle.code_core.specs.declared.opcode.Opcode.TheVariants.{Return}
 use Rattle.code_core.specs.declared.proto.Const.{Const}
+use Rattle.code_of.specs.declared.leaving.Leaving.{Leaving}
 use Rattle.code_of.specs.Coded.{Coded, leaving_by}
-use Rattle.code_of.specs.CodeOf.{back_field, opening, body_code, variables_of}
+use Rattle.code_of.specs.CodeOf.{leaving_of, opening, body_code, variables_of}
 use Rattle.code_of.specs.Constants.{of_block}
 use Rattle.code_of.specs.Levels.{made_in_block}
 use Rattle.code_of.specs.Sizes.{stats_size}
@@ -60,7 +61,7 @@ abbrev empty : List Const → Listing
 empty k = record { constants = k; steps = []; made = 0 }
 
 pub body_declared :
-    (k : List Const) (body : Body) (a b : Writer) (vs : List Variable) (params back end : ℕ) → params ≡ length (out-Body body).params.items → back ≡ back_field (out-Body body).vararg params
+    (k : List Const) (body : Body) (a b : Writer) (vs : List Variable) (params : ℕ) (back : Leaving) (end : ℕ) → params ≡ length (out-Body body).params.items → back ≡ leaving_of (out-Body body).vararg params (plain_block (out-Body body).block)
     → a.emitter ≡ listed (empty k) (opening (out-Body body).vararg params (out-Body body).line)
     → a.variables ≡ [] ++ map (λ name. begun (Some name.text) 0) (out-Body body).params.items → a.back ≡ back
     → Wrote a b (made_in_block (plain_block (out-Body body).block)) (λ reach. whole_from a.emitter.constants a.back (plain_block (out-Body body).block) params a.emitter.made (length a.emitter.steps) reach)
@@ -74,23 +75,23 @@ body_declared k body a b vs params back end params_is back_is a_is a_vars a_back
     let line = (out-Body body).line in
     let begin : ℕ → List Coded = λ n. opening vararg n line in
     let size : length a.emitter.steps ≡ length (begin params) = ap (λ z. length z.steps) a_is ∙ length-map (begin params) step in
-    let field : a.back ≡ back_field vararg params = a_back ∙ back_is in
-    let code : whole_from a.emitter.constants a.back block params a.emitter.made (length a.emitter.steps) nowhere ≡ whole_code k (back_field vararg params) block params (length (begin params)) =
+    let field : a.back ≡ leaving_of vararg params block = a_back ∙ back_is in
+    let code : whole_from a.emitter.constants a.back block params a.emitter.made (length a.emitter.steps) nowhere ≡ whole_code k (leaving_of vararg params block) block params (length (begin params)) =
     ap (λ z. whole_from z.constants a.back block params z.made (length a.emitter.steps) nowhere) a_is
     ∙ ap₂ (λ n m. whole_from k n block params 0 m nowhere) field size
-    ∙ whole_is k (back_field vararg params) block params (length (begin params)) in
+    ∙ whole_is k (leaving_of vararg params block) block params (length (begin params)) in
     let long = written_sized a.emitter b.emitter w.draft (made_in_block block) w.emitter_is in
     let draft = draft_sized a b (made_in_block block) (λ reach. whole_from a.emitter.constants a.back block params a.emitter.made (length a.emitter.steps) reach) w nowhere in
     let same = ap length code in
-    let parts = length-append (begin params) (whole_code k (back_field vararg params) block params (length (begin params))) in
-    let there : end ≡ length (begin params ++ whole_code k (back_field vararg params) block params (length (begin params))) = omega (arith, end_is, long, draft, same, parts, size) in
-    let inner = within_whole k (back_field vararg params) block params 0 (length (begin params)) in
+    let parts = length-append (begin params) (whole_code k (leaving_of vararg params block) block params (length (begin params))) in
+    let there : end ≡ length (begin params ++ whole_code k (leaving_of vararg params block) block params (length (begin params))) = omega (arith, end_is, long, draft, same, parts, size) in
+    let inner = within_whole k (leaving_of vararg params block) block params 0 (length (begin params)) in
     let declared : b.variables ≡ map (λ name. begun (Some name.text) 0) names ++ map over inner =
     d ∙ ap₂ (λ xs z. xs ++ map over (within_whole z.constants a.back block params z.made (length a.emitter.steps))) a_vars a_is
     ∙ ap₂ (λ n m. map (λ name. begun (Some name.text) 0) names ++ map over (within_whole k n block params 0 m)) field size in
     ends ∙ ap₂ (ended_from 0) there declared
-    ∙ body_ended names (length (begin params ++ whole_code k (back_field vararg params) block params (length (begin params)))) inner
-    ∙ ap (λ n. map over (variables names 0 (length (begin n ++ whole_code k (back_field vararg n) block n (length (begin n)))) ++ within_whole k (back_field vararg n) block n 0 (length (begin n)))) params_is
+    ∙ body_ended names (length (begin params ++ whole_code k (leaving_of vararg params block) block params (length (begin params)))) inner
+    ∙ ap (λ n. map over (variables names 0 (length (begin n ++ whole_code k (leaving_of vararg n block) block n (length (begin n)))) ++ within_whole k (leaving_of vararg n block) block n 0 (length (begin n)))) params_is
     ∙ sym (ap (λ p. map over (variables_in k p)) (plain-body body))
 
 -- with the constants of the body they are those of the definition

@@ -4,6 +4,7 @@ use Rattle.std.proofs.lemmas.List.{length-append}
 use Rattle.std.proofs.Math.Seq.{take-append_seam}
 use Rattle.tree_core.specs.Tree.{Block, Exp, Arms, EndArms, MoreArms, If, IfElse}
 use Rattle.code_core.specs.declared.proto.Const.{Const}
+use Rattle.code_of.specs.declared.leaving.Leaving.{Leaving}
 use Rattle.code_of.specs.Coded.{Coded, jump_over}
 use Rattle.code_of.specs.Conditions.{test_code}
 use Rattle.code_of.specs.Expressions.{made_by}
@@ -40,13 +41,13 @@ rebased p q m b n f v same e jumps back = record {
 
 -- the code of the whole by that of its parts
 
-choice_size : List Const → ℕ → (line : ℕ) → Arms → Option Block → (closing : Bool) → (t j : ℕ) → ℕ
+choice_size : List Const → Leaving → (line : ℕ) → Arms → Option Block → (closing : Bool) → (t j : ℕ) → ℕ
 choice_size k back line arms o closing t j = stat_size k back (choice line arms o) closing t j
 
 pub places : (n b s c : ℕ) (pc : ℕ) → pc + (n + (b + (s + c))) ≡ pc + n + b + s + c
 places n b s c pc = omega arith
 
-module _ (k : List Const) (back : ℕ) (e : Exp) (block : Block) (arms : Arms) (closing : Bool) (t line j pc : ℕ) (reach : Reach) where
+module _ (k : List Const) (back : Leaving) (e : Exp) (block : Block) (arms : Arms) (closing : Bool) (t line j pc : ℕ) (reach : Reach) where
   abbrev test : ℕ → List Coded
   test ahead = test_code k e true ahead t j
 

@@ -5,11 +5,12 @@ use Rattle.std.proofs.lemmas.List.{append-nil, length-append, drop_all}
 use Rattle.tree_core.specs.declared.name.Name.{Name}
 use Rattle.tree_core.specs.declared.name.Declared.{Declared}
 use Rattle.tree_core.specs.declared.tree.Stat as Rust
-use Rattle.tree_core.specs.Tree.{Block, Falls, Returns, Stats, MoreStats, Stat, Exp, Exps, Arms, EndArms, MoreArms, Local, Repeat, IfElse, GenFor, stats}
+use Rattle.tree_core.specs.Tree.{Block, Falls, Returns, Stats, MoreStats, Stat, Exp, Exps, Arms, EndArms, MoreArms, Local, While, Repeat, IfElse, GenFor, stats}
 use Rattle.tree_core.specs.Plain.{num_for_of, plain_stat}
 use Rattle.code_core.specs.declared.opcode.Opcode.TheVariants.{Close, ForLoop, TForCall, TForLoop}
 use Rattle.code_core.specs.declared.proto.Const.{Const}
 use Rattle.code_core.specs.declared.proto.LocVar.{LocVar}
+use Rattle.code_of.specs.declared.leaving.Leaving.{Leaving}
 use Rattle.code_of.specs.Coded.{Coded, with_abc, with_abx}
 use Rattle.code_of.specs.Conditions.{test_code}
 use Rattle.code_of.specs.Expressions.{made_by, made_in, exps_code}
@@ -59,7 +60,7 @@ block_ends a b block closing outer t w =
 -- what is declared behind code
 
 pub declared_at :
-    (f : List Const → (back made place : ℕ) → List Variable) (a p q : Writer) (code : List Coded) (m n : ℕ) → p.emitter ≡ followed a.emitter code m → p.back ≡ a.back → length code ≡ n
+    (f : List Const → (back : Leaving) → (made place : ℕ) → List Variable) (a p q : Writer) (code : List Coded) (m n : ℕ) → p.emitter ≡ followed a.emitter code m → p.back ≡ a.back → length code ≡ n
     → Declares p q f → q.variables ≡ p.variables ++ f a.emitter.constants a.back (a.emitter.made + m) (length a.emitter.steps + n)
 declared_at f a p q code m n e k h d = d ∙ ap (λ l. p.variables ++ l) (moved f a p code m n e k h)
 
@@ -135,7 +136,7 @@ scopes_end a q b ss closing level first place end first_is d e place_is =
     e ∙ ap (ended_from first place) d ∙ ap₂ (λ f n. ended_from f n whole) first_is place_is ∙ block_ended a.emitter.constants a.back a.variables ss closing level a.emitter.made (length a.emitter.steps) end
 
 open_ended :
-    (k : List Const) (back : ℕ) (before : List Variable) (block : Block) (closing : Bool) (t j pc place : ℕ)
+    (k : List Const) (back : Leaving) (before : List Variable) (block : Block) (closing : Bool) (t j pc place : ℕ)
     → ended_from (length before) place (before ++ begun_open k back block closing t j pc) ≡ before ++ map over (within_open k back block closing t j pc place)
 open_ended k back before (Falls ss tokens line) closing t j pc place = block_ended k back before ss closing t j pc place
 open_ended k back before (Returns ss es tokens line) closing t j pc place = block_ended k back before ss closing t j pc place
@@ -292,9 +293,23 @@ gen_for_declares a q b s names es block closing t line e s_is vars back d =
     ∙ ap (λ l. l ++ map over (in_rounds k a.back 4 names block true (t + 4) (t + 4 + length names) 4 i place)) vars
     ∙ ap (λ m. a.variables ++ map over (looped k a.back 4 names place size m ++ within_block k a.back block true (t + 4) (t + 4 + length names) i (place + 1))) (joined (length a.emitter.steps) (length start) (size + 4))
 
+-- a `while`, whose block stands behind the condition
+pub while_declares :
+    (a p q b : Writer) (e : Exp) (block : Block) (closing : Bool) (t line : ℕ) (away : List ℕ)
+    → Opened a.emitter p.emitter (λ ahead. test_code a.emitter.constants e true ahead t a.emitter.made) (made_by e) away → p.variables ≡ a.variables → p.back ≡ a.back
+    → DeclaresBlock p q block closing t t → b.variables ≡ q.variables → DeclaresStat a b (While line e block) closing t
+while_declares a p q b e block closing t line away opened pv pb d bv =
+    let k = a.emitter.constants in
+    let j = a.emitter.made in
+    let pc = length a.emitter.steps in
+    let test : ℕ → List Coded = λ ahead. test_code k e true ahead t j in
+    let p_long = opened_long a.emitter p.emitter test (made_by e) away opened in
+    bv ∙ d ∙ ap₂ (λ l v. l ++ map over v) pv
+    (stands_at (λ k back j pc. within_block k back block closing t t j pc) p k a.back (j + made_by e) (pc + length (test 0)) opened.constants_is pb opened.made_is p_long)
+
 -- an `if`
 
-module _ (k : List Const) (back : ℕ) where
+module _ (k : List Const) (back : Leaving) where
   no_more : (n : ℕ) → n ≡ n + 0
   no_more n = omega arith
 
@@ -343,7 +358,7 @@ otherwise_declares a b block closing t line d =
 
 -- the others stand behind a jump, or they have no code and no variables
 left_past :
-    (k : List Const) (back line : ℕ) (arms : Arms) (o : Option Block) (closing : Bool) (t j pc n size others : ℕ) → stat_size k back (choice line arms o) closing t j ≡ others
+    (k : List Const) (back : Leaving) (line : ℕ) (arms : Arms) (o : Option Block) (closing : Bool) (t j pc n size others : ℕ) → stat_size k back (choice line arms o) closing t j ≡ others
     → left_by k back (choice line arms o) closing t j (pc + (n + size + 1)) ≡ left_by k back (choice line arms o) closing t j (pc + n + size + past_size others)
 left_past k back line arms o closing t j pc n size zero h =
     choice_without k back line arms o closing t j (pc + (n + size + 1)) h ∙ sym (choice_without k back line arms o closing t j (pc + n + size + past_size zero) h)

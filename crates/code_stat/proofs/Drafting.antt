@@ -1,8 +1,9 @@
 -- Code whose jumps are not all led yet, behind code and around code.
-use Rattle.std.proofs.Common.{arith, ℕ, ◌+◌, ◌≡◌, List, [], ◌∷◌, ◌++◌, refl, sym, ap, ap₂, ◌∙◌, append_assoc, length, take, drop, Option}
+use Rattle.std.proofs.Common.{arith, ℕ, ◌+◌, ◌≡◌, Bool, true, false, List, [], ◌∷◌, ◌++◌, refl, sym, ap, ap₂, ◌∙◌, append_assoc, length, take, drop, Option}
 use Rattle.std.proofs.lemmas.List.{map-append, length-append, length-map, append-nil, length-set, take-append-drop}
 use Rattle.std.proofs.Math.Seq.{drop-append_seam, take-append_seam}
 use Rattle.code_core.specs.declared.proto.Const.{Const}
+use Rattle.code_of.specs.declared.leaving.Leaving.{Leaving}
 use Rattle.code_of.specs.Coded.{Coded}
 use Rattle.code_of.specs.Jumps.{Landing, Reach}
 use Rattle.code_expr.specs.declared.emitter.Step.{Step}
@@ -12,14 +13,18 @@ use Rattle.code_expr.proofs.Joining.{after}
 use Rattle.code_expr.proofs.Leading.{opened_long}
 use Rattle.code_stat.specs.declared.jumps.Jump.{Jump}
 use Rattle.code_stat.specs.declared.writer.Writer.{Writer}
-use Rattle.code_stat.specs.Drafts.{arrives, fill, Wrote}
+use Rattle.code_stat.specs.Drafts.{arrives, put_jump, fill, Wrote}
 use Rattle.code_stat.proofs.Leading.{fill_both}
 
 -- filling keeps the length
 
+put_length : (closes : Bool) (x : Landing) (pc line : ℕ) (xs : List Step) → length (put_jump closes x pc line xs) ≡ length xs
+put_length true x pc line xs = length-set _ _ _ ∙ length-set _ _ _
+put_length false x pc line xs = length-set _ _ _
+
 pub fill_length : (to : Jump → Option Landing) (js : List Jump) (xs : List Step) → length (fill to js xs) ≡ length xs
 fill_length to [] xs = refl
-fill_length to (j ∷ js) xs = length-set _ _ _ ∙ length-set _ _ _ ∙ fill_length to js xs
+fill_length to (j ∷ js) xs = put_length j.closes _ j.place j.line (fill to js xs) ∙ fill_length to js xs
 
 steps_sized : (front more : List Step) (code : List Coded) → length (front ++ (steps code ++ more)) ≡ length front + (length code + length more)
 steps_sized front more code = length-append front (steps code ++ more) ∙ ap (λ n. length front + n) (length-append (steps code) more ∙ ap (λ n. n + length more) (length-map code step))
@@ -90,7 +95,7 @@ then_wrote a b c m n f g v w = record {
 -- what stands behind depends on what is there
 
 abbrev pub Form : Type 0
-Form = List Const → (back made place : ℕ) → Reach → List Coded
+Form = List Const → (back : Leaving) → (made place : ℕ) → Reach → List Coded
 
 abbrev pub formed : Form → Writer → Reach → List Coded
 formed g a reach = g a.emitter.constants a.back a.emitter.made (length a.emitter.steps) reach
@@ -112,7 +117,7 @@ then_formed a b c m n size f g w h v =
 -- what hangs on a writer's place is the same at an equal one
 
 pub stands_at :
-    {X : Type 0} (g : List Const → (back made place : ℕ) → X) (a : Writer) (k : List Const) (back j pc : ℕ) → a.emitter.constants ≡ k → a.back ≡ back → a.emitter.made ≡ j → length a.emitter.steps ≡ pc
+    {X : Type 0} (g : List Const → (back : Leaving) → (made place : ℕ) → X) (a : Writer) (k : List Const) (back : Leaving) (j pc : ℕ) → a.emitter.constants ≡ k → a.back ≡ back → a.emitter.made ≡ j → length a.emitter.steps ≡ pc
     → g a.emitter.constants a.back a.emitter.made (length a.emitter.steps) ≡ g k back j pc
 stands_at g a k back j pc k_is back_is j_is pc_is = ap₂ (λ c n. g c n a.emitter.made (length a.emitter.steps)) k_is back_is ∙ ap₂ (g k back) j_is pc_is
 

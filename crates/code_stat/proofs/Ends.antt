@@ -71,32 +71,32 @@ until_top block e level inner top j before behind marked inner_is marked_is befo
     ∙ ap (λ b. cond (nat_lt 0 (made_until block e) || b) (levels_in block level) level) marked_is
 
 abbrev return_form : Stats → Exps → (closing : Bool) → (level line : ℕ) → Form
-return_form ss es closing level line k back j pc reach = return_code k (closings_after ss closing) es (levels_after ss level) j line back
+return_form ss es closing level line k back j pc reach = return_code k (closings_after ss closing) es (levels_after ss level) j line back.back
 
 last_wrote :
     (a q b : Writer) (ss : Stats) (es : Exps) (line : ℕ) (closing closing' : Bool) (outer level end back : ℕ)
-    → WroteStats a q ss false closing outer level → end ≡ levels_after ss level → closing' ≡ closings_after ss closing → back ≡ q.back
+    → WroteStats a q ss false closing outer level → end ≡ levels_after ss level → closing' ≡ closings_after ss closing → back ≡ q.back.back
     → b.emitter ≡ followed q.emitter (return_code q.emitter.constants closing' es end q.emitter.made line back) (made_in es) → b.jumps.items ≡ q.jumps.items → b.back ≡ q.back
     → Wrote a b (made_in_stats ss + made_in es) (λ reach. stats_code a.emitter.constants a.back ss false closing outer level a.emitter.made (length a.emitter.steps) [] reach
-    ++ return_code a.emitter.constants (closings_after ss closing) es (levels_after ss level) (a.emitter.made + made_in_stats ss) line a.back)
+    ++ return_code a.emitter.constants (closings_after ss closing) es (levels_after ss level) (a.emitter.made + made_in_stats ss) line a.back.back)
 last_wrote a q b ss es line closing closing' outer level end back w end_is closing_is back_is e jumps kept =
-    let returned : b.emitter ≡ followed q.emitter (return_code q.emitter.constants (closings_after ss closing) es (levels_after ss level) q.emitter.made line q.back) (made_in es) =
+    let returned : b.emitter ≡ followed q.emitter (return_code q.emitter.constants (closings_after ss closing) es (levels_after ss level) q.emitter.made line q.back.back) (made_in es) =
     e
     ∙ ap₂ (λ c n. followed q.emitter (return_code q.emitter.constants c es n q.emitter.made line back) (made_in es)) closing_is end_is
     ∙ ap (λ k. followed q.emitter (return_code q.emitter.constants (closings_after ss closing) es (levels_after ss level) q.emitter.made line k) (made_in es)) back_is in
     then_formed a q b (made_in_stats ss) (made_in es) (length w.draft) (λ reach. stats_code a.emitter.constants a.back ss false closing outer level a.emitter.made (length a.emitter.steps) [] reach) (return_form ss es closing level line) w refl
-    (plainly q b (made_in es) (return_code q.emitter.constants (closings_after ss closing) es (levels_after ss level) q.emitter.made line q.back) returned jumps kept)
+    (plainly q b (made_in es) (return_code q.emitter.constants (closings_after ss closing) es (levels_after ss level) q.emitter.made line q.back.back) returned jumps kept)
 
 pub returns_wrote :
     (a q b : Writer) (ss : Stats) (es : Exps) (tokens line : ℕ) (closing closing' : Bool) (outer level end back : ℕ)
-    → WroteStats a q ss false closing outer level → end ≡ levels_after ss level → closing' ≡ closings_after ss closing → back ≡ q.back
+    → WroteStats a q ss false closing outer level → end ≡ levels_after ss level → closing' ≡ closings_after ss closing → back ≡ q.back.back
     → b.emitter ≡ followed q.emitter (return_code q.emitter.constants closing' es end q.emitter.made line back) (made_in es) → b.jumps.items ≡ q.jumps.items → b.back ≡ q.back
     → WroteBlock a b (Returns ss es tokens line) closing outer level
 returns_wrote a q b ss es tokens line closing closing' outer level end back w end_is closing_is back_is e jumps kept = last_wrote a q b ss es line closing closing' outer level end back w end_is closing_is back_is e jumps kept
 
 pub open_returns :
     (a q b : Writer) (ss : Stats) (es : Exps) (tokens line : ℕ) (closing closing' : Bool) (level end back : ℕ)
-    → WroteStats a q ss false closing level level → end ≡ levels_after ss level → closing' ≡ closings_after ss closing → back ≡ q.back
+    → WroteStats a q ss false closing level level → end ≡ levels_after ss level → closing' ≡ closings_after ss closing → back ≡ q.back.back
     → b.emitter ≡ followed q.emitter (return_code q.emitter.constants closing' es end q.emitter.made line back) (made_in es) → b.jumps.items ≡ q.jumps.items → b.back ≡ q.back
     → WroteOpen a b (Returns ss es tokens line) closing level
 open_returns a q b ss es tokens line closing closing' level end back w end_is closing_is back_is e jumps kept = last_wrote a q b ss es line closing closing' level level end back w end_is closing_is back_is e jumps kept

@@ -8,7 +8,8 @@ use Rattle.tree_core.specs.declared.name.UpName.{UpName}
 use Rattle.tree_core.specs.Tree.{Block, Falls, Returns, Stats, BodyOf}
 use Rattle.tree_core.specs.Plain.{plain_block, plain_body}
 use Rattle.tree_core.proofs.Rows.{plain-body}
-use Rattle.code_of.specs.CodeOf.{back_field, opening, body_code}
+use Rattle.code_of.specs.declared.leaving.Leaving.{Leaving}
+use Rattle.code_of.specs.CodeOf.{leaving_of, opening, body_code}
 use Rattle.code_of.specs.Constants.{of_block}
 use Rattle.code_core.specs.declared.opcode.Opcode.TheVariants.{Close, Return}
 use Rattle.code_core.specs.declared.proto.Const.{Const}
@@ -62,13 +63,13 @@ none_more n = omega arith
 
 pub whole_falls :
     (a q b : Writer) (ss : Stats) (tokens line params end back : ℕ)
-    → WroteStats a q ss true false 0 params → end ≡ levels_after ss params → back ≡ q.back
+    → WroteStats a q ss true false 0 params → end ≡ levels_after ss params → back ≡ q.back.back
     → b.emitter ≡ listed q.emitter (leaving_by Return end 1 back line ∷ []) → b.jumps.items ≡ q.jumps.items → b.back ≡ q.back
     → Wrote a b (made_in_stats ss) (λ reach. whole_from a.emitter.constants a.back (Falls ss tokens line) params a.emitter.made (length a.emitter.steps) reach)
 whole_falls a q b ss tokens line params end back w end_is back_is e jumps kept =
-    let last : List Coded = leaving_by Return (levels_after ss params) 1 a.back line ∷ [] in
+    let last : List Coded = leaving_by Return (levels_after ss params) 1 a.back.back line ∷ [] in
     let returned : b.emitter ≡ followed q.emitter last 0 =
-    e ∙ ap₂ (λ n k. listed q.emitter (leaving_by Return n 1 k line ∷ [])) end_is (back_is ∙ w.back_is) ∙ sym (none_made q.emitter last) in
+    e ∙ ap₂ (λ n k. listed q.emitter (leaving_by Return n 1 k line ∷ [])) end_is (back_is ∙ ap (λ l. l.back) w.back_is) ∙ sym (none_made q.emitter last) in
     remade a b (made_in_stats ss + 0) (made_in_stats ss) (λ reach. stats_code a.emitter.constants a.back ss true false 0 params a.emitter.made (length a.emitter.steps) [] reach ++ last) (none_more (made_in_stats ss))
     (then_wrote a q b (made_in_stats ss) 0 (λ reach. stats_code a.emitter.constants a.back ss true false 0 params a.emitter.made (length a.emitter.steps) [] reach) (λ reach. last) w (plainly q b 0 last returned jumps kept))
 
@@ -81,7 +82,7 @@ ends_by_return (Returns ss es tokens line) = true
 abbrev empty : List Const → Listing
 empty k = record { constants = k; steps = []; made = 0 }
 
-pub whole_is : (k : List Const) (back : ℕ) (block : Block) (params pc : ℕ) → whole_from k back block params 0 pc nowhere ≡ whole_code k back block params pc
+pub whole_is : (k : List Const) (back : Leaving) (block : Block) (params pc : ℕ) → whole_from k back block params 0 pc nowhere ≡ whole_code k back block params pc
 whole_is k back (Falls ss tokens line) params pc = refl
 whole_is k back (Returns ss es tokens line) params pc = refl
 
@@ -103,14 +104,21 @@ body_wrote k a b s begin m f a_is none w e =
     zero_more : (n : ℕ) → 0 + n ≡ n
     zero_more n = omega arith
 
-pub lead_is :
-    (s q r : Listing) (j : Jump) (d : Destination) (n : ℕ) → landing d ≡ or_nowhere (arrives nowhere j) → n ≡ j.place + 1
-    → q ≡ replaced s j.place (with_abc Close d.level 0 0 j.line) → r ≡ replaced q n (jump_to n d.place j.line) → r ≡ led s j
-lead_is s q r j d n lands n_is e h =
+-- a jump with its CLOSE, and one without
+
+pub closing_led :
+    (s q r : Listing) (d : Destination) (place n line : ℕ) → n ≡ place + 1
+    → q ≡ replaced s place (with_abc Close d.level 0 0 line) → r ≡ replaced q n (jump_to n d.place line) → r ≡ listing s.constants (put_jump true (landing d) place line s.steps) s.made
+closing_led s q r d place n line n_is e h =
     h
-    ∙ ap (λ z. replaced z n (jump_to n d.place j.line)) e
-    ∙ ap (λ m. replaced (replaced s j.place (with_abc Close d.level 0 0 j.line)) m (jump_to m d.place j.line)) n_is
-    ∙ ap (λ x. listing s.constants (put_jump x j.place j.line s.steps) s.made) lands
+    ∙ ap (λ z. replaced z n (jump_to n d.place line)) e
+    ∙ ap (λ m. replaced (replaced s place (with_abc Close d.level 0 0 line)) m (jump_to m d.place line)) n_is
+
+pub lead_is :
+    (s r : Listing) (j : Jump) (d : Destination) (closes : Bool) → landing d ≡ or_nowhere (arrives nowhere j) → j.closes ≡ closes
+    → r ≡ listing s.constants (put_jump closes (landing d) j.place j.line s.steps) s.made → r ≡ led s j
+lead_is s r j d closes lands is h =
+    h ∙ ap₂ (λ b x. listing s.constants (put_jump b x j.place j.line s.steps) s.made) (sym is) lands
 
 pub whole_returns :
     (a b : Writer) (block : Block) (params : ℕ) → WroteBlock a b block false 0 params → ends_by_return block ≡ true
@@ -119,7 +127,7 @@ whole_returns a b (Falls ss tokens line) params w e = absurd (cc)
 whole_returns a b (Returns ss es tokens line) params w e = w
 
 pub body_written :
-    (k : List Const) (body : Body) (a b : Writer) (s : Listing) (params back : ℕ) → params ≡ length (out-Body body).params.items → back ≡ back_field (out-Body body).vararg params
+    (k : List Const) (body : Body) (a b : Writer) (s : Listing) (params : ℕ) (back : Leaving) → params ≡ length (out-Body body).params.items → back ≡ leaving_of (out-Body body).vararg params (plain_block (out-Body body).block)
     → a.emitter ≡ listed (empty k) (opening (out-Body body).vararg params (out-Body body).line) → a.jumps.items ≡ [] → a.back ≡ back
     → Wrote a b (made_in_block (plain_block (out-Body body).block)) (λ reach. whole_from a.emitter.constants a.back (plain_block (out-Body body).block) params a.emitter.made (length a.emitter.steps) reach)
     → s ≡ filled b.emitter b.jumps.items
@@ -130,13 +138,13 @@ body_written k body a b s params back params_is back_is a_is none a_back w e =
     let block = plain_block (out-Body body).block in
     let begin : ℕ → List Coded = λ n. opening vararg n line in
     let size : length a.emitter.steps ≡ length (begin params) = ap (λ z. length z.steps) a_is ∙ length-map (begin params) step in
-    let code : whole_from a.emitter.constants a.back block params a.emitter.made (length a.emitter.steps) nowhere ≡ whole_code k (back_field vararg params) block params (length (begin params)) =
+    let code : whole_from a.emitter.constants a.back block params a.emitter.made (length a.emitter.steps) nowhere ≡ whole_code k (leaving_of vararg params block) block params (length (begin params)) =
     ap (λ z. whole_from z.constants a.back block params z.made (length a.emitter.steps) nowhere) a_is
     ∙ ap₂ (λ n m. whole_from k n block params 0 m nowhere) (a_back ∙ back_is) size
-    ∙ whole_is k (back_field vararg params) block params (length (begin params)) in
+    ∙ whole_is k (leaving_of vararg params block) block params (length (begin params)) in
     body_wrote k a b s (begin params) (made_in_block block) (λ reach. whole_from a.emitter.constants a.back block params a.emitter.made (length a.emitter.steps) reach) a_is none w e
     ∙ ap (λ l. listing k (steps (begin params ++ l)) (made_in_block block)) code
-    ∙ ap (λ n. listing k (steps (begin n ++ whole_code k (back_field vararg n) block n (length (begin n)))) (made_in_block block)) params_is
+    ∙ ap (λ n. listing k (steps (begin n ++ whole_code k (leaving_of vararg n block) block n (length (begin n)))) (made_in_block block)) params_is
     ∙ sym (ap (λ p. listing k (steps (function_of k p)) (made_in_body p)) (plain-body body))
 
 -- with the constants of the body itself, this is its code

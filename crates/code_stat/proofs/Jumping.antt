@@ -1,5 +1,5 @@
 -- What is written for jumps, and for the end of a `repeat`.
-use Rattle.std.proofs.Common.{arith, ℕ, ◌+◌, ◌-◌, ◌≡◌, false, List, [], ◌∷◌, ◌++◌, sym, ap, ap₂, ◌∙◌, append_assoc, length, cond, Option, Some, None}
+use Rattle.std.proofs.Common.{arith, ℕ, ◌+◌, ◌-◌, ◌≡◌, Bool, true, false, List, [], ◌∷◌, ◌++◌, refl, sym, ap, ap₂, ◌∙◌, append_assoc, length, cond, Option, Some, None}
 use Rattle.std.specs.Prelude.{slice_set, nat_le}
 use Rattle.std.proofs.lemmas.List.{length_push, length-append}
 use Rattle.std.proofs.Math.Seq.{set-append_seam}
@@ -14,9 +14,8 @@ use Rattle.code_expr.proofs.Joining.{none_made, both_listed, listed_after}
 use Rattle.code_expr.proofs.Leading.{opened_led, opened_long}
 use Rattle.code_stat.specs.declared.jumps.Jump.{Jump}
 use Rattle.code_stat.specs.declared.writer.Writer.{Writer}
-use Rattle.code_stat.specs.Drafts.{Wrote, beyond, or_nowhere}
+use Rattle.code_stat.specs.Drafts.{Wrote, beyond, or_nowhere, drafted}
 use Rattle.code_stat.specs.Forms.{until_code}
-use Rattle.code_stat.proofs.Going.{two_listed}
 use Rattle.code_stat.proofs.Drafting.{written_sized}
 
 put_twice :
@@ -35,22 +34,28 @@ two_more n = omega arith
 jump_led : (x : Landing) (pc line : ℕ) → jump_to (pc + 1) x.place line ≡ cond (nat_le (pc + 2) x.place) (jump_over (x.place - (pc + 2)) line) (jump_back (pc + 2 - x.place) line)
 jump_led x pc line = ap (λ n. cond (nat_le n x.place) (jump_over (x.place - n) line) (jump_back (n - x.place) line)) (two_more pc)
 
-led : (o : Option Landing) (pc line : ℕ) → with_abc Close (or_nowhere o).level 0 0 line ∷ jump_to (pc + 1) (or_nowhere o).place line ∷ [] ≡ leads o pc line
+led : (o : Option Landing) (pc line : ℕ) → with_abc Close (or_nowhere o).level 0 0 line ∷ jump_to (pc + 1) (or_nowhere o).place line ∷ [] ≡ leads true o pc line
 led None pc line = ap (λ j. with_abc Close 0 0 0 line ∷ j ∷ []) (jump_led (record { place = 0; level = 0 }) pc line)
 led (Some x) pc line = ap (λ j. with_abc Close x.level 0 0 line ∷ j ∷ []) (jump_led x pc line)
 
-abbrev fresh : (place line : ℕ) → Option (List ℕ) → Jump
-fresh place line label = record { place = place; line = line; label = label; landing = None; settled = false }
+led_alone : (o : Option Landing) (pc line : ℕ) → jump_to pc (or_nowhere o).place line ∷ [] ≡ leads false o pc line
+led_alone None pc line = refl
+led_alone (Some x) pc line = refl
+
+put_once : (front more : List Step) (a x : Step) (place : ℕ) → place ≡ length front → slice_set (front ++ a ∷ more) place x ≡ front ++ x ∷ more
+put_once front more a x place e = ap (λ n. slice_set (front ++ a ∷ more) n x) e ∙ set-append_seam front a more x
+
+abbrev fresh : (place line : ℕ) → Option (List ℕ) → (closes : Bool) → Jump
+fresh place line label closes = record { place = place; line = line; label = label; closes = closes; landing = None; settled = false }
 
 pub jump_wrote :
-    (a b : Writer) (s1 : Listing) (label : Option (List ℕ)) (place line : ℕ) → place ≡ length a.emitter.steps
-    → s1 ≡ listed a.emitter (with_abc Close 0 0 0 line ∷ []) → b.emitter ≡ listed s1 (jump_over 0 line ∷ [])
-    → b.jumps.items ≡ a.jumps.items ++ fresh place line label ∷ [] → b.back ≡ a.back
-    → Wrote a b 0 (λ reach. leads (beyond label reach) (length a.emitter.steps) line)
-jump_wrote a b s1 label place line place_is e1 e2 jumps back = record {
+    (closes : Bool) (a b : Writer) (label : Option (List ℕ)) (place line : ℕ) → place ≡ length a.emitter.steps
+    → b.emitter ≡ listed a.emitter (drafted closes line) → b.jumps.items ≡ a.jumps.items ++ fresh place line label closes ∷ [] → b.back ≡ a.back
+    → Wrote a b 0 (λ reach. leads closes (beyond label reach) (length a.emitter.steps) line)
+jump_wrote true a b label place line place_is e jumps back = record {
   draft = with_abc Close 0 0 0 line ∷ jump_over 0 line ∷ [];
-  jumps = fresh place line label ∷ [];
-  emitter_is = two_listed a.emitter s1 b.emitter (with_abc Close 0 0 0 line) (jump_over 0 line) e1 e2 ∙ sym (none_made a.emitter (with_abc Close 0 0 0 line ∷ jump_over 0 line ∷ []));
+  jumps = fresh place line label true ∷ [];
+  emitter_is = e ∙ sym (none_made a.emitter (with_abc Close 0 0 0 line ∷ jump_over 0 line ∷ []));
   jumps_are = jumps;
   back_is = back;
   fills = λ reach front more h.
@@ -58,6 +63,18 @@ jump_wrote a b s1 label place line place_is e1 e2 jumps back = record {
       put_twice front more (step (with_abc Close 0 0 0 line)) (step (jump_over 0 line)) (step (with_abc Close (or_nowhere o).level 0 0 line)) (step (jump_to (place + 1) (or_nowhere o).place line)) place (place_is ∙ sym h)
       ∙ ap (λ n. front ++ (steps (with_abc Close (or_nowhere o).level 0 0 line ∷ jump_to (n + 1) (or_nowhere o).place line ∷ []) ++ more)) place_is
       ∙ ap (λ code. front ++ (steps code ++ more)) (led o (length a.emitter.steps) line);
+}
+jump_wrote false a b label place line place_is e jumps back = record {
+  draft = jump_over 0 line ∷ [];
+  jumps = fresh place line label false ∷ [];
+  emitter_is = e ∙ sym (none_made a.emitter (jump_over 0 line ∷ []));
+  jumps_are = jumps;
+  back_is = back;
+  fills = λ reach front more h.
+      let o = beyond label reach in
+      put_once front more (step (jump_over 0 line)) (step (jump_to place (or_nowhere o).place line)) place (place_is ∙ sym h)
+      ∙ ap (λ n. front ++ (steps (jump_to n (or_nowhere o).place line ∷ []) ++ more)) place_is
+      ∙ ap (λ code. front ++ (steps code ++ more)) (led_alone o (length a.emitter.steps) line);
 }
 
 until_form : (test close : List Coded) (places line : ℕ) → (test ++ (close ++ jump_back places line ∷ [])) ++ close ≡ test ++ (close ++ (jump_back places line ∷ close))

@@ -21,8 +21,8 @@ pub label_in_both : (name : List ℕ) (xs ys : List Visible) → label_in name (
 label_in_both name [] ys = refl
 label_in_both name (x ∷ xs) ys = chosen (bytes_eq x.name name) _ _ _ (label_in_both name xs ys) x.landing
 
-abbrev jump : (place line : ℕ) → Option (List ℕ) → Option Destination → Bool → Jump
-jump place line label landing settled = record { place = place; line = line; label = label; landing = landing; settled = settled }
+abbrev jump : (place line : ℕ) → Option (List ℕ) → (closes : Bool) → Option Destination → Bool → Jump
+jump place line label closes landing settled = record { place = place; line = line; label = label; closes = closes; landing = landing; settled = settled }
 
 abbrev labelled : List ℕ → Landing → Visible
 labelled name to = record { name = name; landing = to }
@@ -56,11 +56,11 @@ settled_found name found ahead passed reach e =
 
 pub fill_both : (to : Jump → Option Landing) (xs ys : List Jump) (code : List Step) → fill to (xs ++ ys) code ≡ fill to xs (fill to ys code)
 fill_both to [] ys code = refl
-fill_both to (x ∷ xs) ys code = ap (put_jump (or_nowhere (to x)) x.place x.line) (fill_both to xs ys code)
+fill_both to (x ∷ xs) ys code = ap (put_jump x.closes (or_nowhere (to x)) x.place x.line) (fill_both to xs ys code)
 
 pub fill_alike : (f g : Jump → Option Landing) (xs : List Jump) (code : List Step) → ((j : Jump) → f j ≡ g j) → fill f xs code ≡ fill g xs code
 fill_alike f g [] code h = refl
-fill_alike f g (x ∷ xs) code h = ap₂ (λ o c. put_jump (or_nowhere o) x.place x.line c) (h x) (fill_alike f g xs code h)
+fill_alike f g (x ∷ xs) code h = ap₂ (λ o c. put_jump x.closes (or_nowhere o) x.place x.line c) (h x) (fill_alike f g xs code h)
 
 -- the labels that were passed, one by one
 
@@ -90,30 +90,31 @@ newest_more (y ∷ xs) x behind = newest_more xs x _
 
 -- the jumps from one on, of which those up to a place are led anew
 
-put_same : (f g : Option Landing) (j k : Jump) (code : List Step) → f ≡ g → j.place ≡ k.place → j.line ≡ k.line → put_jump (or_nowhere f) j.place j.line code ≡ put_jump (or_nowhere g) k.place k.line code
-put_same f g j k code e p l = ap (λ o. put_jump (or_nowhere o) j.place j.line code) e ∙ ap₂ (λ m n. put_jump (or_nowhere g) m n code) p l
+put_same : (f g : Option Landing) (j k : Jump) (code : List Step) → f ≡ g → j.place ≡ k.place → j.line ≡ k.line → j.closes ≡ k.closes
+    → put_jump j.closes (or_nowhere f) j.place j.line code ≡ put_jump k.closes (or_nowhere g) k.place k.line code
+put_same f g j k code e p l c = ap₂ (λ b o. put_jump b (or_nowhere o) j.place j.line code) c e ∙ ap₂ (λ m n. put_jump k.closes (or_nowhere g) m n code) p l
 
 one_more_suc :
     (f g : Jump → Option Landing) (xs : List Jump) (from i : ℕ) (j k : Jump) (code : List Step)
-    → from ≤ i → i < length xs → j ≡ slice_index_or xs i j → k.place ≡ j.place → k.line ≡ j.line → f k ≡ g j
+    → from ≤ i → i < length xs → j ≡ slice_index_or xs i j → k.place ≡ j.place → k.line ≡ j.line → k.closes ≡ j.closes → f k ≡ g j
     → fill f (drop from (take (suc i) (slice_set xs i k))) (fill g (drop (suc i) (slice_set xs i k)) code) ≡ fill f (drop from (take i xs)) (fill g (drop i xs) code)
-one_more_suc f g [] from i j k code le lt is p l e = absurd (omega (arith, lt))
-one_more_suc f g (x ∷ xs) zero zero j k code le lt is p l e =
+one_more_suc f g [] from i j k code le lt is p l b e = absurd (omega (arith, lt))
+one_more_suc f g (x ∷ xs) zero zero j k code le lt is p l b e =
     let x_is : j ≡ x = is in
-    put_same (f k) (g j) k j (fill g xs code) e p l ∙ ap (λ z. put_jump (or_nowhere (g z)) z.place z.line (fill g xs code)) x_is
-one_more_suc f g (x ∷ xs) zero (suc i) j k code le lt is p l e = ap (put_jump (or_nowhere (f x)) x.place x.line) (one_more_suc f g xs zero i j k code (omega arith) (omega (arith, lt)) is p l e)
-one_more_suc f g (x ∷ xs) (suc from) zero j k code le lt is p l e = absurd (omega (arith, le))
-one_more_suc f g (x ∷ xs) (suc from) (suc i) j k code le lt is p l e = one_more_suc f g xs from i j k code (omega (arith, le)) (omega (arith, lt)) is p l e
+    put_same (f k) (g j) k j (fill g xs code) e p l b ∙ ap (λ z. put_jump z.closes (or_nowhere (g z)) z.place z.line (fill g xs code)) x_is
+one_more_suc f g (x ∷ xs) zero (suc i) j k code le lt is p l b e = ap (put_jump x.closes (or_nowhere (f x)) x.place x.line) (one_more_suc f g xs zero i j k code (omega arith) (omega (arith, lt)) is p l b e)
+one_more_suc f g (x ∷ xs) (suc from) zero j k code le lt is p l b e = absurd (omega (arith, le))
+one_more_suc f g (x ∷ xs) (suc from) (suc i) j k code le lt is p l b e = one_more_suc f g xs from i j k code (omega (arith, le)) (omega (arith, lt)) is p l b e
 
 suc_is : (i : ℕ) → suc i ≡ i + 1
 suc_is i = omega arith
 
 pub one_more :
     (f g : Jump → Option Landing) (xs : List Jump) (from i : ℕ) (j k : Jump) (code : List Step)
-    → from ≤ i → i < length xs → j ≡ slice_index_or xs i j → k.place ≡ j.place → k.line ≡ j.line → f k ≡ g j
+    → from ≤ i → i < length xs → j ≡ slice_index_or xs i j → k.place ≡ j.place → k.line ≡ j.line → k.closes ≡ j.closes → f k ≡ g j
     → fill f (drop from (take (i + 1) (slice_set xs i k))) (fill g (drop (i + 1) (slice_set xs i k)) code) ≡ fill f (drop from (take i xs)) (fill g (drop i xs) code)
-one_more f g xs from i j k code le lt is p l e =
-    subst (λ n. fill f (drop from (take n (slice_set xs i k))) (fill g (drop n (slice_set xs i k)) code) ≡ fill f (drop from (take i xs)) (fill g (drop i xs) code)) (suc_is i) (one_more_suc f g xs from i j k code le lt is p l e)
+one_more f g xs from i j k code le lt is p l b e =
+    subst (λ n. fill f (drop from (take n (slice_set xs i k))) (fill g (drop n (slice_set xs i k)) code) ≡ fill f (drop from (take i xs)) (fill g (drop i xs) code)) (suc_is i) (one_more_suc f g xs from i j k code le lt is p l b e)
 
 pub front_kept : (xs : List Jump) (from i : ℕ) (k : Jump) → from ≤ i → take from (slice_set xs i k) ≡ take from xs
 front_kept [] from i k le = refl
@@ -141,63 +142,63 @@ pub settle_known : (j : Jump) (ahead passed : List Visible) (reach : Reach) (d :
 settle_known j ahead passed reach d e = settled_now j.label j.landing j.settled (within ahead passed reach) d e
 
 settle_other :
-    (place line : ℕ) (label : Option (List ℕ)) (before found : Option Destination) (settled : Bool) (ahead passed : List Visible) (reach : Reach)
+    (place line : ℕ) (label : Option (List ℕ)) (closes : Bool) (before found : Option Destination) (settled : Bool) (ahead passed : List Visible) (reach : Reach)
     → settled ≡ false → before ≡ None → landing_if found ≡ among label passed
-    → leads_to ahead reach (jump place line label found settled) ≡ arrives (within ahead passed reach) (jump place line label before settled)
-settle_other place line None before found settled ahead passed reach e b f =
-    ap (λ s. leads_to ahead reach (jump place line None found s)) e ∙ ap (λ o. first_of o reach.exit) f
-    ∙ sym (ap₂ (λ s o. arrives (within ahead passed reach) (jump place line None o s)) e b)
-settle_other place line (Some name) before found settled ahead passed reach e b f =
-    ap (λ s. leads_to ahead reach (jump place line (Some name) found s)) e
+    → leads_to ahead reach (jump place line label closes found settled) ≡ arrives (within ahead passed reach) (jump place line label closes before settled)
+settle_other place line None closes before found settled ahead passed reach e b f =
+    ap (λ s. leads_to ahead reach (jump place line None closes found s)) e ∙ ap (λ o. first_of o reach.exit) f
+    ∙ sym (ap₂ (λ s o. arrives (within ahead passed reach) (jump place line None closes o s)) e b)
+settle_other place line (Some name) closes before found settled ahead passed reach e b f =
+    ap (λ s. leads_to ahead reach (jump place line (Some name) closes found s)) e
     ∙ settled_found name found ahead passed reach f
-    ∙ sym (ap₂ (λ s o. arrives (within ahead passed reach) (jump place line (Some name) o s)) e b)
+    ∙ sym (ap₂ (λ s o. arrives (within ahead passed reach) (jump place line (Some name) closes o s)) e b)
 
 pub settle_new :
     (j : Jump) (found : Option Destination) (ahead passed : List Visible) (reach : Reach) → j.settled ≡ false → j.landing ≡ None → landing_if found ≡ among j.label passed
-    → leads_to ahead reach (jump j.place j.line j.label found j.settled) ≡ arrives (within ahead passed reach) j
-settle_new j found ahead passed reach e b f = settle_other j.place j.line j.label j.landing found j.settled ahead passed reach e b f
+    → leads_to ahead reach (jump j.place j.line j.label j.closes found j.settled) ≡ arrives (within ahead passed reach) j
+settle_new j found ahead passed reach e b f = settle_other j.place j.line j.label j.closes j.landing found j.settled ahead passed reach e b f
 
 meet_other :
-    (place line : ℕ) (label : Option (List ℕ)) (landed : Option Destination) (settled : Bool) (name : List ℕ) (to : Landing) (ahead : List Visible) (reach : Reach) → is_to label name ≡ false
-    → leads_to ahead reach (jump place line label landed settled) ≡ leads_to (record { name = name; landing = to } ∷ ahead) reach (jump place line label landed settled)
-meet_other place line None landed settled name to ahead reach e = refl
-meet_other place line (Some l) landed settled name to ahead reach e =
+    (place line : ℕ) (label : Option (List ℕ)) (closes : Bool) (landed : Option Destination) (settled : Bool) (name : List ℕ) (to : Landing) (ahead : List Visible) (reach : Reach) → is_to label name ≡ false
+    → leads_to ahead reach (jump place line label closes landed settled) ≡ leads_to (record { name = name; landing = to } ∷ ahead) reach (jump place line label closes landed settled)
+meet_other place line None closes landed settled name to ahead reach e = refl
+meet_other place line (Some l) closes landed settled name to ahead reach e =
     sym (ap (λ b. cond settled (landing_if landed) (first_of (cond b (Some to) (label_in l ahead)) (first_of (landing_if landed) (beyond (Some l) reach)))) e)
 
 pub meet_not : (j : Jump) (name : List ℕ) (to : Landing) (ahead : List Visible) (reach : Reach) → is_to j.label name ≡ false → leads_to ahead reach j ≡ leads_to (record { name = name; landing = to } ∷ ahead) reach j
-meet_not j name to ahead reach e = meet_other j.place j.line j.label j.landing j.settled name to ahead reach e
+meet_not j name to ahead reach e = meet_other j.place j.line j.label j.closes j.landing j.settled name to ahead reach e
 
 meet_this :
-    (place line : ℕ) (label : Option (List ℕ)) (landed : Option Destination) (settled : Bool) (name : List ℕ) (to : Landing) (ahead : List Visible) (reach : Reach) → settled ≡ false → is_to label name ≡ true
-    → Some to ≡ leads_to (record { name = name; landing = to } ∷ ahead) reach (jump place line label landed settled)
-meet_this place line None landed settled name to ahead reach s e = absurd (cc)
-meet_this place line (Some l) landed settled name to ahead reach s e =
+    (place line : ℕ) (label : Option (List ℕ)) (closes : Bool) (landed : Option Destination) (settled : Bool) (name : List ℕ) (to : Landing) (ahead : List Visible) (reach : Reach) → settled ≡ false → is_to label name ≡ true
+    → Some to ≡ leads_to (record { name = name; landing = to } ∷ ahead) reach (jump place line label closes landed settled)
+meet_this place line None closes landed settled name to ahead reach s e = absurd (cc)
+meet_this place line (Some l) closes landed settled name to ahead reach s e =
     sym (ap₂ (λ k b. cond k (landing_if landed) (first_of (cond b (Some to) (label_in l ahead)) (first_of (landing_if landed) (beyond (Some l) reach)))) s e)
 
 pub meet_here : (j : Jump) (name : List ℕ) (to : Landing) (ahead : List Visible) (reach : Reach) → j.settled ≡ false → is_to j.label name ≡ true → Some to ≡ leads_to (record { name = name; landing = to } ∷ ahead) reach j
-meet_here j name to ahead reach s e = meet_this j.place j.line j.label j.landing j.settled name to ahead reach s e
+meet_here j name to ahead reach s e = meet_this j.place j.line j.label j.closes j.landing j.settled name to ahead reach s e
 
 leave_this :
-    (place line : ℕ) (label : Option (List ℕ)) (landed : Option Destination) (settled : Bool) (to : Landing) (reach : Reach) → settled ≡ false → is_break label landed ≡ true
-    → Some to ≡ arrives (in_loop reach to.place to.level) (jump place line label landed settled)
-leave_this place line None None settled to reach s e = sym (ap (λ k. arrives (in_loop reach to.place to.level) (jump place line None None k)) s)
-leave_this place line None (Some d) settled to reach s e = absurd (cc)
-leave_this place line (Some name) None settled to reach s e = absurd (cc)
-leave_this place line (Some name) (Some d) settled to reach s e = absurd (cc)
+    (place line : ℕ) (label : Option (List ℕ)) (closes : Bool) (landed : Option Destination) (settled : Bool) (to : Landing) (reach : Reach) → settled ≡ false → is_break label landed ≡ true
+    → Some to ≡ arrives (in_loop reach to.place to.level) (jump place line label closes landed settled)
+leave_this place line None closes None settled to reach s e = sym (ap (λ k. arrives (in_loop reach to.place to.level) (jump place line None closes None k)) s)
+leave_this place line None closes (Some d) settled to reach s e = absurd (cc)
+leave_this place line (Some name) closes None settled to reach s e = absurd (cc)
+leave_this place line (Some name) closes (Some d) settled to reach s e = absurd (cc)
 
 pub leave_here : (j : Jump) (to : Landing) (reach : Reach) → j.settled ≡ false → is_break j.label j.landing ≡ true → Some to ≡ arrives (in_loop reach to.place to.level) j
-leave_here j to reach s e = leave_this j.place j.line j.label j.landing j.settled to reach s e
+leave_here j to reach s e = leave_this j.place j.line j.label j.closes j.landing j.settled to reach s e
 
 leave_others :
-    (place line : ℕ) (label : Option (List ℕ)) (landed : Option Destination) (settled : Bool) (m n : ℕ) (reach : Reach) → is_break label landed ≡ false
-    → arrives reach (jump place line label landed settled) ≡ arrives (in_loop reach m n) (jump place line label landed settled)
-leave_others place line None None settled m n reach e = absurd (cc)
-leave_others place line None (Some d) settled m n reach e = refl
-leave_others place line (Some name) None settled m n reach e = refl
-leave_others place line (Some name) (Some d) settled m n reach e = refl
+    (place line : ℕ) (label : Option (List ℕ)) (closes : Bool) (landed : Option Destination) (settled : Bool) (m n : ℕ) (reach : Reach) → is_break label landed ≡ false
+    → arrives reach (jump place line label closes landed settled) ≡ arrives (in_loop reach m n) (jump place line label closes landed settled)
+leave_others place line None closes None settled m n reach e = absurd (cc)
+leave_others place line None closes (Some d) settled m n reach e = refl
+leave_others place line (Some name) closes None settled m n reach e = refl
+leave_others place line (Some name) closes (Some d) settled m n reach e = refl
 
 pub leave_not : (j : Jump) (place level : ℕ) (reach : Reach) → is_break j.label j.landing ≡ false → arrives reach j ≡ arrives (in_loop reach place level) j
-leave_not j place level reach e = leave_others j.place j.line j.label j.landing j.settled place level reach e
+leave_not j place level reach e = leave_others j.place j.line j.label j.closes j.landing j.settled place level reach e
 
 pub meet_settled : (j : Jump) (name : List ℕ) (to : Landing) (ahead : List Visible) (reach : Reach) → j.settled ≡ true → leads_to ahead reach j ≡ leads_to (record { name = name; landing = to } ∷ ahead) reach j
 meet_settled j name to ahead reach e = stays j _ _ _ e

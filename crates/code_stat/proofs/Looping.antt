@@ -8,6 +8,7 @@ use Rattle.tree_core.specs.Plain.{num_for_of}
 use Rattle.tree_activation.specs.Activation.{line_of_end}
 use Rattle.code_core.specs.declared.opcode.Opcode.TheVariants.{Close, ForLoop, ForPrep, TForPrep, TForCall, TForLoop}
 use Rattle.code_core.specs.declared.proto.Const.{Const}
+use Rattle.code_of.specs.declared.leaving.Leaving.{Leaving}
 use Rattle.code_of.specs.Coded.{Coded, with_abc, with_abx, jump_back}
 use Rattle.code_of.specs.Conditions.{test_code}
 use Rattle.code_of.specs.Expressions.{made_by, made_in, exps_code}
@@ -91,7 +92,7 @@ while_form :
 while_form test block line d places d_is places_is = ap₂ (λ u v. test u ++ (block ++ jump_back v line ∷ [])) d_is places_is
 
 while_is :
-    (k : List Const) (back : ℕ) (e : Exp) (block : Block) (closing : Bool) (t line j pc d x places end : ℕ) (reach : Reach)
+    (k : List Const) (back : Leaving) (e : Exp) (block : Block) (closing : Bool) (t line j pc d x places end : ℕ) (reach : Reach)
     → x ≡ length (test_code k e true 0 t j) → d ≡ block_size k back block closing t t (j + made_by e) + 1
     → places ≡ length (test_code k e true 0 t j) + block_size k back block closing t t (j + made_by e) + 1
     → end ≡ pc + (length (test_code k e true 0 t j) + (block_size k back block closing t t (j + made_by e) + 1))
@@ -149,7 +150,7 @@ abbrev pub open_form : Block → (closing : Bool) → (t : ℕ) → Form
 open_form block closing t k back j pc reach = open_code k back block closing t j pc reach
 
 repeat_is :
-    (k : List Const) (back : ℕ) (e : Exp) (block : Block) (closing : Bool) (t line end_line j pc inner places end : ℕ) (reach : Reach)
+    (k : List Const) (back : Leaving) (e : Exp) (block : Block) (closing : Bool) (t line end_line j pc inner places end : ℕ) (reach : Reach)
     → inner ≡ levels_in block t → end_line ≡ line_of_end block
     → places ≡ open_size k back block closing t j + length (test_code k e false 0 inner (j + made_in_block block)) + length (close_code t (closed_until block e t) end_line) + 1
     → end ≡ pc + (open_size k back block closing t j + (length (test_code k e false 0 inner (j + made_in_block block)) + (length (close_code t (closed_until block e t) end_line) + length (close_code t (closed_until block e t) end_line) + 1)))
@@ -276,7 +277,7 @@ rounds_long a p q s4 s5 block closing outer inner prep prep' y w e1 back e4 e5 =
     (omega (arith, long, p_long, q_long), omega (arith, long, s_long, parts))
 
 pub counted_is :
-    (k : List Const) (back : ℕ) (block : Block) (closing : Bool) (t line j pc size end : ℕ) (reach : Reach)
+    (k : List Const) (back : Leaving) (block : Block) (closing : Bool) (t line j pc size end : ℕ) (reach : Reach)
     → size ≡ block_size k back block closing (t + 3) (t + 4) j → end ≡ pc + (block_size k back block closing (t + 3) (t + 4) j + 2)
     → with_abx ForPrep t size line ∷ (block_code k back block closing (t + 3) (t + 4) j (pc + 1) (in_loop reach end t) ++ with_abx ForLoop t (size + 1) line ∷ []) ≡ counted_code k back block closing t j pc line reach
 counted_is k back block closing t line j pc size end reach size_is end_is =
@@ -286,7 +287,7 @@ counted_is k back block closing t line j pc size end reach size_is end_is =
     ∙ ap (λ n. with_abx ForPrep t n line ∷ (inner ++ with_abx ForLoop t (n + 1) line ∷ [])) long
 
 pub iterated_is :
-    (k : List Const) (back : ℕ) (block : Block) (n t line j pc size end : ℕ) (reach : Reach)
+    (k : List Const) (back : Leaving) (block : Block) (n t line j pc size end : ℕ) (reach : Reach)
     → size ≡ block_size k back block true (t + 4) (t + 4 + n) j → end ≡ pc + (block_size k back block true (t + 4) (t + 4 + n) j + 4)
     → with_abx TForPrep t size line ∷ (block_code k back block true (t + 4) (t + 4 + n) j (pc + 1) (in_loop reach end t) ++ (with_abc TForCall t 0 n line ∷ with_abx TForLoop t (size + 2) line ∷ with_abc Close t 0 0 line ∷ []))
     ≡ iterated_code k back block n t j pc line reach
@@ -339,7 +340,7 @@ farther : (pc n size : ℕ) → pc + n + size ≡ pc + (n + size)
 farther pc n size = omega arith
 
 counting_joined :
-    (k : List Const) (back : ℕ) (start : List Coded) (block : Block) (closing : Bool) (t line i j pc : ℕ) (reach : Reach) → i ≡ j
+    (k : List Const) (back : Leaving) (start : List Coded) (block : Block) (closing : Bool) (t line i j pc : ℕ) (reach : Reach) → i ≡ j
     → start ++ counted_code k back block closing t i (pc + length start) line reach
     ≡ counting_code start (block_code k back block closing (t + 3) (t + 4) j (pc + length start + 1) (in_loop reach (pc + (length start + (block_size k back block closing (t + 3) (t + 4) j + 2))) t)) t line
 counting_joined k back start block closing t line i j pc reach e =
@@ -347,7 +348,7 @@ counting_joined k back start block closing t line i j pc reach e =
     ∙ ap (λ n. counting_code start (block_code k back block closing (t + 3) (t + 4) j (pc + length start + 1) (in_loop reach n t)) t line) (farther pc (length start) (block_size k back block closing (t + 3) (t + 4) j + 2))
 
 iterating_joined :
-    (k : List Const) (back : ℕ) (start : List Coded) (block : Block) (n t line j pc : ℕ) (reach : Reach)
+    (k : List Const) (back : Leaving) (start : List Coded) (block : Block) (n t line j pc : ℕ) (reach : Reach)
     → start ++ iterated_code k back block n t j (pc + length start) line reach
     ≡ iterating_code start (block_code k back block true (t + 4) (t + 4 + n) j (pc + length start + 1) (in_loop reach (pc + (length start + (block_size k back block true (t + 4) (t + 4 + n) j + 4))) t)) t n line
 iterating_joined k back start block n t line j pc reach =

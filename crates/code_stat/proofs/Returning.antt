@@ -1,25 +1,21 @@
 -- Which calls take the place of their caller.
-use Rattle.std.proofs.Common.{arith, ℕ, suc, ◌+◌, ◌≡◌, Bool, true, false, List, [], ◌∷◌, ◌++◌, refl, sym, ap, ap₂, ◌∙◌, subst, length, None}
+use Rattle.std.proofs.Common.{arith, ℕ, suc, ◌+◌, ◌≡◌, Bool, true, false, List, [], ◌∷◌, ◌++◌, refl, sym, ap, ap₂, ◌∙◌, subst, length, Option, Some, None}
 use Rattle.std.proofs.lemmas.List.{length-append}
-use Rattle.std.specs.Prelude.{slice_index_or}
 use Rattle.tree_core.specs.declared.tree.Exp.{Exp}
 use Rattle.tree_core.specs.declared.name.Name.{Name}
 use Rattle.tree_core.specs.Tree as tree
 use Rattle.tree_core.specs.Plain.{plain_exp, plain_exps}
 use Rattle.code_core.specs.declared.proto.Const.{Const}
 use Rattle.code_core.specs.declared.opcode.Opcode.TheVariants.{TailCall, Return}
-use Rattle.code_of.specs.Coded.{Coded, leaving_by}
+use Rattle.code_of.specs.Coded.{Coded, leaving_by, leaving_local}
 use Rattle.code_of.specs.Expressions.{made_by, made_in, list_field, exp_code, exps_code}
 use Rattle.code_of.specs.Operators.{self_code}
-use Rattle.code_of.specs.Operands.{local_of, seat, unless}
-use Rattle.code_of.specs.Parts.{call_last, method_last, return_code, values_last}
-use Rattle.code_expr.specs.Listing.{Listing, followed}
+use Rattle.code_of.specs.Operands.{local_of, lone_local, seat, unless}
+use Rattle.code_of.specs.Parts.{call_last, method_last, return_code, listed_last, returned_by, values_last}
+use Rattle.code_of.proofs.Operands.{local_makes, lone_is}
+use Rattle.code_expr.specs.Listing.{Listing, listed, followed}
+use Rattle.code_expr.proofs.Joining.{none_made}
 use Rattle.code_stat.specs.Tails.{is_called, tail_code}
-
-pub single : (xs : List Exp) (x : Exp) → length xs ≡ 1 → x ≡ slice_index_or xs 0 x → tree.exps (plain_exps xs) ≡ tree.MoreExps (plain_exp x) tree.EndExps
-single [] x h e = absurd (omega (arith, h))
-single (y ∷ []) x h e = ap (λ z. tree.MoreExps (plain_exp z) tree.EndExps) (sym e)
-single (y ∷ z ∷ xs) x h e = absurd (omega (arith, h))
 
 module _ (k : List Const) where
   pub closing_return : (closing : Bool) (es : tree.Exps) (t j line back : ℕ) → closing ≡ true → return_code k closing es t j line back ≡ values_last k es t j line back
@@ -73,6 +69,22 @@ module _ (k : List Const) where
   several_return closing [] t j line back h = empty_return closing t j line back
   several_return closing (x ∷ []) t j line back h = absurd (h refl)
   several_return closing (x ∷ y ∷ xs) t j line back h = longer closing (plain_exp x) (plain_exp y) (tree.exps (plain_exps xs)) t j line back
+
+-- a local that is all of a list has no code of its own
+
+pub local_returned :
+    (s q : Listing) (es : tree.Exps) (r t line back : ℕ) → lone_local es ≡ Some r → q ≡ listed s (leaving_local r t back line ∷ []) → q ≡ followed s (values_last s.constants es t s.made line back) (made_in es)
+local_returned s q es r t line back is h =
+    let lone = lone_is es r is in
+    let all = ap made_in lone.values in
+    let none = local_makes lone.value r lone.is in
+    let sum : 0 ≡ made_in es = omega (arith, all, none) in
+    h ∙ sym (none_made s (leaving_local r t back line ∷ [])) ∙ ap (followed s (leaving_local r t back line ∷ [])) sum
+    ∙ ap (λ o. followed s (returned_by s.constants o es t s.made line back) (made_in es)) (sym is)
+
+pub list_returned :
+    (s q : Listing) (es : tree.Exps) (t line back : ℕ) → lone_local es ≡ None → q ≡ followed s (listed_last s.constants es t s.made line back) (made_in es) → q ≡ followed s (values_last s.constants es t s.made line back) (made_in es)
+list_returned s q es t line back is h = h ∙ ap (λ o. followed s (returned_by s.constants o es t s.made line back) (made_in es)) (sym is)
 
 -- what is written for a list of values is what is written for the return of it
 
@@ -143,7 +155,11 @@ behind_some : (xs ys : List Coded) (n : ℕ) → length ys ≡ suc n → length 
 behind_some xs ys n e h = let a = length-append xs ys in omega (arith, a, e, h)
 
 values_some : (k : List Const) (es : tree.Exps) (t j line back : ℕ) → length (values_last k es t j line back) ≡ 0 → ⊥
-values_some k es t j line back h = behind_some (exps_code k es None t j line) (leaving_by Return t (list_field 0 es) back line ∷ []) 0 refl h
+values_some k es t j line back h = by (lone_local es) h
+  where
+    by : (o : Option ℕ) → length (returned_by k o es t j line back) ≡ 0 → ⊥
+    by None h = behind_some (exps_code k es None t j line) (leaving_by Return t (list_field 0 es) back line ∷ []) 0 refl h
+    by (Some r) h = absurd (cc)
 
 tail_some : (k : List Const) (e : tree.Exp) (t j line back : ℕ) → is_called e ≡ true → length (return_code k false (tree.MoreExps e tree.EndExps) t j line back) ≡ 0 → ⊥
 tail_some k (tree.Call l f es) t j line back called h =

@@ -2,6 +2,7 @@
 use Rattle.std.proofs.Common.{arith, ℕ, ◌+◌, ◌≤◌, ◌≡◌, Bool, true, List, [], ◌∷◌, ◌++◌, Some, refl, sym, ap₂, ◌∙◌, length}
 use Rattle.tree_core.specs.Tree.{Block, Falls, Returns, Stats, EndStats, MoreStats, Stat, Empty, Local, LocalFunction, Assign, CallStat, Do, While, Repeat, If, IfElse, NumFor, NumForStep, GenFor, Label, Goto, Break, Arms, EndArms, MoreArms}
 use Rattle.code_core.specs.declared.proto.Const.{Const}
+use Rattle.code_of.specs.declared.leaving.Leaving.{Leaving}
 use Rattle.code_of.specs.Expressions.{made_by, exps_code}
 use Rattle.code_of.specs.Conditions.{test_code}
 use Rattle.code_of.specs.Levels.{made_by_stat, made_in_arms, made_in_stats, made_in_block, closing_after, closings_after}
@@ -19,7 +20,7 @@ use Rattle.tree_terms.proofs.Levels.{level_rises, levels_rise}
 first_same : (s : Stat) (ss : Stats) (t : ℕ) → levels_after (MoreStats s ss) t ≡ t → level_after s t ≡ t
 first_same s ss t h = let a = level_rises s t in let b = levels_rise ss (level_after s t) in omega (arith, a, b, h)
 
-module _ (k : List Const) (back : ℕ) where
+module _ (k : List Const) (back : Leaving) where
   declared_none : (s : Stat) (t j pc end : ℕ) → level_after s t ≡ t → declared_by k back s t j pc end ≡ []
   declared_none (Empty line) t j pc end h = refl
   declared_none (Local line [] es) t j pc end h = refl
@@ -118,5 +119,5 @@ module _ (k : List Const) (back : ℕ) where
         let here : stats_size k back ss closing t j ≡ 0 = omega (arith, h) in
         stats_without ss closing t j pc (pc + block_size k back (Falls ss tokens line) closing t t j) here (levels_without ss closing t j here)
     block_without (Returns ss es tokens line) closing t j pc h =
-        let none : length (return_code k (closings_after ss closing) es (levels_after ss t) (j + made_in_stats ss) line back) ≡ 0 = omega (arith, h) in
-        absurd (return_some k (closings_after ss closing) es (levels_after ss t) (j + made_in_stats ss) line back none)
+        let none : length (return_code k (closings_after ss closing) es (levels_after ss t) (j + made_in_stats ss) line back.back) ≡ 0 = omega (arith, h) in
+        absurd (return_some k (closings_after ss closing) es (levels_after ss t) (j + made_in_stats ss) line back.back none)

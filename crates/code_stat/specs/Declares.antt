@@ -4,13 +4,14 @@ use Rattle.tree_core.specs.declared.name.Name.{Name}
 use Rattle.tree_core.specs.Tree.{Stat, Stats, Block, Falls, Returns}
 use Rattle.code_core.specs.declared.proto.Const.{Const}
 use Rattle.code_core.specs.declared.proto.LocVar.{LocVar}
+use Rattle.code_of.specs.declared.leaving.Leaving.{Leaving}
 use Rattle.code_of.specs.Sizes.{block_size}
 use Rattle.code_of.specs.Variables.{looped, within_stat, within_block, within_whole}
 use Rattle.code_parts.specs.declared.variables.Variable.{Variable}
 use Rattle.code_parts.specs.Scopes.{over, begun_by, begun_in}
 use Rattle.code_stat.specs.declared.writer.Writer.{Writer}
 
-module _ (constants : List Const) (back : ℕ) where
+module _ (constants : List Const) (back : Leaving) where
   -- the scopes of what a statement declares go on, and those within it have ended
   abbrev pub left_by : Stat → (closing : Bool) → (t j pc : ℕ) → List Variable
   left_by s closing t j pc = begun_by constants back s t j pc ++ map over (within_stat constants back s closing t j pc)
@@ -28,7 +29,7 @@ module _ (constants : List Const) (back : ℕ) where
 
 -- of what is written, where so much is known in front of it
 
-abbrev pub Declares : (a b : Writer) → (List Const → (back made place : ℕ) → List Variable) → Type 0
+abbrev pub Declares : (a b : Writer) → (List Const → (back : Leaving) → (made place : ℕ) → List Variable) → Type 0
 Declares a b f = b.variables ≡ a.variables ++ f a.emitter.constants a.back a.emitter.made (length a.emitter.steps)
 
 abbrev pub DeclaresStat : Writer → Writer → Stat → (closing : Bool) → (level : ℕ) → Type 0

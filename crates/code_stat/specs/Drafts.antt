@@ -1,7 +1,7 @@
 -- Code that is written while some of its jumps are not led yet: where each leads is settled when the label or the end of the loop is reached.
 use Rattle.std.specs.Prelude.{ℕ, ◌+◌, cond, Bool, true, false, List, [], ◌∷◌, ◌++◌, ◌≡◌, length, slice_set, bytes_eq, Option, Some, None}
 use Rattle.code_core.specs.declared.opcode.Opcode.TheVariants.{Close}
-use Rattle.code_of.specs.Coded.{Coded, with_abc}
+use Rattle.code_of.specs.Coded.{Coded, with_abc, jump_over}
 use Rattle.tree_core.specs.Tree.{Stat, Stats, Block}
 use Rattle.code_of.specs.Levels.{made_by_stat, made_in_stats, made_in_block}
 use Rattle.code_of.specs.Statements.{stat_code, stats_code, block_code, open_code}
@@ -65,13 +65,19 @@ abbrev pub or_nowhere : Option Landing → Landing
 or_nowhere None = record { place = 0; level = 0 }
 or_nowhere (Some x) = x
 
--- the two instructions of each jump are put in their place
-abbrev pub put_jump : Landing → (pc line : ℕ) → List Step → List Step
-put_jump x pc line xs = slice_set (slice_set xs pc (step (with_abc Close x.level 0 0 line))) (pc + 1) (step (jump_to (pc + 1) x.place line))
+-- a jump before it is led
+abbrev pub drafted : (closes : Bool) → (line : ℕ) → List Coded
+drafted true line = with_abc Close 0 0 0 line ∷ jump_over 0 line ∷ []
+drafted false line = jump_over 0 line ∷ []
+
+-- the instructions of each jump are put in their place: CLOSE, where it has one, and JMP
+abbrev pub put_jump : (closes : Bool) → Landing → (pc line : ℕ) → List Step → List Step
+put_jump false x pc line xs = slice_set xs pc (step (jump_to pc x.place line))
+put_jump true x pc line xs = slice_set (slice_set xs pc (step (with_abc Close x.level 0 0 line))) (pc + 1) (step (jump_to (pc + 1) x.place line))
 
 abbrev pub fill : (Jump → Option Landing) → List Jump → List Step → List Step
 fill to [] xs = xs
-fill to (j ∷ js) xs = put_jump (or_nowhere (to j)) j.place j.line (fill to js xs)
+fill to (j ∷ js) xs = put_jump j.closes (or_nowhere (to j)) j.place j.line (fill to js xs)
 
 -- code stands behind that makes so many functions. It is a draft, which becomes the code under any reach as its jumps are filled in
 pub record Wrote (a b : Writer) (made : ℕ) (code : Reach → List Coded) : Type 0 where

@@ -4,6 +4,7 @@ use Rattle.tree_core.specs.Tree.{Block, Stats, Stat, Empty, Label, If, IfElse, A
 use Rattle.tree_terms.specs.Labels.{are_void}
 use Rattle.code_core.specs.declared.opcode.Opcode.TheVariants.{Close, ForLoop, ForPrep, TForPrep, TForCall, TForLoop}
 use Rattle.code_core.specs.declared.proto.Const.{Const}
+use Rattle.code_of.specs.declared.leaving.Leaving.{Leaving}
 use Rattle.code_of.specs.Coded.{Coded, with_abc, with_abx, jump_back}
 use Rattle.code_of.specs.Expressions.{made_by}
 use Rattle.code_of.specs.Jumps.{Visible, Reach}
@@ -42,7 +43,7 @@ made_in_range from limit (Some step) = made_by from + made_by limit + made_by st
 
 -- the rounds of a `for`, behind its values
 
-module _ (constants : List Const) (back : ℕ) where
+module _ (constants : List Const) (back : Leaving) where
   abbrev pub counted_code : Block → (closing : Bool) → (t j pc line : ℕ) → Reach → List Coded
   counted_code block closing t j pc line reach =
       let inner = block_code constants back block closing (t + 3) (t + 4) j (pc + 1) (in_loop reach (pc + (block_size constants back block closing (t + 3) (t + 4) j + 2)) t) in

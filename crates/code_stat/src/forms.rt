@@ -94,12 +94,13 @@ impl Writer {
     }
 
     /// Writes `goto`.
-    pub(crate) fn goto(&mut self, name: &Name, line: u32) -> Result<(), AllocError>
+    pub(crate) fn goto(&mut self, name: &Name, closing: bool, line: u32) -> Result<(), AllocError>
         ensures variables { OnOk result (self.new.variables ≡ self.old.variables) }
-        ensures code { (closing : Bool) (level : ℕ) → OnOk result (WroteStat self.old self.new (Goto line name.now) closing level) }
+        ensures code { (level : ℕ) → OnOk result (WroteStat self.old self.new (Goto line name.now) closing level) }
     {
         let label = Bytes::of(name.text.as_slice().to_vec(self.alloc)?);
-        self.jump(Some(label), line)?;
+        let closes = self.closes(closing);
+        self.jump(Some(label), closes, line)?;
         Ok(())
     }
 }

@@ -34,6 +34,8 @@ pub(crate) struct Jump {
     pub(crate) line: u32,
     /// The label of a `goto`.
     pub(crate) label: Option<Bytes>,
+    /// Whether a CLOSE stands in front of its JMP.
+    pub(crate) closes: bool,
     /// Where it leads, as far as that is known.
     pub(crate) landing: Option<Destination>,
     /// Whether it leads nowhere else, whatever comes.
@@ -97,6 +99,7 @@ impl Jump {
     fn settle(&mut self, passed: &Vec<Passed>)
         ensures place { self.new.place ≡ self.old.place }
         ensures line { self.new.line ≡ self.old.line }
+        ensures closes { self.new.closes ≡ self.old.closes }
         ensures leads { (ahead : List Visible) (reach : Reach) → leads_to ahead reach self.new ≡ arrives (within ahead (newest_first passed.now.items []) reach) self.old }
     {
         if self.settled {
@@ -113,6 +116,7 @@ impl Jump {
     fn meet(&mut self, name: &Bytes, to: Destination)
         ensures place { self.new.place ≡ self.old.place }
         ensures line { self.new.line ≡ self.old.line }
+        ensures closes { self.new.closes ≡ self.old.closes }
         ensures leads { (ahead : List Visible) (reach : Reach) → leads_to ahead reach self.new ≡ leads_to (record { name = name.now; landing = landing to } ∷ ahead) reach self.old }
     {
         if self.settled {
@@ -130,6 +134,7 @@ impl Jump {
     fn leave(&mut self, to: Destination)
         ensures place { self.new.place ≡ self.old.place }
         ensures line { self.new.line ≡ self.old.line }
+        ensures closes { self.new.closes ≡ self.old.closes }
         ensures leads { (reach : Reach) → arrives reach self.new ≡ arrives (in_loop reach to.place to.level) self.old }
     {
         if self.settled {

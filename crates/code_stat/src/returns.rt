@@ -2,15 +2,15 @@
 ghost use Rattle.std.specs.Prelude.{◌≡◌, [], ◌∷◌, OnOk};
 ghost use Rattle.tree_core.specs.Tree.{exps, Call, Method};
 ghost use Rattle.tree_core.specs.Plain.{plain_exp, plain_exps};
-ghost use Rattle.code_of.specs.Coded.{leaving_by};
+ghost use Rattle.code_of.specs.Coded.{leaving_by, leaving_local};
 ghost use Rattle.code_of.specs.Expressions.{made_by, made_in};
-ghost use Rattle.code_of.specs.Parts.{call_last, method_last, return_code, values_last};
+ghost use Rattle.code_of.specs.Parts.{call_last, method_last, return_code, listed_last, values_last};
 ghost use Rattle.code_stat.specs.Tails.{is_called, tail_code};
 ghost use Rattle.code_expr.specs.Listing.{listed, followed};
 
 use crate::targets::count_made;
 use code_core::Opcode;
-use code_expr::{Emitter, list_field, next};
+use code_expr::{Emitter, list_field, lone_local, next};
 use std::alloc::AllocError;
 use tree_core::{Exp, ExpNode, Name};
 
@@ -27,6 +27,19 @@ pub(crate) fn put_leaving(
     ensures { OnOk result (emitter.new ≡ listed emitter.old (leaving_by op register field back line ∷ [])) }
 {
     emitter.put_flagged(op, register, field, back, 0 < register, line)
+}
+
+/// Puts the return of one local, which stays in its register. The locals in scope stand below the other register.
+fn put_local(
+    emitter: &mut Emitter,
+    local: usize,
+    register: usize,
+    back: usize,
+    line: u32,
+) -> Result<(), AllocError>
+    ensures { OnOk result (emitter.new ≡ listed emitter.old (leaving_local local register back line ∷ [])) }
+{
+    emitter.put_flagged(Opcode::Return, local, 2, back, 0 < register, line)
 }
 
 /// Writes a call in the place of its caller.
@@ -97,7 +110,23 @@ fn write_tail(
     }
 }
 
-/// Writes a list of values and the return of them.
+/// Writes a list of values to the registers from one on, and the return of them.
+fn write_listed_last(
+    emitter: &mut Emitter,
+    values: &Vec<Exp>,
+    register: usize,
+    line: u32,
+    back: usize,
+) -> Result<(), AllocError>
+    ensures { OnOk result (emitter.new ≡ followed emitter.old (listed_last emitter.old.constants (exps (plain_exps values.now.items)) register emitter.old.made line back) (made_in (exps (plain_exps values.now.items)))) }
+{
+    emitter.list(values, None, register, line)?;
+    let field = list_field(0, values);
+    put_leaving(emitter, Opcode::Return, register, field, back, line)?;
+    Ok(())
+}
+
+/// Writes the return of a list of values.
 fn write_values_last(
     emitter: &mut Emitter,
     values: &Vec<Exp>,
@@ -107,10 +136,10 @@ fn write_values_last(
 ) -> Result<(), AllocError>
     ensures { OnOk result (emitter.new ≡ followed emitter.old (values_last emitter.old.constants (exps (plain_exps values.now.items)) register emitter.old.made line back) (made_in (exps (plain_exps values.now.items)))) }
 {
-    emitter.list(values, None, register, line)?;
-    let field = list_field(0, values);
-    put_leaving(emitter, Opcode::Return, register, field, back, line)?;
-    Ok(())
+    match lone_local(values) {
+        Some(local) => put_local(emitter, local, register, back, line),
+        None => write_listed_last(emitter, values, register, line, back),
+    }
 }
 
 /// Writes `return`, where variables are to be closed or none is. `back` is its field C.

@@ -3,12 +3,14 @@ ghost use Rattle.std.specs.Prelude.{◌≡◌, ◌+◌, ◌&&◌, true, nat_eq, 
 ghost use Rattle.tree_core.specs.Tree.{exps};
 ghost use Rattle.tree_core.specs.Plain.{plain_exp, plain_exps, plain_body};
 ghost use Rattle.code_of.specs.Expressions.{exp_code, made_by, made_in};
-ghost use Rattle.code_of.specs.Parts.{assign_code, captures_local, closure_code, function_code, store_by, stored_code};
+ghost use Rattle.code_of.specs.Operands.{second_assigned};
+ghost use Rattle.code_of.specs.Parts.{assign_code, captures_local, closure_code, function_code, store_by, stored_code, two_by, two_code};
 ghost use Rattle.code_of.specs.Stores.{stores_field};
 ghost use Rattle.code_expr.specs.Listing.{followed};
+ghost use Rattle.code_expr.specs.Operands.{made_directly};
 
-use crate::stores::{behind, write_stores};
-use crate::targets::write_targets;
+use crate::stores::{behind, write_store, write_stores};
+use crate::targets::{write_target, write_targets};
 use code_core::Opcode;
 use code_expr::{Emitter, direct_local, is_field};
 use std::alloc::AllocError;
@@ -81,7 +83,7 @@ fn write_stored(
     Ok(())
 }
 
-/// Writes an assignment whose target is not a local that its value goes straight to.
+/// Writes an assignment in which no value goes straight to a local.
 fn write_single(
     emitter: &mut Emitter,
     targets: &Vec<Exp>,
@@ -108,6 +110,52 @@ fn write_single(
     }
 }
 
+/// Writes an assignment of two values to a target and a local, which gets the second value straight into its register.
+fn write_second(
+    emitter: &mut Emitter,
+    target: &Exp,
+    first: &Exp,
+    second: &Exp,
+    local: usize,
+    register: usize,
+) -> Result<(), AllocError>
+    ensures { OnOk result (emitter.new ≡ followed emitter.old (two_code emitter.old.constants (plain_exp target.now) (plain_exp first.now) (plain_exp second.now) local register emitter.old.made) (made_by (plain_exp target.now) + (made_by (plain_exp first.now) + made_directly (plain_exp second.now)))) }
+{
+    let value = behind(register, 2)?;
+    let free = behind(register, 3)?;
+    write_target(emitter, target, register)?;
+    emitter.expression(first, value, 2)?;
+    emitter.direct(second, local, free)?;
+    write_store(emitter, target, register, value)?;
+    Ok(())
+}
+
+/// Writes an assignment whose target is not a local alone that its value goes straight to.
+fn write_several(
+    emitter: &mut Emitter,
+    targets: &Vec<Exp>,
+    values: &Vec<Exp>,
+    register: usize,
+    line: u32,
+) -> Result<(), AllocError>
+    ensures { OnOk result (emitter.new ≡ followed emitter.old (two_by emitter.old.constants (second_assigned (exps (plain_exps targets.now.items)) (exps (plain_exps values.now.items))) (exps (plain_exps targets.now.items)) (exps (plain_exps values.now.items)) register emitter.old.made line) (made_in (exps (plain_exps targets.now.items)) + made_in (exps (plain_exps values.now.items)))) }
+{
+    if targets.len() != 2 {
+        return write_single(emitter, targets, values, register, line);
+    }
+    if values.len() != 2 {
+        return write_single(emitter, targets, values, register, line);
+    }
+    let target = &targets[0];
+    let last = &targets[1];
+    let first = &values[0];
+    let second = &values[1];
+    match direct_local(last, second) {
+        Some(local) => write_second(emitter, target, first, second, local, register),
+        None => write_single(emitter, targets, values, register, line),
+    }
+}
+
 /// Writes an assignment, where the registers from one on are free.
 pub fn write_assign(
     emitter: &mut Emitter,
@@ -119,15 +167,15 @@ pub fn write_assign(
     ensures { OnOk result (emitter.new ≡ followed emitter.old (assign_code emitter.old.constants (exps (plain_exps targets.now.items)) (exps (plain_exps values.now.items)) register emitter.old.made line) (made_in (exps (plain_exps targets.now.items)) + made_in (exps (plain_exps values.now.items)))) }
 {
     if targets.len() != 1 {
-        return write_single(emitter, targets, values, register, line);
+        return write_several(emitter, targets, values, register, line);
     }
     if values.len() != 1 {
-        return write_single(emitter, targets, values, register, line);
+        return write_several(emitter, targets, values, register, line);
     }
     let target = &targets[0];
     let value = &values[0];
     match direct_local(target, value) {
         Some(local) => emitter.direct(value, local, register),
-        None => write_single(emitter, targets, values, register, line),
+        None => write_several(emitter, targets, values, register, line),
     }
 }

@@ -51,8 +51,8 @@ impl Writer {
                 self.iterated(names, block, level, line)?;
                 Ok(())
             }
-            StatNode::Goto(name) => self.goto(name, line),
-            StatNode::Break => self.jump(None, line),
+            StatNode::Goto(name) => self.goto(name, closing, line),
+            StatNode::Break => self.leave_loop(closing, line),
         }
     }
 
@@ -130,7 +130,7 @@ impl Writer {
             }
             Some(values) => {
                 let end = self.statements(&block.stats, false, closing, outer, level)?;
-                let back = self.back;
+                let back = self.back.back;
                 write_return(
                     &mut self.emitter,
                     end.closing,
@@ -162,7 +162,7 @@ impl Writer {
         match &block.result {
             None => Ok(end.level),
             Some(values) => {
-                let back = self.back;
+                let back = self.back.back;
                 write_return(
                     &mut self.emitter,
                     end.closing,

@@ -38,7 +38,7 @@ fn write_name_store(
 }
 
 /// Writes the store of a register's value in a target, whose table and key are in the registers from one on.
-fn write_store(
+pub(crate) fn write_store(
     emitter: &mut Emitter,
     target: &Exp,
     register: usize,

@@ -48,7 +48,11 @@ pub(crate) fn count_made(emitter: &mut Emitter, exp: &Exp) -> Result<(), AllocEr
 
 /// Writes the table and the key of a target. No tree has another target than a name and an index:
 /// such a one has no code.
-fn write_target(emitter: &mut Emitter, target: &Exp, register: usize) -> Result<(), AllocError>
+pub(crate) fn write_target(
+    emitter: &mut Emitter,
+    target: &Exp,
+    register: usize,
+) -> Result<(), AllocError>
     ensures { OnOk result (emitter.new ≡ followed emitter.old (target_code emitter.old.constants (plain_exp target.now) register emitter.old.made) (made_by (plain_exp target.now))) }
 {
     match &target.node {

@@ -1,11 +1,11 @@
 // The code of a whole function.
-ghost use Rattle.std.specs.Prelude.{◌≡◌, false, OnOk, IfOk, length, map};
+ghost use Rattle.std.specs.Prelude.{◌≡◌, true, false, OnOk, IfOk, length, map};
 ghost use Rattle.tree_core.specs.Plain.{plain_block, plain_body};
 ghost use Rattle.code_of.specs.Levels.{made_in_block};
 ghost use Rattle.code_expr.specs.Listing.{steps};
 ghost use Rattle.code_parts.specs.Scopes.{over};
 ghost use Rattle.code_stat.specs.Declares.{DeclaresWhole};
-ghost use Rattle.code_stat.specs.Drafts.{Wrote, arrives, landing, or_nowhere};
+ghost use Rattle.code_stat.specs.Drafts.{Wrote, arrives, landing, or_nowhere, put_jump};
 ghost use Rattle.code_stat.specs.Whole.{filled, function_of, led, made_in_body, nowhere, variables_in, whole_from};
 
 use crate::jumps::{Destination, Jump};
@@ -13,7 +13,8 @@ use crate::returns::put_leaving;
 use crate::writer::Writer;
 use code_core::Opcode;
 use code_expr::{Constants, Emitter, next};
-use code_parts::{Variables, back_field, put_opening};
+use code_of::Leaving;
+use code_parts::{Variables, back_field, makes_functions, put_opening};
 use std::alloc::{AllocError, Global};
 use tree_core::{Block, Body};
 
@@ -37,15 +38,25 @@ fn destination(jump: &Jump) -> Destination
     }
 }
 
-/// Puts the two instructions of a jump in their place.
-fn lead(emitter: &mut Emitter, jump: &Jump) -> Result<(), AllocError>
-    ensures { OnOk result (emitter.new ≡ led emitter.old jump.now) }
+/// Puts the CLOSE and the JMP of a jump in their places.
+fn lead_closing(emitter: &mut Emitter, jump: &Jump, to: Destination) -> Result<(), AllocError>
+    ensures { OnOk result (emitter.new ≡ record { constants = emitter.old.constants; steps = put_jump true (landing to) jump.now.place jump.now.line emitter.old.steps; made = emitter.old.made }) }
 {
-    let to = destination(jump);
     let behind = next(jump.place)?;
     emitter.set_abc(jump.place, Opcode::Close, to.level, 0, 0, jump.line);
     emitter.set_jump(behind, to.place, jump.line)?;
     Ok(())
+}
+
+/// Puts the instructions of a jump in their places.
+fn lead(emitter: &mut Emitter, jump: &Jump) -> Result<(), AllocError>
+    ensures { OnOk result (emitter.new ≡ led emitter.old jump.now) }
+{
+    let to = destination(jump);
+    if jump.closes {
+        return lead_closing(emitter, jump, to);
+    }
+    emitter.set_jump(jump.place, to.place, jump.line)
 }
 
 impl Writer {
@@ -71,7 +82,7 @@ impl Writer {
             None => {
                 let first = self.variables.count();
                 let end = self.statements(&block.stats, true, false, 0, params)?;
-                let back = self.back;
+                let back = self.back.back;
                 let emitter = &mut self.emitter;
                 put_leaving(emitter, Opcode::Return, end.level, 1, back, block.line)?;
                 let place = self.place();
@@ -92,7 +103,12 @@ pub fn write_body(alloc: Global, constants: Constants, body: &Body) -> Result<Wr
     ensures variables { IfOk result (λ written. written.variables ≡ map over (variables_in constants (plain_body body.now))) }
 {
     let params = body.params.len();
-    let back = back_field(body.vararg, params)?;
+    let field = back_field(body.vararg, params)?;
+    let closes = makes_functions(alloc, &body.block)?;
+    let back = Leaving {
+        back: field,
+        closes,
+    };
     let mut writer = Writer {
         emitter: Emitter::new(alloc, constants),
         jumps: Vec::new(alloc),

@@ -25,7 +25,7 @@ use Rattle.machine_core.specs.InstructionRows.{row_of, rest_at, rest_by, compare
 use Rattle.machine_core.specs.Talk.{before, talk, talk_step, says_so, heard}
 use Rattle.code_of.specs.Coded.{Coded}
 use Rattle.code_of.specs.Operators.{operator_code, number_code, number_opcode, truth_code}
-use Rattle.code_of.specs.Conditions.{pick, compared, is_compared}
+use Rattle.code_of.specs.Truths.{pick, compared, is_compared}
 use Rattle.code_of.specs.ConstantOperands.{constant_by}
 use Rattle.code_of.specs.Operations.{constant_code}
 use Rattle.exp_laws.proofs.Steps.{row_step, own_step, put_on, put_step}

@@ -22,7 +22,7 @@ use Rattle.machine_core.specs.Talk as code
 use Rattle.machine_core.specs.Talk.{before, talk, talk_step, says_so, heard}
 use Rattle.code_of.specs.Coded.{Coded}
 use Rattle.code_of.specs.ConstantOperands.{any_constant}
-use Rattle.code_of.specs.Conditions.{pick}
+use Rattle.code_of.specs.Truths.{pick}
 use Rattle.code_of.specs.Expressions.{made_by, exp_code}
 use Rattle.code_of.specs.FieldReads.{object_room}
 use Rattle.code_of.specs.Operands.{local_of, computes, second_of, seat, unless}

@@ -33,7 +33,8 @@ use Rattle.exp_laws.proofs.Operands.{operands_goes}
 use Rattle.exp_laws.proofs.Standing.{operand_goes}
 use Rattle.exp_laws.proofs.ConstantForms.{operation_same, with_constant_into}
 use Rattle.exp_laws.proofs.FieldForms.{field_into}
-use Rattle.exp_laws.proofs.Exps.{room_some, exp_same}
+use Rattle.exp_laws.proofs.Rooms.{room_some}
+use Rattle.exp_laws.proofs.Exps.{exp_same}
 
 module _ (S : Setting) (pending : List Pending) where
   -- Register r is written last: until then the registers are like the locals, of which it may be one

@@ -2,27 +2,32 @@
 use Rattle.std.proofs.Common.{◌≡◌, ℕ, ◌+◌, ◌-◌, ◌<◌, ◌≤◌, ◌^◌, lit<, max, Bool, true, false, zero, suc, Option, Some, None, List, [], ◌∷◌, ◌++◌, length, cond, refl, ap, sym, ◌∙◌, subst, arith, length-append}
 use Rattle.int_core.specs.Value.{Value, a_table, object as reference, same_truth, known, nil, boolean, nth, shape, holds}
 use Rattle.int_core.specs.Ask.{Captured, goes_on}
+use Rattle.tree_core.specs.declared.operator.BinOp.{BinOp}
 use Rattle.tree_core.specs.Tree.{Exp, Nil, True, False, Int, Str, Vararg, Function, Var, Index, Call, Method, Unary, Binary, And, Or, Paren, Table, Exps, EndExps, MoreExps, Fields, EndFields, MoreFields, Item, Keyed}
 use Rattle.tree_activation.specs.Work.{Purpose, for_call, evaluate, give, collect, construct, item_of, keyed_value, keyed_store as keyed_store_of, callee_of, method_of, listed, Work, Pending, key_of, object_of, operand_of, right_of, left_of, and_right, or_right, first_only}
 use Rattle.tree_activation.specs.Work as tree
 use Rattle.tree_activation.specs.Activation.{takes_all, step}
 use Rattle.tree_activation.specs.Asking.{first}
-use Rattle.code_core.specs.declared.opcode.Opcode.TheVariants.{LoadNil, LoadTrue, LoadFalse, Test, Call as CallCode}
+use Rattle.code_core.specs.declared.opcode.Opcode.TheVariants.{LoadNil, LoadTrue, LoadFalse, Call as CallCode}
 use Rattle.code_core.specs.declared.proto.Const.{Const}
 use Rattle.code_core.specs.declared.proto.Const.TheVariants.{Str as StrConst}
-use Rattle.code_core.specs.Instruction.{abc}
 use Rattle.code_core.specs.Check.{fixed, open_from}
 use Rattle.machine_core.specs.Talk.{before}
-use Rattle.code_of.specs.Coded.{with_abc, jump_over}
+use Rattle.code_of.specs.Coded.{with_abc}
 use Rattle.code_of.specs.Constants.{is_small}
-use Rattle.code_of.specs.Operands.{local_of, second_of, first_of}
+use Rattle.code_of.specs.Operands.{local_of, joins, second_of, first_of}
 use Rattle.code_of.proofs.Operands.{second_number, joins_made, operator_stands, some_operands}
 use Rattle.code_of.specs.Stores.{name_in, is_quiet, field_key, keyed_store}
+use Rattle.code_of.specs.StoredValues.{stored_value}
 use Rattle.code_of.proofs.Stores.{field_key_stands, room_above_table, room_above_key}
-use Rattle.code_of.specs.Operations.{constant_in, constant_code}
+use Rattle.code_of.specs.Operations.{constant_in, constant_code, operation_code}
+use Rattle.code_of.specs.Chains.{chain_code}
+use Rattle.code_of.proofs.Chains.{joins_is}
 use Rattle.code_of.proofs.Operations.{some_operation}
+use Rattle.code_of.proofs.StoredValues.{value_stands}
 use Rattle.code_of.proofs.FieldReads.{some_read}
 use Rattle.code_of.specs.Operators.{self_code, prefix_code, operator_code, number_code}
+use Rattle.code_of.specs.Conditions.{keep_code}
 use Rattle.code_of.specs.Expressions.{made_by, count, is_open, ends_open, Wanted, results_field, one_less, field_of, wanted_after, list_field, exp_code, exps_code, fields_code, set_list}
 use Rattle.exp_laws.specs.Setting.{Setting}
 use Rattle.exp_laws.proofs.Registers.{Rel, After, after_none, after_then, lower}
@@ -39,16 +44,21 @@ use Rattle.exp_laws.proofs.TableForms.{new_goes, fill_goes}
 use Rattle.exp_laws.proofs.Storing.{key_goes}
 use Rattle.exp_laws.proofs.Loads.{nil_step}
 use Rattle.exp_laws.specs.Placed.{IsPlaced, ArePlaced, FieldsArePlaced}
-use Rattle.code_of.specs.Rooms.{room_of, room_of_fields, room_of_list, room_of_values}
-use Rattle.code_of.proofs.Rooms.{name_room, self_room}
+use Rattle.code_of.specs.FieldReads.{object_room}
+use Rattle.code_of.specs.Rooms.{room_of, room_of_name, room_of_fields, room_of_list, room_of_values}
+use Rattle.code_of.proofs.Rooms.{self_room}
 use Rattle.exp_laws.proofs.Going.{Given, Filled, Goes, GoesFilled, at_place, goes_at, goes_after, into_goes, one_goes}
 use Rattle.exp_laws.proofs.NameForms.{constant_goes, integer_goes, name_goes}
-use Rattle.exp_laws.proofs.OperatorForms.{unary_into, binary_goes, number_goes, decides_goes}
+use Rattle.exp_laws.proofs.OperatorForms.{unary_into, binary_goes, number_goes}
 use Rattle.exp_laws.proofs.Sums.{number_form}
 use Rattle.exp_laws.proofs.Operands.{ExpSame, operands_goes}
 use Rattle.exp_laws.proofs.Standing.{operand_goes}
 use Rattle.exp_laws.proofs.ConstantForms.{operation_same, with_constant_goes}
 use Rattle.exp_laws.proofs.FieldForms.{field_into}
+use Rattle.exp_laws.proofs.Rooms.{room_some}
+use Rattle.exp_laws.proofs.TestForms.{TestSame, leaf_tested, paren_tested, unary_tested, and_tested, or_tested, binary_tested, true_tested}
+use Rattle.exp_laws.proofs.Keeping.{KeepSame, leaf_kept, unary_kept, binary_kept, paren_kept, and_kept, or_kept}
+use Rattle.exp_laws.proofs.ChainForms.{ChainSame, ChainsSame, chain_end, chain_binary, join_same}
 
 and_decides : {A : Type 0} (x y : A) (b : Bool) → same_truth b false ≡ true → cond b x y ≡ y
 and_decides x y false e = refl
@@ -65,26 +75,6 @@ or_decides x y false e = absurd (cc)
 or_goes_on : {A : Type 0} (x y : A) (b : Bool) → same_truth b true ≡ false → cond b x y ≡ y
 or_goes_on x y false e = refl
 or_goes_on x y true e = absurd (cc)
-
--- each expression names a register
-pub room_some : (cs : List Const) (e : Exp) → 1 ≤ room_of cs e 2
-room_some cs (Nil line) = omega arith
-room_some cs (True line) = omega arith
-room_some cs (False line) = omega arith
-room_some cs (Int line z) = omega arith
-room_some cs (Str line bytes) = omega arith
-room_some cs (Vararg line) = omega arith
-room_some cs (Function line body) = omega arith
-room_some cs (Var line name) = name_room cs name.place name.text
-room_some cs (Index line object key) = some_read (name_in cs key) object key (room_of cs object 2) (room_of cs key 2) (room_some cs object)
-room_some cs (Call line f es) = let h = room_some cs f in omega (arith, h)
-room_some cs (Method line object name es) = let h = room_some cs object in omega (arith, h)
-room_some cs (Unary line op e) = room_some cs e
-room_some cs (Binary line op e d) = some_operation (constant_in cs op d) op e d (room_of cs e 2) (room_of cs d 2) (room_some cs e)
-room_some cs (And line e d) = let h = room_some cs e in omega (arith, h)
-room_some cs (Or line e d) = let h = room_some cs e in omega (arith, h)
-room_some cs (Paren line e) = room_some cs e
-room_some cs (Table line fs) = omega arith
 
 -- each value of a list that is not open has its register
 pub room_count : (cs : List Const) (above : ℕ) (es : Exps) → ends_open es ≡ false → above + count es ≤ max above (room_of_list cs above es None)
@@ -319,6 +309,36 @@ module _ (S : Setting) (pending : List Pending) where
       → Goes S pending n false t env regs (pc + length (fields_code S.code.own.constants fs items t j line)) k
       → Agree S n (tree.at (construct line (reference a_table m) items fs) (of_tree S pending env c) k) (before (of_code S pending pc regs opened) c)
 
+  -- an operator that is no `..`
+  operator_same : (line : ℕ) (op : BinOp) (e d : Exp) → joins op ≡ false → ExpSame S pending e → ExpSame S pending d → ExpSame S pending (Binary line op e d)
+  operator_same line op e d apart law_e law_d t j n pc opened env regs c k bound has ok inside le room rel goes =
+      let constants = S.code.own.constants in
+      let first_code = exp_code constants e t j 2 in
+      let second_code = exp_code constants d (t + 1) (j + made_by e) 2 in
+      let code = operation_code (constant_in constants op d) op e d first_code second_code t t line in
+      let same : exp_code constants (Binary line op e d) t j 2 ≡ code = ap (λ b. cond b (chain_code line d first_code second_code t) code) apart in
+      let size : length (exp_code constants (Binary line op e d) t j 2) ≡ length code = ap length same in
+      let end = pc + length code in
+      let near : end < length S.code.own.code = omega (arith, inside, size) in
+      let on : Goes S pending n false t env regs end k = goes_at S pending n false t end (pc + length (exp_code constants (Binary line op e d) t j 2)) env regs k (omega (arith, size)) goes in
+      let some = some_operation (constant_in constants op d) op e d (room_of constants e 2) (room_of constants d 2) (room_some constants e) in
+      go_left S n _ (tree.at (evaluate e) (of_tree S pending env c) (right_of line op d ∷ k)) _ refl
+      (operation_same S pending line op e d (λ x m. constant_code op x m t line) (λ x y. operator_code op x y t line) (λ x m. number_code op x m t line) n t end env regs k
+      1 j pc opened c law_e law_d (room_some constants e) (room_some constants d) bound (subst (HasAt S pc) same has) ok.0 ok.1 refl near le room rel
+      (λ x m place o1 v f env1 regs1 c1 af x_room x_is here ends. with_constant_goes S pending op d m f n false line x t place o1 v env1 regs1 c1 k here (omega (arith, near, ends)) (omega (arith, le, af.size)) (omega (arith, room, some)) x_room af.rel x_is
+      (goes_at S pending n false t _ end env1 regs1 k ends (goes_after S pending n false t _ env regs env1 regs1 c1 k af on)))
+      (λ x y place o1 v ws env1 regs1 c1 af x_room y_room x_is y_is seats here ends. binary_goes S pending op n false line x y t place o1 v ws env1 regs1 c1 k here (omega (arith, near, ends)) (omega (arith, le, af.size)) (omega (arith, room, some)) x_room y_room
+      (λ joined. seats (joins_made op d joined)) af.rel x_is y_is (goes_at S pending n false t _ end env1 regs1 k ends (goes_after S pending n false t _ env regs env1 regs1 c1 k af on)))
+      (λ x m place o1 v env1 regs1 c1 af x_room x_is is here ends. number_goes S pending op d m (number_form op d m (second_number op d m is)) n false line x t place o1 v env1 regs1 c1 k here (omega (arith, near, ends)) (omega (arith, le, af.size)) (omega (arith, room, some)) x_room af.rel x_is
+      (goes_at S pending n false t _ end env1 regs1 k ends (goes_after S pending n false t _ env regs env1 regs1 c1 k af on))))
+
+  binary_same : (line : ℕ) (op : BinOp) (e d : Exp) → ExpSame S pending e → ExpSame S pending d → ChainSame S pending line d → ExpSame S pending (Binary line op e d)
+  binary_same line op e d law_e law_d chain = by (joins op) refl
+    where
+      by : (b : Bool) → joins op ≡ b → ExpSame S pending (Binary line op e d)
+      by true joined = subst (λ o. ExpSame S pending (Binary line o e d)) (sym (joins_is op joined)) (join_same S pending line e d law_e chain)
+      by false apart = operator_same line op e d apart law_e law_d
+
   item_fits : (many : Bool) → cond many 0 2 < 2 ^ 8
   item_fits true = lit< tt
   item_fits false = lit< tt
@@ -357,54 +377,33 @@ module _ (S : Setting) (pending : List Pending) where
         (λ x place o1 vs env1 regs1 c1 af low x_room x_is here ends. unary_into S pending op n false line x t t place o1 vs env1 regs1 c1 k here (omega (arith, inside, ends)) (omega (arith, room, some)) x_room af.rel x_is
         (into_goes S pending n false t (place + 1) env1 regs1 k (omega (arith, le, af.size)) (goes_at S pending n false t (place + 1) end env1 regs1 k ends (goes_after S pending n false t _ env regs env1 regs1 c1 k af goes)))))
     all_same (Binary line op e d) field t j n pc opened env regs c k bound has fits ok inside le room rel goes =
-        let constants = S.code.own.constants in
-        let end = pc + length (exp_code constants (Binary line op e d) t j 2) in
-        let some = some_operation (constant_in constants op d) op e d (room_of constants e 2) (room_of constants d 2) (room_some constants e) in
-        go_left S n _ (tree.at (evaluate e) (of_tree S pending env c) (right_of line op d ∷ k)) _ refl
-        (operation_same S pending line op e d (λ x m. constant_code op x m t line) (λ x y. operator_code op x y t line) (λ x m. number_code op x m t line) n t end env regs k
-        1 j pc opened c (one_same e (all_same e)) (one_same d (all_same d)) (room_some constants e) (room_some constants d) bound has ok.0 ok.1 refl inside le room rel
-        (λ x m place o1 v f env1 regs1 c1 af x_room x_is here ends. with_constant_goes S pending op d m f n false line x t place o1 v env1 regs1 c1 k here (omega (arith, inside, ends)) (omega (arith, le, af.size)) (omega (arith, room, some)) x_room af.rel x_is
-        (goes_at S pending n false t _ end env1 regs1 k ends (goes_after S pending n false t _ env regs env1 regs1 c1 k af goes)))
-        (λ x y place o1 v ws env1 regs1 c1 af x_room y_room x_is y_is seats here ends. binary_goes S pending op n false line x y t place o1 v ws env1 regs1 c1 k here (omega (arith, inside, ends)) (omega (arith, le, af.size)) (omega (arith, room, some)) x_room y_room
-        (λ joined. seats (joins_made op d joined)) af.rel x_is y_is (goes_at S pending n false t _ end env1 regs1 k ends (goes_after S pending n false t _ env regs env1 regs1 c1 k af goes)))
-        (λ x m place o1 v env1 regs1 c1 af x_room x_is is here ends. number_goes S pending op d m (number_form op d m (second_number op d m is)) n false line x t place o1 v env1 regs1 c1 k here (omega (arith, inside, ends)) (omega (arith, le, af.size)) (omega (arith, room, some)) x_room af.rel x_is
-        (goes_at S pending n false t _ end env1 regs1 k ends (goes_after S pending n false t _ env regs env1 regs1 c1 k af goes))))
+        binary_same line op e d (one_same e (all_same e)) (one_same d (all_same d)) (chain_same d (one_same d (all_same d)) line) t j n pc opened env regs c k bound has ok inside le room rel goes
     all_same (And line e d) field t j n pc opened env regs c k bound has fits ok inside le room rel goes =
-        let first_code = exp_code S.code.own.constants e t j 2 in
-        let second_code = exp_code S.code.own.constants d t (j + made_by e) 2 in
-        let test_code = (abc Test t 0 0 false, line) ∷ jump_over (length second_code) line ∷ second_code in
-        let whole = length-append first_code test_code in
-        let behind = has_back S pc first_code test_code has in
-        let some = room_some S.code.own.constants d in
-        let two : pc + length first_code + 1 + 1 ≡ pc + length first_code + 2 = omega arith in
+        let second = exp_code S.code.own.constants d t (j + made_by e) 2 in
+        let front = keep_code S.code.own.constants e false (length second) t j in
+        let whole = length-append front second in
         go_left S n _ (tree.at (evaluate e) (of_tree S pending env c) (and_right d ∷ k)) _ refl
-        (one_same e (all_same e) t j n pc opened env regs c (and_right d ∷ k) bound (has_front S pc first_code test_code has) ok.0 (omega (arith, inside, whole)) le (omega arith) rel
-        (λ vs env1 regs1 c1 o1 af eq one. decides_goes S pending false (same_truth (holds (shape (first vs))) false) line t n (pc + length first_code) o1 second_code (first vs) _ env1 regs1 c1 behind (omega (arith, inside, whole)) (omega (arith, some)) af.rel eq refl
-        (λ e1. go_left S n _ (tree.at (give (first vs ∷ [])) (of_tree S pending env1 c1) k) _ (and_decides _ _ (holds (shape (first vs))) e1)
-        (at_place S pending n (pc + length first_code + (2 + length second_code)) (pc + length (first_code ++ test_code)) o1 _ regs1 c1 (omega (arith, whole)) (goes (first vs ∷ []) env1 regs1 c1 o1 af eq refl)))
-        (λ e1. go_left S n _ (tree.at (evaluate d) (of_tree S pending env1 c1) (first_only ∷ k)) _ (and_goes_on _ _ (holds (shape (first vs))) e1)
-        (one_same d (all_same d) t (j + made_by e) n (pc + length first_code + 2) o1 env1 regs1 c1 (first_only ∷ k) bound (subst (λ q. HasAt S q second_code) two behind.1.1.1.1) (placed d _ _ _ af.size ok.1) (omega (arith, inside, whole)) (omega (arith, le, af.size)) (omega arith) af.rel
+        (keep_law e (one_same e (all_same e)) false (length second) t j n pc opened env regs c (and_right d ∷ k) bound (has_front S pc front second has) ok.0 (omega (arith, inside, whole)) le (omega (arith, room)) rel
+        (λ vs env1 regs1 c1 o1 af eq is. go_left S n _ (tree.at (give (first vs ∷ [])) (of_tree S pending env1 c1) k) _ (and_decides _ _ (holds (shape (first vs))) is)
+        (at_place S pending n (pc + length front + length second) (pc + length (front ++ second)) o1 _ regs1 c1 (omega (arith, whole)) (goes (first vs ∷ []) env1 regs1 c1 o1 af eq refl)))
+        (λ vs env1 regs1 c1 o1 af is. go_left S n _ (tree.at (evaluate d) (of_tree S pending env1 c1) (first_only ∷ k)) _ (and_goes_on _ _ (holds (shape (first vs))) is)
+        (one_same d (all_same d) t (j + made_by e) n (pc + length front) o1 env1 regs1 c1 (first_only ∷ k) bound (has_back S pc front second has) (placed d _ _ _ af.size ok.1) (omega (arith, inside, whole)) (omega (arith, le, af.size)) (omega (arith, room)) af.rel
         (λ ws env2 regs2 c2 o2 af2 eq2 one2. go_left S n _ (tree.at (give (first ws ∷ [])) (of_tree S pending env2 c2) k) _ refl
-        (at_place S pending n (pc + length first_code + 2 + length second_code) (pc + length (first_code ++ test_code)) o2 _ regs2 c2 (omega (arith, whole))
-        (goes (first ws ∷ []) env2 regs2 c2 o2 (after_then S.hidden S.code.own.stack pending env regs env1 regs1 env2 regs2 c1 c2 t t (omega arith) af af2) eq2 refl)))))))
+        (at_place S pending n (pc + length front + length second) (pc + length (front ++ second)) o2 _ regs2 c2 (omega (arith, whole))
+        (goes (first ws ∷ []) env2 regs2 c2 o2 (after_then S.hidden S.code.own.stack pending env regs env1 regs1 env2 regs2 c1 c2 t t (omega arith) af af2) eq2 refl))))))
     all_same (Or line e d) field t j n pc opened env regs c k bound has fits ok inside le room rel goes =
-        let first_code = exp_code S.code.own.constants e t j 2 in
-        let second_code = exp_code S.code.own.constants d t (j + made_by e) 2 in
-        let test_code = (abc Test t 0 0 true, line) ∷ jump_over (length second_code) line ∷ second_code in
-        let whole = length-append first_code test_code in
-        let behind = has_back S pc first_code test_code has in
-        let some = room_some S.code.own.constants d in
-        let two : pc + length first_code + 1 + 1 ≡ pc + length first_code + 2 = omega arith in
+        let second = exp_code S.code.own.constants d t (j + made_by e) 2 in
+        let front = keep_code S.code.own.constants e true (length second) t j in
+        let whole = length-append front second in
         go_left S n _ (tree.at (evaluate e) (of_tree S pending env c) (or_right d ∷ k)) _ refl
-        (one_same e (all_same e) t j n pc opened env regs c (or_right d ∷ k) bound (has_front S pc first_code test_code has) ok.0 (omega (arith, inside, whole)) le (omega arith) rel
-        (λ vs env1 regs1 c1 o1 af eq one. decides_goes S pending true (same_truth (holds (shape (first vs))) true) line t n (pc + length first_code) o1 second_code (first vs) _ env1 regs1 c1 behind (omega (arith, inside, whole)) (omega (arith, some)) af.rel eq refl
-        (λ e1. go_left S n _ (tree.at (give (first vs ∷ [])) (of_tree S pending env1 c1) k) _ (or_decides _ _ (holds (shape (first vs))) e1)
-        (at_place S pending n (pc + length first_code + (2 + length second_code)) (pc + length (first_code ++ test_code)) o1 _ regs1 c1 (omega (arith, whole)) (goes (first vs ∷ []) env1 regs1 c1 o1 af eq refl)))
-        (λ e1. go_left S n _ (tree.at (evaluate d) (of_tree S pending env1 c1) (first_only ∷ k)) _ (or_goes_on _ _ (holds (shape (first vs))) e1)
-        (one_same d (all_same d) t (j + made_by e) n (pc + length first_code + 2) o1 env1 regs1 c1 (first_only ∷ k) bound (subst (λ q. HasAt S q second_code) two behind.1.1.1.1) (placed d _ _ _ af.size ok.1) (omega (arith, inside, whole)) (omega (arith, le, af.size)) (omega arith) af.rel
+        (keep_law e (one_same e (all_same e)) true (length second) t j n pc opened env regs c (or_right d ∷ k) bound (has_front S pc front second has) ok.0 (omega (arith, inside, whole)) le (omega (arith, room)) rel
+        (λ vs env1 regs1 c1 o1 af eq is. go_left S n _ (tree.at (give (first vs ∷ [])) (of_tree S pending env1 c1) k) _ (or_decides _ _ (holds (shape (first vs))) is)
+        (at_place S pending n (pc + length front + length second) (pc + length (front ++ second)) o1 _ regs1 c1 (omega (arith, whole)) (goes (first vs ∷ []) env1 regs1 c1 o1 af eq refl)))
+        (λ vs env1 regs1 c1 o1 af is. go_left S n _ (tree.at (evaluate d) (of_tree S pending env1 c1) (first_only ∷ k)) _ (or_goes_on _ _ (holds (shape (first vs))) is)
+        (one_same d (all_same d) t (j + made_by e) n (pc + length front) o1 env1 regs1 c1 (first_only ∷ k) bound (has_back S pc front second has) (placed d _ _ _ af.size ok.1) (omega (arith, inside, whole)) (omega (arith, le, af.size)) (omega (arith, room)) af.rel
         (λ ws env2 regs2 c2 o2 af2 eq2 one2. go_left S n _ (tree.at (give (first ws ∷ [])) (of_tree S pending env2 c2) k) _ refl
-        (at_place S pending n (pc + length first_code + 2 + length second_code) (pc + length (first_code ++ test_code)) o2 _ regs2 c2 (omega (arith, whole))
-        (goes (first ws ∷ []) env2 regs2 c2 o2 (after_then S.hidden S.code.own.stack pending env regs env1 regs1 env2 regs2 c1 c2 t t (omega arith) af af2) eq2 refl)))))))
+        (at_place S pending n (pc + length front + length second) (pc + length (front ++ second)) o2 _ regs2 c2 (omega (arith, whole))
+        (goes (first ws ∷ []) env2 regs2 c2 o2 (after_then S.hidden S.code.own.stack pending env regs env1 regs1 env2 regs2 c1 c2 t t (omega arith) af af2) eq2 refl))))))
     all_same (Table line fs) field t j n pc opened env regs c k bound has fits ok inside le room rel goes =
         new_goes S pending n line t pc opened _ env regs c k (λ vs. construct line (first vs) 0 fs) refl (has.0, (has.1.0, (has.1.1.0, (has.1.1.1.0, tt)))) (omega (arith, inside)) le (omega (arith, room)) rel
         (λ m env1 regs1 c1 af is. fields_same fs line 0 m t j n (pc + 2) opened env1 regs1 c1 k bound (let two : pc + 1 + 1 ≡ pc + 2 = omega arith in subst (λ q. HasAt S q (fields_code S.code.own.constants fs 0 t j line)) two has.1.1.1.1)
@@ -454,6 +453,67 @@ module _ (S : Setting) (pending : List Pending) where
         (filled_after n field t _ env regs env3 regs3 c3 k
         (after_then S.hidden S.code.own.stack pending env regs env1 regs1 env3 regs3 c1 c3 t t (omega arith) af
         (after_then S.hidden S.code.own.stack pending env1 regs1 env2 regs2 env3 regs3 c2 c3 t t (omega arith) af2 af3)) goes))))))
+
+    -- where only the truth is wanted, and where a first operand's value is kept. The value's own law is given, since it is one of the same tree
+    pub test_law : (e : Exp) → ExpSame S pending e → TestSame S pending e
+    test_law (Paren line e) law = paren_tested S pending line e (test_law e (one_same e (all_same e)))
+    test_law (Unary line op e) law = unary_tested S pending line op e law (test_law e (one_same e (all_same e)))
+    test_law (And line e d) law = and_tested S pending line e d (test_law e (one_same e (all_same e))) (test_law d (one_same d (all_same d)))
+    test_law (Or line e d) law = or_tested S pending line e d (test_law e (one_same e (all_same e))) (test_law d (one_same d (all_same d)))
+    test_law (Binary line op e d) law = binary_tested S pending line op e d law (one_same e (all_same e)) (one_same d (all_same d))
+    test_law (True line) law = true_tested S pending line
+    test_law (Var line name) law =
+        leaf_tested S pending (Var line name) (λ q ahead t j. refl)
+        (λ t room none. subst (λ at. t + object_room 0 at (room_of_name S.code.own.constants name.place name.text) ≤ S.code.own.stack) none room) law
+    test_law (Nil line) law = leaf_tested S pending (Nil line) (λ q ahead t j. refl) (λ t room none. room) law
+    test_law (False line) law = leaf_tested S pending (False line) (λ q ahead t j. refl) (λ t room none. room) law
+    test_law (Int line z) law = leaf_tested S pending (Int line z) (λ q ahead t j. refl) (λ t room none. room) law
+    test_law (Str line bytes) law = leaf_tested S pending (Str line bytes) (λ q ahead t j. refl) (λ t room none. room) law
+    test_law (Vararg line) law = leaf_tested S pending (Vararg line) (λ q ahead t j. refl) (λ t room none. room) law
+    test_law (Function line body) law = leaf_tested S pending (Function line body) (λ q ahead t j. refl) (λ t room none. room) law
+    test_law (Index line object key) law = leaf_tested S pending (Index line object key) (λ q ahead t j. refl) (λ t room none. room) law
+    test_law (Call line f es) law = leaf_tested S pending (Call line f es) (λ q ahead t j. refl) (λ t room none. room) law
+    test_law (Method line object name es) law = leaf_tested S pending (Method line object name es) (λ q ahead t j. refl) (λ t room none. room) law
+    test_law (Table line fs) law = leaf_tested S pending (Table line fs) (λ q ahead t j. refl) (λ t room none. room) law
+
+    pub keep_law : (e : Exp) → ExpSame S pending e → KeepSame S pending e
+    keep_law (Paren line e) law = paren_kept S pending line e (keep_law e (one_same e (all_same e)))
+    keep_law (And line e d) law = and_kept S pending line e d (test_law e (one_same e (all_same e))) (keep_law e (one_same e (all_same e))) (keep_law d (one_same d (all_same d)))
+    keep_law (Or line e d) law = or_kept S pending line e d (test_law e (one_same e (all_same e))) (keep_law e (one_same e (all_same e))) (keep_law d (one_same d (all_same d)))
+    keep_law (Nil line) law = leaf_kept S pending (Nil line) (λ q ahead t j. refl) (λ q. refl) law
+    keep_law (True line) law = leaf_kept S pending (True line) (λ q ahead t j. refl) (λ q. refl) law
+    keep_law (False line) law = leaf_kept S pending (False line) (λ q ahead t j. refl) (λ q. refl) law
+    keep_law (Int line z) law = leaf_kept S pending (Int line z) (λ q ahead t j. refl) (λ q. refl) law
+    keep_law (Str line bytes) law = leaf_kept S pending (Str line bytes) (λ q ahead t j. refl) (λ q. refl) law
+    keep_law (Vararg line) law = leaf_kept S pending (Vararg line) (λ q ahead t j. refl) (λ q. refl) law
+    keep_law (Function line body) law = leaf_kept S pending (Function line body) (λ q ahead t j. refl) (λ q. refl) law
+    keep_law (Var line name) law = leaf_kept S pending (Var line name) (λ q ahead t j. refl) (λ q. refl) law
+    keep_law (Index line object key) law = leaf_kept S pending (Index line object key) (λ q ahead t j. refl) (λ q. refl) law
+    keep_law (Call line f es) law = leaf_kept S pending (Call line f es) (λ q ahead t j. refl) (λ q. refl) law
+    keep_law (Method line object name es) law = leaf_kept S pending (Method line object name es) (λ q ahead t j. refl) (λ q. refl) law
+    keep_law (Unary line op e) law = unary_kept S pending line op e law (test_law e (one_same e (all_same e)))
+    keep_law (Binary line op e d) law = binary_kept S pending line op e d law (one_same e (all_same e)) (one_same d (all_same d))
+    keep_law (Table line fs) law = leaf_kept S pending (Table line fs) (λ q ahead t j. refl) (λ q. refl) law
+
+    -- the right operand of a `..`, of which the law is known
+    chain_same : (d : Exp) → ExpSame S pending d → ChainsSame S pending d
+    chain_same (Binary own op e d) law = chain_binary S pending own op e d (one_same e (all_same e)) (chain_same d (one_same d (all_same d))) law (room_some S.code.own.constants (Binary own op e d))
+    chain_same (Nil own) law = λ line. chain_end S pending (Nil own) law (room_some S.code.own.constants (Nil own)) line refl
+    chain_same (True own) law = λ line. chain_end S pending (True own) law (room_some S.code.own.constants (True own)) line refl
+    chain_same (False own) law = λ line. chain_end S pending (False own) law (room_some S.code.own.constants (False own)) line refl
+    chain_same (Int own z) law = λ line. chain_end S pending (Int own z) law (room_some S.code.own.constants (Int own z)) line refl
+    chain_same (Str own bytes) law = λ line. chain_end S pending (Str own bytes) law (room_some S.code.own.constants (Str own bytes)) line refl
+    chain_same (Vararg own) law = λ line. chain_end S pending (Vararg own) law (room_some S.code.own.constants (Vararg own)) line refl
+    chain_same (Function own body) law = λ line. chain_end S pending (Function own body) law (room_some S.code.own.constants (Function own body)) line refl
+    chain_same (Var own name) law = λ line. chain_end S pending (Var own name) law (room_some S.code.own.constants (Var own name)) line refl
+    chain_same (Index own object key) law = λ line. chain_end S pending (Index own object key) law (room_some S.code.own.constants (Index own object key)) line refl
+    chain_same (Call own f es) law = λ line. chain_end S pending (Call own f es) law (room_some S.code.own.constants (Call own f es)) line refl
+    chain_same (Method own object name es) law = λ line. chain_end S pending (Method own object name es) law (room_some S.code.own.constants (Method own object name es)) line refl
+    chain_same (Unary own op e) law = λ line. chain_end S pending (Unary own op e) law (room_some S.code.own.constants (Unary own op e)) line refl
+    chain_same (And own e d) law = λ line. chain_end S pending (And own e d) law (room_some S.code.own.constants (And own e d)) line refl
+    chain_same (Or own e d) law = λ line. chain_end S pending (Or own e d) law (room_some S.code.own.constants (Or own e d)) line refl
+    chain_same (Paren own e) law = λ line. chain_end S pending (Paren own e) law (room_some S.code.own.constants (Paren own e)) line refl
+    chain_same (Table own fs) law = λ line. chain_end S pending (Table own fs) law (room_some S.code.own.constants (Table own fs)) line refl
 
     lists_same : (es : Exps) → ListSame es
     lists_same EndExps purpose wanted base above j line n pc opened have env regs c k bound all has wf ok inside size held le below room rel goes =
@@ -559,17 +619,17 @@ module _ (S : Setting) (pending : List Pending) where
         let cs = S.code.own.constants in
         let key = field_key cs (is_quiet d) e in
         let table = reference a_table m in
-        let store_code = keyed_store key (local_of d) (exp_code cs e (t + 1) j 2) (exp_code cs d (t + 2) (j + made_by e) 2) t field_line in
+        let store_code = keyed_store key (stored_value cs d) (exp_code cs e (t + 1) j 2) (exp_code cs d (t + 2) (j + made_by e) 2) t field_line in
         let rest_code = fields_code cs fs items t (j + made_by e + made_by d) line in
         let whole = length-append store_code rest_code in
         let key_above = room_above_table key (room_of cs e 2) in
-        let value_above = room_above_key (local_of d) (room_of cs d 2) in
+        let value_above = room_above_key (stored_value cs d) (room_of cs d 2) in
         go_left S n _ (tree.at (evaluate e) (of_tree S pending env c) (keyed_value line table items field_line d fs ∷ k)) _ refl
         (key_goes S pending table d field_line n (t + 1) k (keyed_value line table items field_line d fs) (λ w. keyed_store_of line table items field_line w fs)
         (λ w vs env c. tree.at (give vs) (of_tree S pending env c) (keyed_store_of line table items field_line w fs ∷ k)) (construct line table items fs)
-        key (is_quiet d) (local_of d) e t t j (j + made_by e) pc opened env regs c
+        key (is_quiet d) (stored_value cs d) e t t j (j + made_by e) pc opened env regs c
         (λ vs env1 c1 q next. go_left S n _ (tree.at (evaluate d) (of_tree S pending env1 c1) (keyed_store_of line table items field_line (first vs) fs ∷ k)) q refl next) (λ w vs env1 c1 q next. next) (λ w vs env1 c1. refl)
-        (one_same e (all_same e)) (one_same d (all_same d)) (room_some cs e) (room_some cs d) (field_key_stands cs (is_quiet d) e) refl refl bound (has_front S pc store_code rest_code has) ok.0 ok.1.0
+        (one_same e (all_same e)) (one_same d (all_same d)) (room_some cs e) (room_some cs d) (field_key_stands cs (is_quiet d) e) refl (value_stands cs d) bound (has_front S pc store_code rest_code has) ok.0 ok.1.0
         (omega (arith, inside, whole)) le (omega arith) (λ loud. refl) (λ made. refl) (omega arith) (omega (arith, room)) (omega (arith, room, key_above)) (omega (arith, room, value_above)) rel is
         (λ env1 regs1 c1 o1 af. fields_same fs line items m t (j + made_by e + made_by d) n (pc + length store_code) o1 env1 regs1 c1 k bound (has_back S pc store_code rest_code has)
         (subst (λ z. FieldsArePlaced S fs items z (j + made_by e + made_by d)) (sym af.size) ok.1.1) (omega (arith, inside, whole)) (omega (arith, le, af.size)) (omega (arith, room)) af.rel

@@ -29,7 +29,8 @@ use Rattle.exp_laws.proofs.Calls.{Passed, tail_step}
 use Rattle.exp_laws.proofs.CallForms.{self_goes}
 use Rattle.exp_laws.proofs.ListForms.{Listed}
 use Rattle.exp_laws.proofs.Standing.{operand_goes}
-use Rattle.exp_laws.proofs.Exps.{room_some, args_ready, held_one, held_two, placed_all, exp_same, exps_same}
+use Rattle.exp_laws.proofs.Rooms.{room_some}
+use Rattle.exp_laws.proofs.Exps.{args_ready, held_one, held_two, placed_all, exp_same, exps_same}
 
 module _ (S : Setting) (pending : List Pending) where
   tail_goes : (b back n line t pc opened : ℕ) (f : Value) (args : List Value) (s : tree.State) (env regs : List Value) (c : Captured) → step s ≡ asks (calls_last f args) line (of_tree S pending env c) [] (λ _. over)

@@ -9,6 +9,8 @@ pub mod Going
 pub mod NameForms
 pub mod FieldForms
 pub mod OperatorForms
+pub mod ChainSteps
+pub mod ChainForms
 pub mod ConstantSteps
 pub mod ConstantForms
 pub mod CallForms
@@ -36,4 +38,7 @@ pub mod Comparisons
 pub mod Sums
 pub mod Operands
 pub mod Standing
+pub mod Rooms
+pub mod TestForms
+pub mod Keeping
 pub mod Conditions

@@ -171,7 +171,7 @@ module _ (S : Setting) (pending : List Pending) where
       where
         by : (b : Bool) → s ≡ tree.at (capture line (cond b (x.index ∷ captured_locals us) (captured_locals us)) next_of) (of_tree S pending (env ++ vs) c) k
             → talk_step S.code t ≡ talk S.code (cond b (open_cell x.index (opens_all (map upvalue us) rest)) (opens_all (map upvalue us) rest)) had (of_code S pending pc regs opened) c
-            → (b ≡ true → (x.index < length env) × (IsNoneOf x.index S.hidden.integers × UnderAll x.index S.hidden.free_from))
+            → (b ≡ true → (x.index < length env) × (IsNoneOf x.index S.hidden.integers × (UnderAll x.index S.hidden.free_from × (S.hidden.celled ≡ true))))
             → ((env1 regs1 : List Value) (c1 : Captured) (t1 : code.State) → After S.hidden S.code.own.stack pending env regs u env1 regs1 c1 → talk_step S.code t1 ≡ talk S.code (opens_all (map upvalue us) rest) had (of_code S pending pc regs1 opened) c1
             → Agree S n (tree.at (capture line (captured_locals us) next_of) (of_tree S pending (env1 ++ vs) c1) k) t1)
             → Agree S n s t

@@ -15,7 +15,7 @@ use Rattle.tree_activation.specs.Asking.{first, asks}
 use Rattle.tree_activation.specs.Expressions.{give_first, gives_integer, integer_in, by_integers, truth_of}
 use Rattle.code_core.specs.declared.instruction.Instruction.{Instruction}
 use Rattle.code_core.specs.declared.opcode.Opcode.{Opcode}
-use Rattle.code_core.specs.declared.opcode.Opcode.TheVariants.{Jmp, Test, MmBin, MmBinI, LoadTrue, LFalseSkip, Concat}
+use Rattle.code_core.specs.declared.opcode.Opcode.TheVariants.{Jmp, MmBin, MmBinI, LoadTrue, LFalseSkip, Concat}
 use Rattle.code_core.specs.Instruction.{abc, op_ax}
 use Rattle.code_core.specs.Check.{at}
 use Rattle.machine_core.specs.World.{for_value, for_truth, for_concat}
@@ -23,7 +23,7 @@ use Rattle.machine_core.specs.Text.{read, written, go_by}
 use Rattle.machine_core.specs.InstructionRows.{fast, integer_of_shape, rest_at, to_register, told_values}
 use Rattle.machine_core.specs.Talk.{before, amid, talk, talk_step, says_so, heard}
 use Rattle.code_of.specs.Coded.{Coded, with_abc, jump_over}
-use Rattle.code_of.specs.Conditions.{pick}
+use Rattle.code_of.specs.Truths.{pick}
 use Rattle.code_of.specs.Operands.{joins, computes}
 use Rattle.code_of.specs.Operators.{prefix_opcode, prefix_code, operator_code, number_code, number_opcode, arithmetic_code, sum_code, truth_code}
 use Rattle.exp_laws.proofs.Registers.{Rel, After, after_none}
@@ -34,7 +34,7 @@ use Rattle.exp_laws.proofs.Leaving.{faults_alike}
 use Rattle.exp_laws.proofs.Asking.{asks_alike}
 use Rattle.exp_laws.proofs.Steps.{go_step, put_step, true_step, not_step, operands_step, concat_step, concat_rest}
 use Rattle.exp_laws.proofs.Prefixes.{given, Prefix, prefix_by, prefix_step, prefix_rest}
-use Rattle.exp_laws.proofs.Tests.{test_on, test_past, jump_step}
+use Rattle.exp_laws.proofs.Tests.{jump_step}
 use Rattle.exp_laws.proofs.Arithmetic.{Arithmetic, IsArithmetic, arithmetic_by, integer_same, event_step, event_rest}
 use Rattle.exp_laws.proofs.Comparisons.{Comparison, IsComparison, comparison_by, told_truth, truth_same, compare_step, number_step, compare_rest, skip_step}
 use Rattle.exp_laws.proofs.Sums.{Sum, NumberForm, sum_step, number_event_step}
@@ -363,24 +363,3 @@ module _ (S : Setting) (pending : List Pending) where
           truth_goes g.operation g.wanted (number_opcode op) x (m + 127) line t pc opened (pick g.swapped v w) (pick g.swapped w v) env regs c k _ there (omega (arith, inside, size)) le room (omega (arith, x_room, S.small)) rel
           (g.means line v w (of_tree S pending env c) k) (numbered_so op g x m pc opened g.wanted v env regs c there.0 x_room f.numeral.small rel x_is) n many
           (goes_at S pending n many t (pc + 4) (pc + length (number_code op x m t line)) env regs k (omega (arith, size)) goes)
-
-  -- a test of the value in register t, and what follows where it decides and where it does not
-  pub decides_goes : (decides b : Bool) (line t n pc opened : ℕ) (second : List Coded) (v : Value) (s : tree.State) (env regs : List Value) (c : Captured)
-      → HasAt S pc ((abc Test t 0 0 decides, line) ∷ jump_over (length second) line ∷ second) → pc + (2 + length second) < length S.code.own.code → t < S.code.own.stack
-      → Rel S.hidden S.code.own.stack pending env c regs → nth regs t ≡ v → same_truth (holds (shape v)) decides ≡ b
-      → (b ≡ true → Agree S n s (before (of_code S pending (pc + (2 + length second)) regs opened) c))
-      → (b ≡ false → Agree S n s (before (of_code S pending (pc + 2) regs opened) c))
-      → Agree S n s (before (of_code S pending pc regs opened) c)
-  decides_goes decides true line t n pc opened second v s env regs c has inside room rel eq e past on =
-      let far : pc + 1 + (length second + 1) ≡ pc + (2 + length second) = omega arith in
-      let there = next_there S (pc + 1 + (length second + 1)) (omega arith) in
-      go_right S n s _ (before (of_code S pending (pc + 1) regs opened) c)
-      (test_on S.code (of_code S pending pc regs opened) c t decides (op_ax Jmp (16777215 + length second)) has.0 (omega (arith, S.small)) (omega (arith, rel.room)) (ap (λ x. same_truth (holds (shape x)) decides) eq ∙ e) has.1.1.0)
-      (go_right S n s _ (before (of_code S pending (pc + 1 + (length second + 1)) regs opened) c)
-      (jump_step S.code (of_code S pending (pc + 1) regs opened) c (length second) there.0 has.1.1.0 (omega (arith, S.short)) there.1)
-      (at_place S pending n (pc + 1 + (length second + 1)) (pc + (2 + length second)) opened s regs c far (past refl)))
-  decides_goes decides false line t n pc opened second v s env regs c has inside room rel eq e past on =
-      let there = next_there S (pc + 2) (omega arith) in
-      go_right S n s _ (before (of_code S pending (pc + 2) regs opened) c)
-      (test_past S.code (of_code S pending pc regs opened) c t decides there.0 has.0 (omega (arith, S.small)) (omega (arith, rel.room)) (ap (λ x. same_truth (holds (shape x)) decides) eq ∙ e) there.1)
-      (on refl)

@@ -1,5 +1,5 @@
 -- Locals and registers side by side: what holds of both while an expression is evaluated.
-use Rattle.std.proofs.Common.{◌⊎◌, ⊎_elim, length-append, ◌≡◌, ℕ, zero, suc, ◌<◌, ◌≤◌, ℤ, cond, List, [], ◌∷◌, ◌++◌, length, refl, sym, ap, subst, ◌∙◌, arith}
+use Rattle.std.proofs.Common.{◌⊎◌, ⊎_elim, length-append, ◌≡◌, ℕ, zero, suc, ◌<◌, ◌≤◌, ℤ, true, false, cond, List, [], ◌∷◌, ◌++◌, length, refl, sym, ap, subst, ◌∙◌, arith}
 use Rattle.int_core.specs.Value.{Value, known, integer, nth, write}
 use Rattle.int_core.specs.Ask.{Captured, shared_by, brought}
 use Rattle.tree_activation.specs.Work.{Pending}
@@ -70,13 +70,15 @@ HeldUnder held (m ∷ ms) = HeldBelow held m × HeldUnder held ms
 
 -- a local that may get a cell
 abbrev pub MayHold : ℕ → Hidden → Type 0
-MayHold place hidden = (Among place hidden.integers → ⊥) × UnderAll place hidden.free_from
+MayHold place hidden = (Among place hidden.integers → ⊥) × (UnderAll place hidden.free_from × (hidden.celled ≡ true))
 
--- no hidden local is captured, and each that is there has an integer; no cell stands in a scope without captured locals
+-- no hidden local is captured, and each that is there has an integer; no cell stands in a scope without captured locals, nor any in a function whose
+-- locals have none
 pub record Hides (hidden : Hidden) (env : List Value) (held : List (ℕ × ℕ)) : Type 0 where
   pub free : (r : ℕ) → Among r hidden.integers → IsFree r held
   pub whole : (r : ℕ) → Among r hidden.integers → r < length env → IsInteger (nth env r)
   pub low : HeldUnder held hidden.free_from
+  pub bare : hidden.celled ≡ false → HeldBelow held 0
 
 pub held_higher : (held : List (ℕ × ℕ)) (m n : ℕ) → m ≤ n → HeldBelow held m → HeldBelow held n
 held_higher [] m n le h = tt
@@ -182,6 +184,7 @@ hides_shared hidden env vs held below h =
       free = h.free;
       whole = λ r m lt. subst IsInteger (sym (brought_free held vs env r (h.free r m))) (h.whole r m (omega (arith, e, lt)));
       low = h.low;
+      bare = h.bare;
     }
 
 under_more : (levels : List ℕ) (held : List (ℕ × ℕ)) (place cell : ℕ) → UnderAll place levels → HeldUnder held levels → HeldUnder ((place, cell) ∷ held) levels
@@ -192,7 +195,8 @@ hides_one_more : (hidden : Hidden) (env : List Value) (held : List (ℕ × ℕ))
 hides_one_more hidden env held place cell other h = record {
   free = λ r m. (λ e. other.0 (subst (λ q. Among q hidden.integers) e m), h.free r m);
   whole = h.whole;
-  low = under_more hidden.free_from held place cell other.1 h.low;
+  low = under_more hidden.free_from held place cell other.1.0 h.low;
+  bare = λ e. let some = other.1.1 in absurd (cc);
 }
 
 pub hides_more : (hidden : Hidden) (env vs : List Value) (held : List (ℕ × ℕ)) → AllUnder hidden.integers (length env) → Hides hidden env held → Hides hidden (env ++ vs) held
@@ -200,6 +204,7 @@ hides_more hidden env vs held under h = record {
   free = h.free;
   whole = λ r m lt. subst IsInteger (sym (nth_old env vs r (under r m))) (h.whole r m (under r m));
   low = h.low;
+  bare = h.bare;
 }
 
 pub hides_write : (hidden : Hidden) (env : List Value) (held : List (ℕ × ℕ)) (v : Value) (n : ℕ) → n < length env → (Among n hidden.integers → ⊥) → Hides hidden env held → Hides hidden (write n v env) held
@@ -209,6 +214,7 @@ hides_write hidden env held v n lt other h =
       free = h.free;
       whole = λ r m less. subst IsInteger (sym (nth_write_other n v env r (λ e. other (subst (λ q. Among q hidden.integers) e m)))) (h.whole r m (omega (arith, same, less)));
       low = h.low;
+      bare = h.bare;
     }
 
 abbrev pub told : Captured → Captured

@@ -1,5 +1,5 @@
--- A value that is stored in a field of an object: the key and the value are evaluated in turn, or stand where they are.
-use Rattle.std.proofs.Common.{◌≡◌, ℕ, ◌+◌, ◌<◌, ◌≤◌, ⊎_elim, pos, Bool, true, false, List, [], ◌∷◌, ◌++◌, length, Option, Some, None, slice_get, refl, sym, ap, subst, ◌∙◌, arith, length-append}
+-- A value that is stored in a field of an object: the key and the value are evaluated in turn, or stand where they are, as a constant does in the store.
+use Rattle.std.proofs.Common.{◌≡◌, ℕ, ◌+◌, ◌<◌, ◌≤◌, ⊎_elim, pos, Bool, true, false, List, [], ◌∷◌, ◌++◌, length, Some, slice_get, refl, sym, ap, subst, ◌∙◌, arith, length-append}
 use Rattle.int_core.specs.Value.{Value, known, integer, nth}
 use Rattle.int_core.specs.Operations.{store as storing}
 use Rattle.int_core.specs.Ask.{operates, Captured}
@@ -16,10 +16,10 @@ use Rattle.machine_core.specs.Talk.{before}
 use Rattle.list_laws.proofs.Tests.{split}
 use Rattle.code_of.specs.Coded.{Coded}
 use Rattle.code_of.specs.Expressions.{exp_code}
-use Rattle.code_of.specs.Operands.{local_of, seat, unless}
 use Rattle.code_of.specs.Rooms.{room_of}
-use Rattle.code_of.specs.Stores.{FieldKey, a_name, an_index, a_register, evaluated, is_quiet, key_code, field_store, room_unless, room_of_key}
+use Rattle.code_of.specs.Stores.{FieldKey, a_name, an_index, a_register, evaluated, is_quiet, key_code, StoredValue, constant_value, local_value, made_value, value_code, is_constant, value_seat, field_store_by, room_of_key, room_of_value}
 use Rattle.code_of.proofs.Stores.{FieldKeyStands}
+use Rattle.code_of.proofs.StoredValues.{ValueStands}
 use Rattle.exp_laws.specs.Setting.{Setting}
 use Rattle.exp_laws.specs.Placed.{IsPlaced}
 use Rattle.exp_laws.proofs.Registers.{Rel, After, after_then, lower}
@@ -29,7 +29,8 @@ use Rattle.exp_laws.proofs.Going.{at_place}
 use Rattle.exp_laws.proofs.Operands.{ExpSame, local_placed, local_read, numeral_read}
 use Rattle.exp_laws.proofs.Still.{Still}
 use Rattle.exp_laws.proofs.Quieting.{quiet_same}
-use Rattle.exp_laws.proofs.TableForms.{store_goes, store_index_goes, store_name_goes}
+use Rattle.exp_laws.proofs.ConstantForms.{literal_read}
+use Rattle.exp_laws.proofs.TableForms.{NamesValue, store_goes, store_index_goes, store_name_goes}
 
 module _ (S : Setting) (ps : List Pending) where
   -- the key w stands so
@@ -60,10 +61,10 @@ module _ (S : Setting) (ps : List Pending) where
       ⊎_elim (λ local. sym (af.rel.agree r (omega (arith, local, af.size))) ∙ still r ∙ rel.agree r local) (λ above. af.keeps r above low) (split r (length env))
 
   -- the code of the value d and the store, and that of the key in front
-  abbrev value_part : FieldKey → Option ℕ → (d : Exp) → (x t after line : ℕ) → List Coded
-  value_part s value d x t after line = unless value (exp_code S.code.own.constants d (t + 2) after 2) ++ field_store s x t (seat value (t + 2)) line ∷ []
+  abbrev value_part : FieldKey → StoredValue → (d : Exp) → (x t after line : ℕ) → List Coded
+  value_part s value d x t after line = value_code value (exp_code S.code.own.constants d (t + 2) after 2) ++ field_store_by s (is_constant value) x t (value_seat value (t + 2)) line ∷ []
 
-  abbrev pub key_part : FieldKey → Option ℕ → (key d : Exp) → (x t j after line : ℕ) → List Coded
+  abbrev pub key_part : FieldKey → StoredValue → (key d : Exp) → (x t j after line : ℕ) → List Coded
   key_part s value key d x t j after line = key_code s (exp_code S.code.own.constants key (t + 1) j 2) ++ value_part s value d x t after line
 
   -- The object o gets the value d. One work waits for the key, and another one for the value; the store is asked for then, and `done` is what goes on. Registers below u are kept
@@ -85,64 +86,69 @@ module _ (S : Setting) (ps : List Pending) where
         (env' regs' : List Value) (c' : Captured) (opened' : ℕ) → After S.hidden S.code.own.stack ps env regs u env' regs' c'
         → Agree S n (tree.at done (of_tree S ps env' c') k) (before (of_code S ps pc regs' opened') c')
 
-    -- the store of the value, which stands in register z
-    store_last : (s : FieldKey) (x t z pc opened : ℕ) (w : Value) (vs env regs : List Value) (c : Captured)
-        → Asks → HasAt S pc (field_store s x t z line ∷ []) → pc + 1 < length S.code.own.code → x < S.code.own.stack → z < S.code.own.stack → Rel S.hidden S.code.own.stack ps env c regs
-        → nth regs x ≡ o → nth regs z ≡ first vs → KeyIs s w t regs → GoesStored env regs (pc + 1)
+    -- the store of the value, which its fields k and C name
+    store_last : (s : FieldKey) (flag : Bool) (x t z pc opened : ℕ) (w : Value) (vs env regs : List Value) (c : Captured)
+        → Asks → HasAt S pc (field_store_by s flag x t z line ∷ []) → pc + 1 < length S.code.own.code → x < S.code.own.stack → NamesValue S flag z (first vs) regs → Rel S.hidden S.code.own.stack ps env c regs
+        → nth regs x ≡ o → KeyIs s w t regs → GoesStored env regs (pc + 1)
         → Agree S n (asking w vs env c) (before (of_code S ps pc regs opened) c)
-    store_last (a_name number) x t z pc opened w vs env regs c asked has inside x_room z_room rel x_is z_is key goes =
-        store_name_goes S ps x number z u n line pc opened key.0 o (first vs) _ env regs c k (λ ws. done)
-        (asked w vs env c ∙ ap (λ q. asks (operates storing (o ∷ q ∷ first vs ∷ [])) line (of_tree S ps env c) k (λ ws. done)) key.1.0) has inside x_room key.1.1.1 z_room key.1.1.0 rel x_is z_is
+    store_last (a_name number) flag x t z pc opened w vs env regs c asked has inside x_room is rel x_is key goes =
+        store_name_goes S ps flag x number z u n line pc opened key.0 o (first vs) _ env regs c k (λ ws. done)
+        (asked w vs env c ∙ ap (λ q. asks (operates storing (o ∷ q ∷ first vs ∷ [])) line (of_tree S ps env c) k (λ ws. done)) key.1.0) has inside x_room key.1.1.1 is key.1.1.0 rel x_is
         (λ ws env1 regs1 c1 af. goes env1 regs1 c1 opened af)
-    store_last (an_index m) x t z pc opened w vs env regs c asked has inside x_room z_room rel x_is z_is key goes =
-        store_index_goes S ps x m z u n line pc opened o (first vs) _ env regs c k (λ ws. done)
-        (asked w vs env c ∙ ap (λ q. asks (operates storing (o ∷ q ∷ first vs ∷ [])) line (of_tree S ps env c) k (λ ws. done)) key.0) has inside x_room key.1 z_room rel x_is z_is
+    store_last (an_index m) flag x t z pc opened w vs env regs c asked has inside x_room is rel x_is key goes =
+        store_index_goes S ps flag x m z u n line pc opened o (first vs) _ env regs c k (λ ws. done)
+        (asked w vs env c ∙ ap (λ q. asks (operates storing (o ∷ q ∷ first vs ∷ [])) line (of_tree S ps env c) k (λ ws. done)) key.0) has inside x_room key.1 is rel x_is
         (λ ws env1 regs1 c1 af. goes env1 regs1 c1 opened af)
-    store_last (a_register r) x t z pc opened w vs env regs c asked has inside x_room z_room rel x_is z_is key goes =
-        store_goes S ps x r z u n line pc opened o w (first vs) _ env regs c k (λ ws. done) (asked w vs env c) has inside x_room key.1.0 z_room rel x_is key.1.1 z_is
+    store_last (a_register r) flag x t z pc opened w vs env regs c asked has inside x_room is rel x_is key goes =
+        store_goes S ps flag x r z u n line pc opened o w (first vs) _ env regs c k (λ ws. done) (asked w vs env c) has inside x_room key.1.0 is rel x_is key.1.1
         (λ ws env1 regs1 c1 af. goes env1 regs1 c1 opened af)
-    store_last evaluated x t z pc opened w vs env regs c asked has inside x_room z_room rel x_is z_is key goes =
-        store_goes S ps x (t + 1) z u n line pc opened o w (first vs) _ env regs c k (λ ws. done) (asked w vs env c) has inside x_room key.0 z_room rel x_is key.1 z_is
+    store_last evaluated flag x t z pc opened w vs env regs c asked has inside x_room is rel x_is key goes =
+        store_goes S ps flag x (t + 1) z u n line pc opened o w (first vs) _ env regs c k (λ ws. done) (asked w vs env c) has inside x_room key.0 is rel x_is key.1
         (λ ws env1 regs1 c1 af. goes env1 regs1 c1 opened af)
 
     -- the value is made and stored
     made_goes : (s : FieldKey) (x t after pc opened place : ℕ) (w : Value) (vs env regs env1 regs1 : List Value) (c c1 : Captured)
-        → Ends → Asks → HasAt S pc (value_part s None d x t after line) → pc + length (value_part s None d x t after line) < length S.code.own.code
+        → Ends → Asks → HasAt S pc (value_part s made_value d x t after line) → pc + length (value_part s made_value d x t after line) < length S.code.own.code
         → u ≤ t + 1 → x < S.code.own.stack → t + 2 < S.code.own.stack → After S.hidden S.code.own.stack ps env regs (t + 2) env1 regs1 c1 → nth regs1 x ≡ o → nth regs1 (t + 2) ≡ first vs → KeyIs s w t regs1
-        → place ≡ pc + length (exp_code S.code.own.constants d (t + 2) after 2) → GoesStored env regs (pc + length (value_part s None d x t after line))
+        → place ≡ pc + length (exp_code S.code.own.constants d (t + 2) after 2) → GoesStored env regs (pc + length (value_part s made_value d x t after line))
         → Agree S n (tree.at (give vs) (of_tree S ps env1 c1) (then_wait w ∷ k)) (before (of_code S ps place regs1 opened) c1)
     made_goes s x t after pc opened place w vs env regs env1 regs1 c c1 ends asked has inside low x_room room af x_is v_is key is goes =
         let code = exp_code S.code.own.constants d (t + 2) after 2 in
-        let last = field_store s x t (t + 2) line ∷ [] in
+        let last = field_store_by s false x t (t + 2) line ∷ [] in
         let sum = length-append code last in
         at_place S ps n place (pc + length code) opened _ regs1 c1 is
         (ends w vs env1 c1 _
-        (store_last s x t (t + 2) (pc + length code) opened w vs env1 regs1 c1 asked (has_back S pc code last has) (omega (arith, inside, sum)) x_room room af.rel x_is v_is key
+        (store_last s false x t (t + 2) (pc + length code) opened w vs env1 regs1 c1 asked (has_back S pc code last has) (omega (arith, inside, sum)) x_room (room, v_is) af.rel x_is key
         (λ env2 regs2 c2 o2 af2. at_place S ps n (pc + length code + 1) (pc + length (code ++ last)) o2 _ regs2 c2 (omega (arith, sum))
         (goes env2 regs2 c2 o2 (after_then S.hidden S.code.own.stack ps env regs env1 regs1 env2 regs2 c1 c2 u u (omega arith) (lower S.hidden S.code.own.stack ps env regs env1 regs1 c1 (t + 2) u (omega (arith, low)) af) af2)))))
 
-    value_goes : (s : FieldKey) (quiet : Bool) (value : Option ℕ) (x t after pc opened : ℕ) (w : Value) (env regs : List Value) (c : Captured)
-        → Ends → Asks → ExpSame S ps d → 1 ≤ room_of S.code.own.constants d 2 → is_quiet d ≡ quiet → local_of d ≡ value → n ≤ S.bound → HasAt S pc (value_part s value d x t after line) → IsPlaced S d (length env) after
+    value_goes : (s : FieldKey) (quiet : Bool) (value : StoredValue) (x t after pc opened : ℕ) (w : Value) (env regs : List Value) (c : Captured)
+        → Ends → Asks → ExpSame S ps d → 1 ≤ room_of S.code.own.constants d 2 → is_quiet d ≡ quiet → ValueStands S.code.own.constants d value → n ≤ S.bound → HasAt S pc (value_part s value d x t after line) → IsPlaced S d (length env) after
         → pc + length (value_part s value d x t after line) < length S.code.own.code → length env ≤ t → u ≤ t + 1 → (quiet ≡ false → x ≡ t) → x ≤ t → x < S.code.own.stack
-        → t + room_unless value (2 + room_of S.code.own.constants d 2) ≤ S.code.own.stack → Rel S.hidden S.code.own.stack ps env c regs
+        → t + room_of_value value (2 + room_of S.code.own.constants d 2) ≤ S.code.own.stack → Rel S.hidden S.code.own.stack ps env c regs
         → nth regs x ≡ o → KeyIs s w t regs → (quiet ≡ false → (r : ℕ) → s ≡ a_register r → ⊥) → GoesStored env regs (pc + length (value_part s value d x t after line))
         → Agree S n (tree.at (evaluate d) (of_tree S ps env c) (then_wait w ∷ k)) (before (of_code S ps pc regs opened) c)
-    value_goes s quiet (Some v) x t after pc opened w env regs c ends asked law some quiet_is is fewer has ok inside le low seats x_low x_room room rel x_is key none goes =
+    value_goes s quiet (local_value v) x t after pc opened w env regs c ends asked law some quiet_is is fewer has ok inside le low seats x_low x_room room rel x_is key none goes =
         let below = local_placed S d v (length env) after is ok in
         local_read S ps d v n env c (then_wait w ∷ k) _ is
         (ends w (nth env v ∷ []) env c _
-        (store_last s x t v pc opened w (nth env v ∷ []) env regs c asked has inside x_room (omega (arith, below, rel.fits)) rel x_is (sym (rel.agree v below)) key goes))
-    value_goes s true None x t after pc opened w env regs c ends asked law some quiet_is is fewer has ok inside le low seats x_low x_room room rel x_is key none goes =
+        (store_last s false x t v pc opened w (nth env v ∷ []) env regs c asked has inside x_room (omega (arith, below, rel.fits), sym (rel.agree v below)) rel x_is key goes))
+    value_goes s quiet (constant_value number) x t after pc opened w env regs c ends asked law some quiet_is is fewer has ok inside le low seats x_low x_room room rel x_is key none goes =
+        let v : Value = known (constant is.value) in
+        literal_read S ps d is.value is.is n env c (then_wait w ∷ k) _
+        (ends w (v ∷ []) env c _
+        (store_last s true x t number pc opened w (v ∷ []) env regs c asked has inside x_room (is.value, (refl, (is.there, is.short))) rel x_is key goes))
+    value_goes s true made_value x t after pc opened w env regs c ends asked law some quiet_is is fewer has ok inside le low seats x_low x_room room rel x_is key none goes =
         let code = exp_code S.code.own.constants d (t + 2) after 2 in
-        let last = field_store s x t (t + 2) line ∷ [] in
+        let last = field_store_by s false x t (t + 2) line ∷ [] in
         let sum = length-append code last in
         quiet_same S ps d quiet_is (t + 2) after n pc opened env regs c (then_wait w ∷ k) fewer (has_front S pc code last has) ok (omega (arith, inside, sum)) (omega (arith, le)) (omega (arith, room, some)) rel
         (λ v env1 regs1 c1 o1 af still eq. let same = below_still t env regs env1 regs1 c c1 rel af still in
         made_goes s x t after pc o1 (pc + length code) w (v ∷ []) env regs env1 regs1 c c1 ends asked has inside low x_room (omega (arith, room, some)) af
         (same x (omega (arith, x_low)) ∙ x_is) eq (key_still s w t regs regs1 same key) refl goes)
-    value_goes s false None x t after pc opened w env regs c ends asked law some quiet_is is fewer has ok inside le low seats x_low x_room room rel x_is key none goes =
+    value_goes s false made_value x t after pc opened w env regs c ends asked law some quiet_is is fewer has ok inside le low seats x_low x_room room rel x_is key none goes =
         let code = exp_code S.code.own.constants d (t + 2) after 2 in
-        let last = field_store s x t (t + 2) line ∷ [] in
+        let last = field_store_by s false x t (t + 2) line ∷ [] in
         let sum = length-append code last in
         let here = seats refl in
         law (t + 2) after n pc opened env regs c (then_wait w ∷ k) fewer (has_front S pc code last has) ok (omega (arith, inside, sum)) (omega (arith, le)) (omega (arith, room)) rel
@@ -150,11 +156,11 @@ module _ (S : Setting) (ps : List Pending) where
         made_goes s x t after pc o1 (pc + length code) w vs env regs env1 regs1 c c1 ends asked has inside low x_room (omega (arith, room, some)) af
         (af.keeps x (omega (arith, here, le)) (omega (arith, here)) ∙ x_is) eq (key_above s w t regs regs1 (af.keeps (t + 1) (omega (arith, le)) (omega arith)) (none refl) key) refl goes)
 
-    pub key_goes : (s : FieldKey) (quiet : Bool) (value : Option ℕ) (key : Exp) (x t j after pc opened : ℕ) (env regs : List Value) (c : Captured)
+    pub key_goes : (s : FieldKey) (quiet : Bool) (value : StoredValue) (key : Exp) (x t j after pc opened : ℕ) (env regs : List Value) (c : Captured)
         → Turns → Ends → Asks → ExpSame S ps key → ExpSame S ps d → 1 ≤ room_of S.code.own.constants key 2 → 1 ≤ room_of S.code.own.constants d 2
-        → FieldKeyStands S.code.own.constants quiet key s → is_quiet d ≡ quiet → local_of d ≡ value → n ≤ S.bound → HasAt S pc (key_part s value key d x t j after line) → IsPlaced S key (length env) j → IsPlaced S d (length env) after
+        → FieldKeyStands S.code.own.constants quiet key s → is_quiet d ≡ quiet → ValueStands S.code.own.constants d value → n ≤ S.bound → HasAt S pc (key_part s value key d x t j after line) → IsPlaced S key (length env) j → IsPlaced S d (length env) after
         → pc + length (key_part s value key d x t j after line) < length S.code.own.code → length env ≤ t → u ≤ t + 1 → (quiet ≡ false → x ≡ t) → (s ≡ evaluated → x ≡ t) → x ≤ t → x < S.code.own.stack
-        → t + room_of_key s (room_of S.code.own.constants key 2) ≤ S.code.own.stack → t + room_unless value (2 + room_of S.code.own.constants d 2) ≤ S.code.own.stack → Rel S.hidden S.code.own.stack ps env c regs → nth regs x ≡ o
+        → t + room_of_key s (room_of S.code.own.constants key 2) ≤ S.code.own.stack → t + room_of_value value (2 + room_of S.code.own.constants d 2) ≤ S.code.own.stack → Rel S.hidden S.code.own.stack ps env c regs → nth regs x ≡ o
         → GoesStored env regs (pc + length (key_part s value key d x t j after line))
         → Agree S n (tree.at (evaluate key) (of_tree S ps env c) (wait ∷ k)) (before (of_code S ps pc regs opened) c)
     key_goes s quiet value key x t j after pc opened env regs c turns ends asked law_key law some_key some stands quiet_is is fewer has ok_key ok inside le low seats before_it x_low x_room key_room room rel x_is goes = by s refl has inside key_room goes

@@ -1,10 +1,11 @@
 -- Arithmetic whose second operand is a numeral in the instruction.
 use Rattle.std.specs.Prelude.{◌+ℤ◌}
-use Rattle.std.proofs.Common.{◌⊎◌, inl, inr, ◌≡◌, ℕ, ◌+◌, ◌-◌, ◌<◌, ◌≤◌, ◌^◌, lit<, false, ℤ, pos, ◌-ℤ◌, List, [], ◌∷◌, length, Option, Some, None, refl, ap, ap₂, ◌∙◌, subst, arith}
+use Rattle.std.proofs.Common.{◌⊎◌, inl, inr, ◌≡◌, ℕ, zero, suc, ◌+◌, ◌-◌, ◌<◌, ◌≤◌, ◌^◌, lit<, false, ℤ, pos, negsuc, ◌-ℤ◌, List, [], ◌∷◌, length, Option, Some, None, refl, ap, ap₂, ◌∙◌, subst, arith}
+use Rattle.std.proofs.lemmas.Int.{ints}
 use borrow.Author.Tests.{lt-ltb}
 use Rattle.int_core.specs.Value.{Value, known, integer, nth, shape}
 use Rattle.int_core.specs.Arithmetic.{wrapped}
-use Rattle.int_core.specs.Operations.{Event, of_add, of_sub, of_shr, arithmetic}
+use Rattle.int_core.specs.Operations.{Event, of_add, of_sub, of_shl, of_shr, arithmetic}
 use Rattle.int_core.specs.Ask.{operates, Captured}
 use Rattle.tree_core.specs.declared.operator.BinOp.{BinOp}
 use Rattle.tree_core.specs.declared.operator.BinOp.TheVariants.{Add as Plus, Sub as Minus, Mul as Times, Mod as Modulo, Idiv, Band, Bor, Bxor, Shl as ShiftLeft, Shr as ShiftRight, Concat as Join, Eq as Equal, Ne, Lt as Less, Le as AtMost, Gt, Ge}
@@ -25,9 +26,9 @@ use Rattle.machine_core.specs.Text.{read, written, read_register, own}
 use Rattle.machine_core.specs.Text as text
 use Rattle.machine_core.specs.InstructionRows.{row_of, fast, integer_of_shape, handled, event_numbered, swapped, skip, then}
 use Rattle.machine_core.specs.Talk.{before, talk, talk_step, says_so, heard}
-use Rattle.code_of.specs.Operands.{greatest, numeral_of}
+use Rattle.code_of.specs.Operands.{numeral_of, operand_numeral}
 use Rattle.code_of.specs.Operators.{number_code, sum_code}
-use Rattle.code_of.proofs.Operands.{IsNumeral, numeral_is, numeral_none, numeral_form}
+use Rattle.code_of.proofs.Operands.{IsNumeral, numeral_is, numeral_none, numeral_form, shift_is}
 use Rattle.code_of.proofs.Fields.{k_of-abc}
 use Rattle.exp_laws.proofs.Steps.{row_step, own_step}
 use Rattle.exp_laws.proofs.Comparisons.{Comparison, comparison_by, numeral_back}
@@ -106,6 +107,35 @@ shift_sum n le = record {
   numbered = refl;
 }
 
+-- SHRI with the field of -n, for `a << n`
+
+lowered : (k : ℕ) → suc k ≤ 127 → pos (127 - suc k) -ℤ pos 127 ≡ negsuc k
+lowered k le = by (127 - suc k) 127 (omega (arith, le))
+  where
+    by : (m most : ℕ) → m + suc k ≡ most → pos m -ℤ pos most ≡ negsuc k
+    by m most e = omega (arith, ints, e)
+
+up_by_shift : (n t : ℕ) → 1 ≤ n → n ≤ 127 → (o : Option ℤ) → fast of_shr t o (Some (pos (127 - n) -ℤ pos 127)) ≡ fast of_shl t o (Some (pos n))
+up_by_shift zero t some le o = absurd (omega (arith, some))
+up_by_shift (suc k) t some le None = refl
+up_by_shift (suc k) t some le (Some m) = ap (λ z. fast of_shr t (Some m) (Some z)) (lowered k le)
+
+pub shift_up_sum : (n : ℕ) → 1 ≤ n → n ≤ 127 → Sum ShiftLeft n
+shift_up_sum n some le = record {
+  opcode = ShrI;
+  done = of_shr;
+  event = of_shl;
+  field = 127 - n;
+  number = 16;
+  fits = omega (arith, le);
+  small = lit< tt;
+  emits = λ x t line. refl;
+  row = λ p pc w. refl;
+  same = λ t o. up_by_shift n t some le o;
+  means = λ line v w a k. refl;
+  numbered = refl;
+}
+
 -- an operator with a numeral adds or compares
 
 pub record NumberForm (op : BinOp) (d : Exp) (n : ℕ) : Type 0 where
@@ -115,9 +145,10 @@ pub record NumberForm (op : BinOp) (d : Exp) (n : ℕ) : Type 0 where
 compares_number : (op : BinOp) (d : Exp) (n : ℕ) → Comparison op → numeral_of d (Some 128) ≡ Some n → NumberForm op d n
 compares_number op d n f e = record { numeral = numeral_is d 128 n e; form = inr f }
 
-pub number_form : (op : BinOp) (d : Exp) (n : ℕ) → numeral_of d (greatest op) ≡ Some n → NumberForm op d n
+pub number_form : (op : BinOp) (d : Exp) (n : ℕ) → operand_numeral op d ≡ Some n → NumberForm op d n
 number_form Plus d n e = let h = numeral_is d 128 n e in record { numeral = h; form = inl (plus_sum n h.small) }
 number_form Minus d n e = let h = numeral_is d 127 n e in record { numeral = numeral_form Minus d n e; form = inl (minus_sum n h.small) }
+number_form ShiftLeft d n e = let h = shift_is d n e in record { numeral = numeral_form ShiftLeft d n e; form = inl (shift_up_sum n h.1 h.0.small) }
 number_form ShiftRight d n e = let h = numeral_is d 128 n e in record { numeral = h; form = inl (shift_sum n h.small) }
 number_form Equal d n e = compares_number Equal d n (comparison_by Equal tt) e
 number_form Ne d n e = compares_number Ne d n (comparison_by Ne tt) e
@@ -131,7 +162,6 @@ number_form Idiv d n e = absurd (numeral_none d n e)
 number_form Band d n e = absurd (numeral_none d n e)
 number_form Bor d n e = absurd (numeral_none d n e)
 number_form Bxor d n e = absurd (numeral_none d n e)
-number_form ShiftLeft d n e = absurd (numeral_none d n e)
 number_form Join d n e = absurd (numeral_none d n e)
 
 module _ (p : Prototype) where

@@ -29,12 +29,26 @@ use Rattle.exp_laws.proofs.Asking.{asks_alike, quick_alike}
 use Rattle.exp_laws.proofs.Going.{next_there}
 use Rattle.exp_laws.proofs.Steps.{go_step, put_step}
 use Rattle.exp_laws.proofs.Calls.{Passed}
-use Rattle.exp_laws.proofs.Tables.{items_count, items_field, filled_text, new_step, fill_near, fill_far, filled_step, set_step, set_index_step, set_name_step, set_rest, set_index_rest, set_name_rest}
+use Rattle.exp_laws.proofs.Tables.{items_count, items_field, filled_text, new_step, fill_near, fill_far, filled_step, ValueIs, set_step, set_index_step, set_name_step, set_rest, set_index_rest, set_name_rest}
 
 pub told_dropped : (reply : Reply) → told_values dropped reply ≡ told_values for_value reply
 told_dropped (values vs) = refl
 told_dropped (faulted words) = refl
 told_dropped (left e) = refl
+
+module _ (S : Setting) where
+  -- the value that the fields k and C of a store name, in a function under way
+  abbrev pub NamesValue : (flag : Bool) → (z : ℕ) → (v : Value) → (regs : List Value) → Type 0
+  NamesValue true z v regs = (x : Const) × ((v ≡ known (constant x)) × ((slice_get S.code.own.constants z ≡ Some x) × (z < 256)))
+  NamesValue false z v regs = (z < S.code.own.stack) × (nth regs z ≡ v)
+
+  pub names_fits : (flag : Bool) (z : ℕ) (v : Value) (regs : List Value) → NamesValue flag z v regs → z < 2 ^ 8
+  names_fits true z v regs is = let short = is.1.1.1 in omega (arith, short)
+  names_fits false z v regs is = let low = is.0 in omega (arith, low, S.small)
+
+  pub names_value : (flag : Bool) (z : ℕ) (v : Value) (regs : List Value) → S.code.own.stack ≤ length regs → NamesValue flag z v regs → ValueIs S.code flag z v regs
+  names_value true z v regs room is = (is.0, (is.1.0, is.1.1.0))
+  names_value false z v regs room is = let low = is.0 in (omega (arith, low, room), is.1)
 
 module _ (S : Setting) (pending : List Pending) where
   -- a new table in register t
@@ -120,51 +134,52 @@ module _ (S : Setting) (pending : List Pending) where
           (λ reply ok env1 regs1 c1 af. dropped_goes 2 env1 regs1 (object a_table m ∷ args ++ values_in reply) c1 inside af next)
 
   -- a value goes to a field of a table; registers below u are kept. The store is an instruction that asks for it and has nothing left to do
-  stored_by : (op : Opcode) (x y z u n line pc opened : ℕ) (o key v : Value) (s : tree.State) (env regs : List Value) (c : Captured) (k : List Work) (goes : List Value → Control)
-      → step s ≡ asks (operates store (o ∷ key ∷ v ∷ [])) line (of_tree S pending env c) k goes → HasAt S pc (with_abc op x y z line ∷ []) → pc + 1 < length S.code.own.code → Rel S.hidden S.code.own.stack pending env c regs
+  stored_by : (op : Opcode) (flag : Bool) (x y z u n line pc opened : ℕ) (o key v : Value) (s : tree.State) (env regs : List Value) (c : Captured) (k : List Work) (goes : List Value → Control)
+      → step s ≡ asks (operates store (o ∷ key ∷ v ∷ [])) line (of_tree S pending env c) k goes → HasAt S pc ((abc op x y z flag, line) ∷ []) → pc + 1 < length S.code.own.code → Rel S.hidden S.code.own.stack pending env c regs
       → talk_step S.code (before (of_code S pending pc regs opened) c) ≡ says_so (operates store (o ∷ key ∷ v ∷ [])) S.code (of_code S pending pc regs opened) c (λ q b d. heard dropped S.code q b d)
       → rest_at {V = Value} dropped S.code pc ≡ next
       → ((ws env1 regs1 : List Value) (c1 : Captured) → After S.hidden S.code.own.stack pending env regs u env1 regs1 c1 → Agree S n (tree.at (goes ws) (of_tree S pending env1 c1) k) (before (of_code S pending (pc + 1) regs1 opened) c1))
       → Agree S n s (before (of_code S pending pc regs opened) c)
-  stored_by op x y z u n line pc opened o key v s env regs c k goes e has inside rel asked rest goes_on_so =
+  stored_by op flag x y z u n line pc opened o key v s env regs c k goes e has inside rel asked rest goes_on_so =
       let there = next_there S (pc + 1) inside in
-      asks_alike S pending n dropped told_dropped s _ (operates store (o ∷ key ∷ v ∷ [])) (operates store (o ∷ key ∷ v ∷ [])) line pc opened u env regs c k goes e asked (λ m. (refl, refl)) refl rel (here_abc S op x y z false line pc [] has)
+      asks_alike S pending n dropped told_dropped s _ (operates store (o ∷ key ∷ v ∷ [])) (operates store (o ∷ key ∷ v ∷ [])) line pc opened u env regs c k goes e asked (λ m. (refl, refl)) refl rel (here_abc S op x y z flag line pc [] has)
       (λ ws env1 regs1 c1 af. go_right S n _ _ (before (of_code S pending (pc + 1) regs1 opened) c1)
       (ap (λ q. talk S.code q ws (of_code S pending pc regs1 opened) c1) rest ∙ go_step S.code 1 there.0 ws (of_code S pending pc regs1 opened) c1 there.1)
       (goes_on_so ws env1 regs1 c1 af))
 
-  pub store_goes : (x y z u n line pc opened : ℕ) (o key v : Value) (s : tree.State) (env regs : List Value) (c : Captured) (k : List Work) (goes : List Value → Control)
-      → step s ≡ asks (operates store (o ∷ key ∷ v ∷ [])) line (of_tree S pending env c) k goes → HasAt S pc (with_abc SetTable x y z line ∷ []) → pc + 1 < length S.code.own.code
-      → x < S.code.own.stack → y < S.code.own.stack → z < S.code.own.stack → Rel S.hidden S.code.own.stack pending env c regs → nth regs x ≡ o → nth regs y ≡ key → nth regs z ≡ v
+  pub store_goes : (flag : Bool) (x y z u n line pc opened : ℕ) (o key v : Value) (s : tree.State) (env regs : List Value) (c : Captured) (k : List Work) (goes : List Value → Control)
+      → step s ≡ asks (operates store (o ∷ key ∷ v ∷ [])) line (of_tree S pending env c) k goes → HasAt S pc ((abc SetTable x y z flag, line) ∷ []) → pc + 1 < length S.code.own.code
+      → x < S.code.own.stack → y < S.code.own.stack → NamesValue S flag z v regs → Rel S.hidden S.code.own.stack pending env c regs → nth regs x ≡ o → nth regs y ≡ key
       → ((ws env1 regs1 : List Value) (c1 : Captured) → After S.hidden S.code.own.stack pending env regs u env1 regs1 c1 → Agree S n (tree.at (goes ws) (of_tree S pending env1 c1) k) (before (of_code S pending (pc + 1) regs1 opened) c1))
       → Agree S n s (before (of_code S pending pc regs opened) c)
-  store_goes x y z u n line pc opened o key v s env regs c k goes e has inside x_room y_room z_room rel o_is key_is v_is next =
-      stored_by SetTable x y z u n line pc opened o key v s env regs c k goes e has inside rel
-      (set_step S.code x y z (of_code S pending pc regs opened) c has.0 (omega (arith, x_room, S.small)) (omega (arith, y_room, S.small)) (omega (arith, z_room, S.small)) (omega (arith, x_room, rel.room)) (omega (arith, y_room, rel.room)) (omega (arith, z_room, rel.room))
-      ∙ ap₂ (λ a b. says_so (operates store (a ∷ b ∷ nth regs z ∷ [])) S.code (of_code S pending pc regs opened) c (λ q b d. heard dropped S.code q b d)) o_is key_is
-      ∙ ap (λ a. says_so (operates store (o ∷ key ∷ a ∷ [])) S.code (of_code S pending pc regs opened) c (λ q b d. heard dropped S.code q b d)) v_is)
-      (set_rest S.code x y z pc has.0) next
+  store_goes flag x y z u n line pc opened o key v s env regs c k goes e has inside x_room y_room is rel o_is key_is next =
+      stored_by SetTable flag x y z u n line pc opened o key v s env regs c k goes e has inside rel
+      (set_step S.code flag x y z v (of_code S pending pc regs opened) c has.0 (omega (arith, x_room, S.small)) (omega (arith, y_room, S.small)) (names_fits S flag z v regs is) (omega (arith, x_room, rel.room)) (omega (arith, y_room, rel.room))
+      (names_value S flag z v regs rel.room is)
+      ∙ ap₂ (λ a b. says_so (operates store (a ∷ b ∷ v ∷ [])) S.code (of_code S pending pc regs opened) c (λ q b d. heard dropped S.code q b d)) o_is key_is)
+      (set_rest S.code flag x y z pc has.0) next
 
   -- the key is the number m in the instruction
-  pub store_index_goes : (x m z u n line pc opened : ℕ) (o v : Value) (s : tree.State) (env regs : List Value) (c : Captured) (k : List Work) (goes : List Value → Control)
-      → step s ≡ asks (operates store (o ∷ known (integer (pos m)) ∷ v ∷ [])) line (of_tree S pending env c) k goes → HasAt S pc (with_abc SetI x m z line ∷ []) → pc + 1 < length S.code.own.code
-      → x < S.code.own.stack → m ≤ 255 → z < S.code.own.stack → Rel S.hidden S.code.own.stack pending env c regs → nth regs x ≡ o → nth regs z ≡ v
+  pub store_index_goes : (flag : Bool) (x m z u n line pc opened : ℕ) (o v : Value) (s : tree.State) (env regs : List Value) (c : Captured) (k : List Work) (goes : List Value → Control)
+      → step s ≡ asks (operates store (o ∷ known (integer (pos m)) ∷ v ∷ [])) line (of_tree S pending env c) k goes → HasAt S pc ((abc SetI x m z flag, line) ∷ []) → pc + 1 < length S.code.own.code
+      → x < S.code.own.stack → m ≤ 255 → NamesValue S flag z v regs → Rel S.hidden S.code.own.stack pending env c regs → nth regs x ≡ o
       → ((ws env1 regs1 : List Value) (c1 : Captured) → After S.hidden S.code.own.stack pending env regs u env1 regs1 c1 → Agree S n (tree.at (goes ws) (of_tree S pending env1 c1) k) (before (of_code S pending (pc + 1) regs1 opened) c1))
       → Agree S n s (before (of_code S pending pc regs opened) c)
-  store_index_goes x m z u n line pc opened o v s env regs c k goes e has inside x_room small z_room rel o_is v_is next =
-      stored_by SetI x m z u n line pc opened o (known (integer (pos m))) v s env regs c k goes e has inside rel
-      (set_index_step S.code x m z (of_code S pending pc regs opened) c has.0 (omega (arith, x_room, S.small)) (omega (arith, small)) (omega (arith, z_room, S.small)) (omega (arith, x_room, rel.room)) (omega (arith, z_room, rel.room))
-      ∙ ap₂ (λ a b. says_so (operates store (a ∷ known (integer (pos m)) ∷ b ∷ [])) S.code (of_code S pending pc regs opened) c (λ q b d. heard dropped S.code q b d)) o_is v_is)
-      (set_index_rest S.code x m z pc has.0) next
+  store_index_goes flag x m z u n line pc opened o v s env regs c k goes e has inside x_room small is rel o_is next =
+      stored_by SetI flag x m z u n line pc opened o (known (integer (pos m))) v s env regs c k goes e has inside rel
+      (set_index_step S.code flag x m z v (of_code S pending pc regs opened) c has.0 (omega (arith, x_room, S.small)) (omega (arith, small)) (names_fits S flag z v regs is) (omega (arith, x_room, rel.room)) (names_value S flag z v regs rel.room is)
+      ∙ ap (λ a. says_so (operates store (a ∷ known (integer (pos m)) ∷ v ∷ [])) S.code (of_code S pending pc regs opened) c (λ q b d. heard dropped S.code q b d)) o_is)
+      (set_index_rest S.code flag x m z pc has.0) next
 
   -- the key is a constant of the instruction
-  pub store_name_goes : (x number z u n line pc opened : ℕ) (key : Const) (o v : Value) (s : tree.State) (env regs : List Value) (c : Captured) (k : List Work) (goes : List Value → Control)
-      → step s ≡ asks (operates store (o ∷ known (constant key) ∷ v ∷ [])) line (of_tree S pending env c) k goes → HasAt S pc (with_abc SetField x number z line ∷ []) → pc + 1 < length S.code.own.code
-      → x < S.code.own.stack → number < 256 → z < S.code.own.stack → slice_get S.code.own.constants number ≡ Some key → Rel S.hidden S.code.own.stack pending env c regs → nth regs x ≡ o → nth regs z ≡ v
+  pub store_name_goes : (flag : Bool) (x number z u n line pc opened : ℕ) (key : Const) (o v : Value) (s : tree.State) (env regs : List Value) (c : Captured) (k : List Work) (goes : List Value → Control)
+      → step s ≡ asks (operates store (o ∷ known (constant key) ∷ v ∷ [])) line (of_tree S pending env c) k goes → HasAt S pc ((abc SetField x number z flag, line) ∷ []) → pc + 1 < length S.code.own.code
+      → x < S.code.own.stack → number < 256 → NamesValue S flag z v regs → slice_get S.code.own.constants number ≡ Some key → Rel S.hidden S.code.own.stack pending env c regs → nth regs x ≡ o
       → ((ws env1 regs1 : List Value) (c1 : Captured) → After S.hidden S.code.own.stack pending env regs u env1 regs1 c1 → Agree S n (tree.at (goes ws) (of_tree S pending env1 c1) k) (before (of_code S pending (pc + 1) regs1 opened) c1))
       → Agree S n s (before (of_code S pending pc regs opened) c)
-  store_name_goes x number z u n line pc opened key o v s env regs c k goes e has inside x_room short z_room there rel o_is v_is next =
-      stored_by SetField x number z u n line pc opened o (known (constant key)) v s env regs c k goes e has inside rel
-      (set_name_step S.code x number z key (of_code S pending pc regs opened) c has.0 (omega (arith, x_room, S.small)) (omega (arith, short)) (omega (arith, z_room, S.small)) (omega (arith, x_room, rel.room)) (omega (arith, z_room, rel.room)) there
-      ∙ ap₂ (λ a b. says_so (operates store (a ∷ known (constant key) ∷ b ∷ [])) S.code (of_code S pending pc regs opened) c (λ q b d. heard dropped S.code q b d)) o_is v_is)
-      (set_name_rest S.code x number z pc has.0) next
+  store_name_goes flag x number z u n line pc opened key o v s env regs c k goes e has inside x_room short is there rel o_is next =
+      stored_by SetField flag x number z u n line pc opened o (known (constant key)) v s env regs c k goes e has inside rel
+      (set_name_step S.code flag x number z key v (of_code S pending pc regs opened) c has.0 (omega (arith, x_room, S.small)) (omega (arith, short)) (names_fits S flag z v regs is) (omega (arith, x_room, rel.room))
+      (names_value S flag z v regs rel.room is) there
+      ∙ ap (λ a. says_so (operates store (a ∷ known (constant key) ∷ v ∷ [])) S.code (of_code S pending pc regs opened) c (λ q b d. heard dropped S.code q b d)) o_is)
+      (set_name_rest S.code flag x number z pc has.0) next

@@ -1,5 +1,5 @@
 -- What the machine does as a table is made, filled and written, as one equation each.
-use Rattle.std.proofs.Common.{◌≡◌, ℕ, ◌+◌, ◌*◌, ◌<◌, ◌^◌, lit<, Bool, true, false, cond, pos, ℤ, List, [], ◌∷◌, ◌++◌, length, take, Some, None, refl, ap, ap₂, ◌∙◌}
+use Rattle.std.proofs.Common.{◌≡◌, ℕ, ◌+◌, ◌*◌, ◌<◌, ◌^◌, lit<, Bool, true, false, cond, pos, ℤ, List, [], ◌∷◌, ◌++◌, length, take, Some, None, refl, sym, ap, ap₂, ◌∙◌}
 use Rattle.std.specs.Prelude.{◌==◌, slice_get}
 use borrow.Author.Tests.{lt-ltb}
 use Rattle.int_core.specs.Value.{Value, known, integer, a_table, object, Shape, nth, shape}
@@ -39,6 +39,14 @@ count_field false = refl
 pub count_small : (many : Bool) → items_count many < 2 ^ 8
 count_small true = lit< tt
 count_small false = lit< tt
+
+-- the value that the fields k and C of a store name: a constant or that of a register
+abbrev pub ValueIs : Prototype → (flag : Bool) → (z : ℕ) → (v : Value) → (regs : List Value) → Type 0
+ValueIs p true z v regs = (x : Const) × ((v ≡ known (constant x)) × (slice_get p.own.constants z ≡ Some x))
+ValueIs p false z v regs = (z < length regs) × (nth regs z ≡ v)
+
+abbrev pub value_text : (flag : Bool) → (z : ℕ) → (ℕ → Text) → Text
+value_text flag z sent = cond flag (own (read_constant z) (λ v _. sent v)) (own (read_register z) (λ v _. sent v))
 
 module _ (p : Prototype) where
   pub new_step : (t : ℕ) (a : Activation) (c : Captured) → at p a.pc ≡ Some (abc NewTable t 0 0 false) → at p (a.pc + 1) ≡ Some (op_ax ExtraArg 0) → t < 2 ^ 8
@@ -95,57 +103,65 @@ module _ (p : Prototype) where
       own_step p end_list (λ _ _. go_by (pos n)) env a c refl
       ∙ go_step p n w (env ++ []) (record a { registers = take p.own.stack a.registers; opened = 0 }) c there
 
-  -- a value goes to a field of a table: the operation is asked for
-  pub set_step : (x y z : ℕ) (a : Activation) (c : Captured) → at p a.pc ≡ Some (abc SetTable x y z false) → x < 2 ^ 8 → y < 2 ^ 8 → z < 2 ^ 8 → x < length a.registers → y < length a.registers → z < length a.registers
-      → talk_step p (before a c) ≡ says_so (operates store (nth a.registers x ∷ nth a.registers y ∷ nth a.registers z ∷ [])) p a c (λ q b d. heard dropped p q b d)
-  set_step x y z a c here x_fits y_fits z_fits x_room y_room z_room =
-      let w = abc SetTable x y z false in
-      row_step p w SetTable (own (read_register x) (λ o _. own (read_register y) (λ key _. own (read_register z) (λ v _. sets (read o) (read key) (read v))))) a c here (opcode_of-abc SetTable x y z false)
-      (ap₂ (λ d e. own (read_register d) (λ o _. own (read_register e) (λ key _. register_or_constant w (λ v _. sets (read o) (read key) (read v))))) (a_of-abc SetTable x y z false x_fits) (b_of-abc SetTable x y z false x_fits y_fits)
-      ∙ ap (λ k. own (read_register x) (λ o _. own (read_register y) (λ key _. cond k (own (read_constant (c_of w)) (λ v _. sets (read o) (read key) (read v))) (own (read_register (c_of w)) (λ v _. sets (read o) (read key) (read v)))))) (k_of-abc SetTable x y z false x_fits)
-      ∙ ap (λ e. own (read_register x) (λ o _. own (read_register y) (λ key _. own (read_register e) (λ v _. sets (read o) (read key) (read v))))) (c_of-abc SetTable x y z false x_fits y_fits z_fits))
-      ∙ own_step p (read_register x) (λ o _. own (read_register y) (λ key _. own (read_register z) (λ v _. sets (read o) (read key) (read v)))) [] a c (lt-ltb x (length a.registers) x_room)
-      ∙ own_step p (read_register y) (λ key _. own (read_register z) (λ v _. sets (read 0) (read key) (read v))) (nth a.registers x ∷ []) a c (lt-ltb y (length a.registers) y_room)
-      ∙ own_step p (read_register z) (λ v _. sets (read 0) (read 1) (read v)) (nth a.registers x ∷ nth a.registers y ∷ []) a c (lt-ltb z (length a.registers) z_room)
+  -- a value goes to a field of a table, where the value is a constant or stands in a register: the operation is asked for
+
+  pub value_step : (flag : Bool) (z : ℕ) (v : Value) (sent : ℕ → Text) (had : List Value) (a : Activation) (c : Captured) → ValueIs p flag z v a.registers → talk p (value_text flag z sent) had a c ≡ talk p (sent (length had)) (had ++ v ∷ []) a c
+  value_step true z v sent had a c is =
+      let key = is.0 in
+      own_step p (read_constant z) (λ v _. sent v) had a c (lt-ltb z (length p.own.constants) (found_below p.own.constants z key is.1.1))
+      ∙ ap (λ o. talk p (sent (length had)) (had ++ elim o as (λ _. List Value) [ None ↦ [] | Some k ↦ known (constant k) ∷ [] ]) a c) is.1.1
+      ∙ ap (λ u. talk p (sent (length had)) (had ++ u ∷ []) a c) (sym is.1.0)
+  value_step false z v sent had a c is =
+      own_step p (read_register z) (λ v _. sent v) had a c (lt-ltb z (length a.registers) is.0)
+      ∙ ap (λ u. talk p (sent (length had)) (had ++ u ∷ []) a c) is.1
+
+  pub set_step : (flag : Bool) (x y z : ℕ) (v : Value) (a : Activation) (c : Captured) → at p a.pc ≡ Some (abc SetTable x y z flag) → x < 2 ^ 8 → y < 2 ^ 8 → z < 2 ^ 8 → x < length a.registers → y < length a.registers → ValueIs p flag z v a.registers
+      → talk_step p (before a c) ≡ says_so (operates store (nth a.registers x ∷ nth a.registers y ∷ v ∷ [])) p a c (λ q b d. heard dropped p q b d)
+  set_step flag x y z v a c here x_fits y_fits z_fits x_room y_room is =
+      let w = abc SetTable x y z flag in
+      row_step p w SetTable (own (read_register x) (λ o _. own (read_register y) (λ key _. value_text flag z (λ v. sets (read o) (read key) (read v))))) a c here (opcode_of-abc SetTable x y z flag)
+      (ap₂ (λ d e. own (read_register d) (λ o _. own (read_register e) (λ key _. register_or_constant w (λ v _. sets (read o) (read key) (read v))))) (a_of-abc SetTable x y z flag x_fits) (b_of-abc SetTable x y z flag x_fits y_fits)
+      ∙ ap₂ (λ f e. own (read_register x) (λ o _. own (read_register y) (λ key _. value_text f e (λ v. sets (read o) (read key) (read v))))) (k_of-abc SetTable x y z flag x_fits) (c_of-abc SetTable x y z flag x_fits y_fits z_fits))
+      ∙ own_step p (read_register x) (λ o _. own (read_register y) (λ key _. value_text flag z (λ v. sets (read o) (read key) (read v)))) [] a c (lt-ltb x (length a.registers) x_room)
+      ∙ own_step p (read_register y) (λ key _. value_text flag z (λ v. sets (read 0) (read key) (read v))) (nth a.registers x ∷ []) a c (lt-ltb y (length a.registers) y_room)
+      ∙ value_step flag z v (λ v. sets (read 0) (read 1) (read v)) (nth a.registers x ∷ nth a.registers y ∷ []) a c is
 
   -- the key is a number in the instruction
-  pub set_index_step : (x n z : ℕ) (a : Activation) (c : Captured) → at p a.pc ≡ Some (abc SetI x n z false) → x < 2 ^ 8 → n < 2 ^ 8 → z < 2 ^ 8 → x < length a.registers → z < length a.registers
-      → talk_step p (before a c) ≡ says_so (operates store (nth a.registers x ∷ known (integer (pos n)) ∷ nth a.registers z ∷ [])) p a c (λ q b d. heard dropped p q b d)
-  set_index_step x n z a c here x_fits n_fits z_fits x_room z_room =
-      let w = abc SetI x n z false in
-      row_step p w SetI (own (read_register x) (λ o _. own (read_register z) (λ v _. sets (read o) (spelled n) (read v)))) a c here (opcode_of-abc SetI x n z false)
-      (ap₂ (λ d e. own (read_register d) (λ o _. register_or_constant w (λ v _. sets (read o) (spelled e) (read v)))) (a_of-abc SetI x n z false x_fits) (b_of-abc SetI x n z false x_fits n_fits)
-      ∙ ap (λ k. own (read_register x) (λ o _. cond k (own (read_constant (c_of w)) (λ v _. sets (read o) (spelled n) (read v))) (own (read_register (c_of w)) (λ v _. sets (read o) (spelled n) (read v))))) (k_of-abc SetI x n z false x_fits)
-      ∙ ap (λ e. own (read_register x) (λ o _. own (read_register e) (λ v _. sets (read o) (spelled n) (read v)))) (c_of-abc SetI x n z false x_fits n_fits z_fits))
-      ∙ own_step p (read_register x) (λ o _. own (read_register z) (λ v _. sets (read o) (spelled n) (read v))) [] a c (lt-ltb x (length a.registers) x_room)
-      ∙ own_step p (read_register z) (λ v _. sets (read 0) (spelled n) (read v)) (nth a.registers x ∷ []) a c (lt-ltb z (length a.registers) z_room)
+  pub set_index_step : (flag : Bool) (x n z : ℕ) (v : Value) (a : Activation) (c : Captured) → at p a.pc ≡ Some (abc SetI x n z flag) → x < 2 ^ 8 → n < 2 ^ 8 → z < 2 ^ 8 → x < length a.registers → ValueIs p flag z v a.registers
+      → talk_step p (before a c) ≡ says_so (operates store (nth a.registers x ∷ known (integer (pos n)) ∷ v ∷ [])) p a c (λ q b d. heard dropped p q b d)
+  set_index_step flag x n z v a c here x_fits n_fits z_fits x_room is =
+      let w = abc SetI x n z flag in
+      row_step p w SetI (own (read_register x) (λ o _. value_text flag z (λ v. sets (read o) (spelled n) (read v)))) a c here (opcode_of-abc SetI x n z flag)
+      (ap₂ (λ d e. own (read_register d) (λ o _. register_or_constant w (λ v _. sets (read o) (spelled e) (read v)))) (a_of-abc SetI x n z flag x_fits) (b_of-abc SetI x n z flag x_fits n_fits)
+      ∙ ap₂ (λ f e. own (read_register x) (λ o _. value_text f e (λ v. sets (read o) (spelled n) (read v)))) (k_of-abc SetI x n z flag x_fits) (c_of-abc SetI x n z flag x_fits n_fits z_fits))
+      ∙ own_step p (read_register x) (λ o _. value_text flag z (λ v. sets (read o) (spelled n) (read v))) [] a c (lt-ltb x (length a.registers) x_room)
+      ∙ value_step flag z v (λ v. sets (read 0) (spelled n) (read v)) (nth a.registers x ∷ []) a c is
 
   -- the key is a constant
-  pub set_name_step : (x number z : ℕ) (key : Const) (a : Activation) (c : Captured) → at p a.pc ≡ Some (abc SetField x number z false) → x < 2 ^ 8 → number < 2 ^ 8 → z < 2 ^ 8 → x < length a.registers → z < length a.registers
+  pub set_name_step : (flag : Bool) (x number z : ℕ) (key : Const) (v : Value) (a : Activation) (c : Captured) → at p a.pc ≡ Some (abc SetField x number z flag) → x < 2 ^ 8 → number < 2 ^ 8 → z < 2 ^ 8 → x < length a.registers → ValueIs p flag z v a.registers
       → slice_get p.own.constants number ≡ Some key
-      → talk_step p (before a c) ≡ says_so (operates store (nth a.registers x ∷ known (constant key) ∷ nth a.registers z ∷ [])) p a c (λ q b d. heard dropped p q b d)
-  set_name_step x number z key a c here x_fits fits z_fits x_room z_room there =
-      let w = abc SetField x number z false in
-      row_step p w SetField (own (read_register x) (λ o _. own (read_constant number) (λ i _. own (read_register z) (λ v _. sets (read o) (read i) (read v))))) a c here (opcode_of-abc SetField x number z false)
-      (ap₂ (λ d e. own (read_register d) (λ o _. own (read_constant e) (λ i _. register_or_constant w (λ v _. sets (read o) (read i) (read v))))) (a_of-abc SetField x number z false x_fits) (b_of-abc SetField x number z false x_fits fits)
-      ∙ ap (λ k. own (read_register x) (λ o _. own (read_constant number) (λ i _. cond k (own (read_constant (c_of w)) (λ v _. sets (read o) (read i) (read v))) (own (read_register (c_of w)) (λ v _. sets (read o) (read i) (read v)))))) (k_of-abc SetField x number z false x_fits)
-      ∙ ap (λ e. own (read_register x) (λ o _. own (read_constant number) (λ i _. own (read_register e) (λ v _. sets (read o) (read i) (read v))))) (c_of-abc SetField x number z false x_fits fits z_fits))
-      ∙ own_step p (read_register x) (λ o _. own (read_constant number) (λ i _. own (read_register z) (λ v _. sets (read o) (read i) (read v)))) [] a c (lt-ltb x (length a.registers) x_room)
-      ∙ own_step p (read_constant number) (λ i _. own (read_register z) (λ v _. sets (read 0) (read i) (read v))) (nth a.registers x ∷ []) a c (lt-ltb number (length p.own.constants) (found_below p.own.constants number key there))
-      ∙ ap (λ o. talk p (own (read_register z) (λ v _. sets (read 0) (read 1) (read v))) (nth a.registers x ∷ elim o as (λ _. List Value) [ None ↦ [] | Some k ↦ known (constant k) ∷ [] ]) a c) there
-      ∙ own_step p (read_register z) (λ v _. sets (read 0) (read 1) (read v)) (nth a.registers x ∷ known (constant key) ∷ []) a c (lt-ltb z (length a.registers) z_room)
+      → talk_step p (before a c) ≡ says_so (operates store (nth a.registers x ∷ known (constant key) ∷ v ∷ [])) p a c (λ q b d. heard dropped p q b d)
+  set_name_step flag x number z key v a c here x_fits fits z_fits x_room is there =
+      let w = abc SetField x number z flag in
+      row_step p w SetField (own (read_register x) (λ o _. own (read_constant number) (λ i _. value_text flag z (λ v. sets (read o) (read i) (read v))))) a c here (opcode_of-abc SetField x number z flag)
+      (ap₂ (λ d e. own (read_register d) (λ o _. own (read_constant e) (λ i _. register_or_constant w (λ v _. sets (read o) (read i) (read v))))) (a_of-abc SetField x number z flag x_fits) (b_of-abc SetField x number z flag x_fits fits)
+      ∙ ap₂ (λ f e. own (read_register x) (λ o _. own (read_constant number) (λ i _. value_text f e (λ v. sets (read o) (read i) (read v))))) (k_of-abc SetField x number z flag x_fits) (c_of-abc SetField x number z flag x_fits fits z_fits))
+      ∙ own_step p (read_register x) (λ o _. own (read_constant number) (λ i _. value_text flag z (λ v. sets (read o) (read i) (read v)))) [] a c (lt-ltb x (length a.registers) x_room)
+      ∙ own_step p (read_constant number) (λ i _. value_text flag z (λ v. sets (read 0) (read i) (read v))) (nth a.registers x ∷ []) a c (lt-ltb number (length p.own.constants) (found_below p.own.constants number key there))
+      ∙ ap (λ o. talk p (value_text flag z (λ v. sets (read 0) (read 1) (read v))) (nth a.registers x ∷ elim o as (λ _. List Value) [ None ↦ [] | Some k ↦ known (constant k) ∷ [] ]) a c) there
+      ∙ value_step flag z v (λ v. sets (read 0) (read 1) (read v)) (nth a.registers x ∷ known (constant key) ∷ []) a c is
 
-  pub set_index_rest : (x n z pc : ℕ) → at p pc ≡ Some (abc SetI x n z false) → rest_at {V = Value} dropped p pc ≡ next
-  set_index_rest x n z pc here =
+  pub set_index_rest : (flag : Bool) (x n z pc : ℕ) → at p pc ≡ Some (abc SetI x n z flag) → rest_at {V = Value} dropped p pc ≡ next
+  set_index_rest flag x n z pc here =
       ap (λ o. elim o as (λ _. Text) [ None ↦ trap | Some i ↦ rest_by {V = Value} dropped p pc i (opcode_of i) ]) here
-      ∙ ap (rest_by {V = Value} dropped p pc (abc SetI x n z false)) (opcode_of-abc SetI x n z false)
+      ∙ ap (rest_by {V = Value} dropped p pc (abc SetI x n z flag)) (opcode_of-abc SetI x n z flag)
 
-  pub set_name_rest : (x number z pc : ℕ) → at p pc ≡ Some (abc SetField x number z false) → rest_at {V = Value} dropped p pc ≡ next
-  set_name_rest x number z pc here =
+  pub set_name_rest : (flag : Bool) (x number z pc : ℕ) → at p pc ≡ Some (abc SetField x number z flag) → rest_at {V = Value} dropped p pc ≡ next
+  set_name_rest flag x number z pc here =
       ap (λ o. elim o as (λ _. Text) [ None ↦ trap | Some i ↦ rest_by {V = Value} dropped p pc i (opcode_of i) ]) here
-      ∙ ap (rest_by {V = Value} dropped p pc (abc SetField x number z false)) (opcode_of-abc SetField x number z false)
+      ∙ ap (rest_by {V = Value} dropped p pc (abc SetField x number z flag)) (opcode_of-abc SetField x number z flag)
 
-  pub set_rest : (x y z pc : ℕ) → at p pc ≡ Some (abc SetTable x y z false) → rest_at {V = Value} dropped p pc ≡ next
-  set_rest x y z pc here =
+  pub set_rest : (flag : Bool) (x y z pc : ℕ) → at p pc ≡ Some (abc SetTable x y z flag) → rest_at {V = Value} dropped p pc ≡ next
+  set_rest flag x y z pc here =
       ap (λ o. elim o as (λ _. Text) [ None ↦ trap | Some i ↦ rest_by {V = Value} dropped p pc i (opcode_of i) ]) here
-      ∙ ap (rest_by {V = Value} dropped p pc (abc SetTable x y z false)) (opcode_of-abc SetTable x y z false)
+      ∙ ap (rest_by {V = Value} dropped p pc (abc SetTable x y z flag)) (opcode_of-abc SetTable x y z flag)

@@ -14,10 +14,10 @@ use Rattle.code_of.specs.Expressions.{made_by}
 use Rattle.code_of.specs.CodeOf.{upvalue}
 use Rattle.exp_laws.specs.Setting.{Hidden, UnderAll, Setting, InnerAlike}
 
--- locals that a function captures are in scope, and no hidden ones, nor in a scope of which no local is captured
+-- locals that a function captures are in scope, and no hidden ones, nor in a scope of which no local is captured; and its own function's locals may have cells
 abbrev pub Captures : (hidden : Hidden) → List UpName → (size : ℕ) → Type 0
 Captures hidden [] size = Unit {0}
-Captures hidden (u ∷ us) size = (u.in_stack ≡ true → (u.index < size) × (IsNoneOf u.index hidden.integers × UnderAll u.index hidden.free_from)) × Captures hidden us size
+Captures hidden (u ∷ us) size = (u.in_stack ≡ true → (u.index < size) × (IsNoneOf u.index hidden.integers × (UnderAll u.index hidden.free_from × (hidden.celled ≡ true)))) × Captures hidden us size
 
 -- the inner function of a number has a body's upvalues, and means it
 pub record Inner (S : Setting) (j : ℕ) (body : Body) : Type 0 where

@@ -81,6 +81,7 @@ alone source params vararg inner ups line k f o c w b =
       constants_few = omega (arith, constants, w);
       sees = λ n h. h;
       all_hold = refl;
+      celled = refl;
     } in
     record {
       small = small;

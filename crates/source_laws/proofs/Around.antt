@@ -1,5 +1,5 @@
 -- What the pieces of a function under way share.
-use Rattle.std.proofs.Common.{◌≡◌, ℕ, ◌<◌, ◌≤◌, ◌^◌, Bool, List, [], length, Option}
+use Rattle.std.proofs.Common.{◌≡◌, ℕ, ◌<◌, ◌≤◌, ◌^◌, Bool, true, List, [], length, Option}
 use Rattle.code_core.specs.declared.proto.Const.{Const}
 use Rattle.code_core.specs.Prototype.{Prototype, list_of}
 use Rattle.exp_laws.specs.Setting.{Setting, hiding}
@@ -22,6 +22,7 @@ pub record Around : Type 0 where
   pub constants_few : length setting.code.own.constants ≤ 2 ^ 25
   pub sees : (n : ℕ) → IsNoneOf n hidden → IsNoneOf n setting.hidden.integers
   pub all_hold : setting.hidden.free_from ≡ []
+  pub celled : setting.hidden.celled ≡ true
 
 abbrev pub constants_of : Around → List Const
 constants_of x = x.setting.code.own.constants

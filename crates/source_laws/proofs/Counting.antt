@@ -5,8 +5,9 @@ use Rattle.tree_core.specs.declared.name.Declared.{Declared}
 use Rattle.tree_core.specs.declared.name.UpName.{UpName}
 use Rattle.tree_core.specs.Tree.{Block, Falls, Returns, BodyOf, Stats, EndStats, MoreStats, Stat, Empty, Local, LocalFunction, Assign, CallStat, Do, While, Repeat, If, IfElse, NumFor, NumForStep, GenFor, Label, Goto, Break, Arms, EndArms, MoreArms, Exp, Nil, True, False, Int, Str, Vararg, Function, Var, Index, Call, Method, Unary, Binary, And, Or, Paren, Table, Exps, EndExps, MoreExps}
 use Rattle.code_core.specs.declared.proto.Const.{Const}
+use Rattle.code_of.specs.declared.leaving.Leaving.{Leaving}
 use Rattle.code_of.specs.Constants.{of_block}
-use Rattle.code_of.specs.CodeOf.{back_field, body_code, variables_of, code_of}
+use Rattle.code_of.specs.CodeOf.{leaving_of, body_code, variables_of, code_of}
 use Rattle.code_of.specs.Expressions.{count, made_by, made_in, exps_code}
 use Rattle.code_of.specs.Conditions.{test_code}
 use Rattle.tree_terms.specs.Levels.{level_after, levels_after}
@@ -75,7 +76,7 @@ length_hidden : (n from to : ℕ) → length (hidden n from to) ≡ n
 length_hidden zero from to = refl
 length_hidden (suc n) from to = ap suc (length_hidden n from to)
 
-module _ (cs : List Const) (back : ℕ) where
+module _ (cs : List Const) (back : Leaving) where
   looped_few : (n : ℕ) (names : List Name) (place size end : ℕ) → length (looped cs back n names place size end) ≡ n + length names
   looped_few n names place size end =
       let a = length-append (hidden n place end) (variables names (place + 1) (place + 1 + size)) in
@@ -167,7 +168,7 @@ module _ (cs : List Const) (back : ℕ) where
     open_few (Falls ss tokens line) closing t j pc end = stats_few ss closing t j pc end
     open_few (Returns ss es tokens line) closing t j pc end = let a = stats_few ss closing t j pc end in omega (arith, a)
 
-whole_few : (cs : List Const) (back : ℕ) (block : Block) (params j pc : ℕ) → length (within_whole cs back block params j pc) ≤ weight_of_block block
+whole_few : (cs : List Const) (back : Leaving) (block : Block) (params j pc : ℕ) → length (within_whole cs back block params j pc) ≤ weight_of_block block
 whole_few cs back (Falls ss tokens line) params j pc = stats_few cs back ss false params j pc (pc + whole_size cs back (Falls ss tokens line) params j)
 whole_few cs back (Returns ss es tokens line) params j pc = let a = stats_few cs back ss false params j pc (pc + whole_size cs back (Returns ss es tokens line) params j) in omega (arith, a)
 
@@ -176,7 +177,7 @@ pub locals_few : (source : Option (List ℕ)) (params : List Name) (vararg : Boo
 locals_few source params vararg inner ups line few w =
     let n = length (body_code (BodyOf params vararg inner ups line)) in
     let cs = of_block inner [] in
-    let back = back_field vararg (length params) in
+    let back = leaving_of vararg (length params) inner in
     let first = Rattle.std.specs.Prelude.cond vararg 1 0 in
     let a = length_variables params 0 n in
     let b = whole_few cs back inner (length params) 0 first in

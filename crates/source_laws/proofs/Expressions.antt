@@ -56,8 +56,8 @@ module _ (x : Around) where
         alike = λ n lt. let none_asked = x.none_asked in absurd (omega (arith, lt, none_asked));
       }
 
-  capture_placed : (in_stack : Bool) (n t : ℕ) → CaptureIsThere x.hidden t x.ups in_stack n → in_stack ≡ true → (n < t) × (IsNoneOf n x.setting.hidden.integers × UnderAll n x.setting.hidden.free_from)
-  capture_placed true n t h e = (h.0, (x.sees n h.1, subst (UnderAll n) (sym x.all_hold) tt))
+  capture_placed : (in_stack : Bool) (n t : ℕ) → CaptureIsThere x.hidden t x.ups in_stack n → in_stack ≡ true → (n < t) × (IsNoneOf n x.setting.hidden.integers × (UnderAll n x.setting.hidden.free_from × (x.setting.hidden.celled ≡ true)))
+  capture_placed true n t h e = (h.0, (x.sees n h.1, (subst (UnderAll n) (sym x.all_hold) tt, x.celled)))
   capture_placed false n t h e = absurd (search rules)
 
   pub captures_placed : (us : List UpName) (t : ℕ) → CapturesAreThere x.hidden t x.ups us → Captures x.setting.hidden us t

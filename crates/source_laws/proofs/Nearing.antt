@@ -152,13 +152,13 @@ module _ (source : Option (List ℕ)) where
     near_stat x (IfElse line arms block) hidden named loops closing t j le room k n f i s w = (near_arms x arms hidden named loops closing t j le (omega (arith, room)) k.0 n.0 f.0 i.0 s.0 (omega (arith, w)), near_block x block true hidden named loops closing t (j + made_in_arms arms) le k.1 n.1 f.1 i.1 s.1 (omega (arith, w)))
     near_stat x (NumFor line name from limit block) hidden named loops closing t j le room k n f i s w =
         let few = k.1.1.0 in
-        (omega (arith, few), (near_exp x from hidden t t j (omega (arith, le)) (omega (arith, room)) k.0 n.0 f.0 i.0 s.0 (omega (arith, w)), (near_exp x limit hidden t (t + 1) (j + made_by from) (omega (arith, le)) (omega (arith, room)) k.1.0 n.1.0 f.1.0 i.1.0 s.1 (omega (arith, w)), ((let p = x.code in s.2 p.own.constants (back_field p.own.vararg p.own.params) closing (t + 3) (t + 4) (j + made_by from + made_by limit)), near_block x block true (three_hidden t hidden) named true closing (t + 4) (j + made_by from + made_by limit) few k.1.1.1.1 n.1.1 f.1.1 i.1.1 s.3 (omega (arith, w))))))
+        (omega (arith, few), (near_exp x from hidden t t j (omega (arith, le)) (omega (arith, room)) k.0 n.0 f.0 i.0 s.0 (omega (arith, w)), (near_exp x limit hidden t (t + 1) (j + made_by from) (omega (arith, le)) (omega (arith, room)) k.1.0 n.1.0 f.1.0 i.1.0 s.1 (omega (arith, w)), ((λ closes. let p = x.code in s.2 p.own.constants (record { back = back_field p.own.vararg p.own.params; closes = closes }) closing (t + 3) (t + 4) (j + made_by from + made_by limit)), near_block x block true (three_hidden t hidden) named true closing (t + 4) (j + made_by from + made_by limit) few k.1.1.1.1 n.1.1 f.1.1 i.1.1 s.3 (omega (arith, w))))))
     near_stat x (NumForStep line name from limit step block) hidden named loops closing t j le room k n f i s w =
         let few = k.1.1.1.0 in
-        (omega (arith, few), (near_exp x from hidden t t j (omega (arith, le)) (omega (arith, room)) k.0 n.0 f.0 i.0 s.0 (omega (arith, w)), (near_exp x limit hidden t (t + 1) (j + made_by from) (omega (arith, le)) (omega (arith, room)) k.1.0 n.1.0 f.1.0 i.1.0 s.1 (omega (arith, w)), (near_exp x step hidden t (t + 2) (j + made_by from + made_by limit) (omega (arith, le)) (omega (arith, room)) k.1.1.0 n.1.1.0 f.1.1.0 i.1.1.0 s.2 (omega (arith, w)), ((let p = x.code in s.3 p.own.constants (back_field p.own.vararg p.own.params) closing (t + 3) (t + 4) (j + made_by from + made_by limit + made_by step)), near_block x block true (three_hidden t hidden) named true closing (t + 4) (j + made_by from + made_by limit + made_by step) few k.1.1.1.1.1 n.1.1.1 f.1.1.1 i.1.1.1 s.4 (omega (arith, w)))))))
+        (omega (arith, few), (near_exp x from hidden t t j (omega (arith, le)) (omega (arith, room)) k.0 n.0 f.0 i.0 s.0 (omega (arith, w)), (near_exp x limit hidden t (t + 1) (j + made_by from) (omega (arith, le)) (omega (arith, room)) k.1.0 n.1.0 f.1.0 i.1.0 s.1 (omega (arith, w)), (near_exp x step hidden t (t + 2) (j + made_by from + made_by limit) (omega (arith, le)) (omega (arith, room)) k.1.1.0 n.1.1.0 f.1.1.0 i.1.1.0 s.2 (omega (arith, w)), ((λ closes. let p = x.code in s.3 p.own.constants (record { back = back_field p.own.vararg p.own.params; closes = closes }) closing (t + 3) (t + 4) (j + made_by from + made_by limit + made_by step)), near_block x block true (three_hidden t hidden) named true closing (t + 4) (j + made_by from + made_by limit + made_by step) few k.1.1.1.1.1 n.1.1.1 f.1.1.1 i.1.1.1 s.4 (omega (arith, w)))))))
     near_stat x (GenFor line names es block) hidden named loops closing t j le room k n f i s w =
         let few = k.1.0 in
-        (omega (arith, few), (near_exps x es hidden t t 0 t j (omega (arith, le)) (omega arith) (omega (arith, room)) k.0 n.0 f.1.0 i.0 s.0 (omega (arith, w)), (s.1 x.code.own.constants (back_field x.code.own.vararg x.code.own.params) true (t + 4) (t + 4 + length names) (j + made_in es), near_block x block true (four_hidden t hidden) named true true (t + 4 + length names) (j + made_in es) few k.1.1.1 n.1 f.1.1 i.1 s.2 (omega (arith, w)))))
+        (omega (arith, few), (near_exps x es hidden t t 0 t j (omega (arith, le)) (omega arith) (omega (arith, room)) k.0 n.0 f.1.0 i.0 s.0 (omega (arith, w)), ((λ closes. s.1 x.code.own.constants (record { back = back_field x.code.own.vararg x.code.own.params; closes = closes }) true (t + 4) (t + 4 + length names) (j + made_in es)), near_block x block true (four_hidden t hidden) named true true (t + 4 + length names) (j + made_in es) few k.1.1.1 n.1 f.1.1 i.1 s.2 (omega (arith, w)))))
 
     near_arms : (x : Around) (arms : Arms) (hidden : List ℕ) (named : List Named) (loops closing : Bool) (t j : ℕ) → t ≤ 200 → t + held_tests arms ≤ 250 → ArmsKeep arms x.vararg t named loops → ArmsFind arms hidden t x.ups → ArmsAreFormed arms → ArmsFit source x.code arms j
         → ArmsHave FunctionFits LoopFits arms → weight_of_arms arms ≤ 2 ^ 21 → ArmsAreNear source x.code arms closing t j

@@ -10,19 +10,19 @@ use Rattle.code_of.specs.Levels.{made_by_stat, made_in_arms, made_in_stats, made
 use Rattle.tree_terms.specs.Levels.{level_after, levels_after, levels_in}
 use Rattle.scope_core.specs.Held.{held_behind, held_stat}
 use Rattle.scope_core.specs.Rules.{tokens_of}
-use Rattle.code_of.specs.Operands.{assigned}
+use Rattle.code_of.specs.Operands.{assigned, second_assigned}
 use Rattle.code_of.specs.Coded.{Coded}
 use Rattle.code_of.specs.Stores.{stores_field}
 use Rattle.code_of.specs.Targets.{single_store}
-use Rattle.code_of.proofs.Operands.{assigned_is}
-use Rattle.code_of.specs.Rooms.{room_of_list}
+use Rattle.code_of.proofs.Operands.{assigned_is, second_is}
+use Rattle.code_of.specs.Rooms.{room_of_last}
 use Rattle.tree_terms.specs.Labels.{Named, names_ahead, names_passed}
-use Rattle.stat_laws.specs.Scoped.{MayAssign, IsNear, TargetsArePlaced, KeptIsPlaced, StoreIsPlaced, AssignIsPlaced, ListIsPlaced, LastIsPlaced, ReturnIsPlaced, StatIsPlaced, ArmsArePlaced, StatsArePlaced, BlockIsPlaced, OpenIsPlaced}
+use Rattle.stat_laws.specs.Scoped.{MayAssign, IsNear, TargetsArePlaced, KeptIsPlaced, StoreIsPlaced, AssignIsPlaced, ListIsPlaced, LastIsPlaced, ReturnIsPlaced, StatIsPlaced, ArmsArePlaced, StatsArePlaced, BlockIsPlaced, OpenIsPlaced, TwoIsPlaced}
 use Rattle.scope_laws.specs.Keeping.{BlockKeeps, StatsKeep, StatKeeps, ArmsKeep}
 use Rattle.scope_laws.specs.Finding.{PlaceIsThere, ExpsFind, BlockFinds, StatsFind, StatFinds, ArmsFind}
 use Rattle.code_bounds.specs.Constants.{ExpsHave, StatHas, ArmsHave, StatsHave, BlockHas}
 use Rattle.code_bounds.specs.Functions.{ExpsMake, StatMakes, ArmsMake, StatsMake, BlockMakes}
-use Rattle.code_bounds.specs.Registers.{TargetsHaveRoom, KeptHasRoom, StoreHasRoom, AssignHasRoom, StatHasRoom, ArmsHaveRoom, StatsHaveRoom, BlockHasRoom}
+use Rattle.code_bounds.specs.Registers.{TargetsHaveRoom, KeptHasRoom, StoreHasRoom, AssignHasRoom, StatHasRoom, ArmsHaveRoom, StatsHaveRoom, BlockHasRoom, TwoHasRoom}
 use Rattle.code_bounds.proofs.Widths.{list_width, targets_width}
 use Rattle.tree_terms.specs.Weight.{weight_of_exps, weight_of_stat, weight_of_arms, weight_of_stats, weight_of_block}
 use Rattle.code_bounds.proofs.Counts.{arguments_weigh}
@@ -96,12 +96,12 @@ module _ (x : Around) where
 
   list_placed :
       (es : Exps) (t j : ℕ) → t + held_behind 0 es ≤ 250 → ExpsFind es x.hidden t x.ups → ExpsHave (constants_of x) es → ExpsMake x.source (functions_of x) es j
-      → t + room_of_list (constants_of x) 0 es None ≤ stack_of x → j + made_in es ≤ x.most → weight_of_exps es ≤ x.heavy → ListIsPlaced x.setting es t j
+      → t + room_of_last (constants_of x) es ≤ stack_of x → j + made_in es ≤ x.most → weight_of_exps es ≤ x.heavy → ListIsPlaced x.setting es t j
   list_placed es t j g f h m s b w = (exps_placed x es t j f h m b w, (s, list_width es t g))
 
   last_placed :
       (es : Exps) (t j : ℕ) → t + held_behind 0 es ≤ 250 → ExpsFind es x.hidden t x.ups → ExpsHave (constants_of x) es → ExpsMake x.source (functions_of x) es j
-      → t + room_of_list (constants_of x) 0 es None ≤ stack_of x → j + made_in es ≤ x.most → weight_of_exps es ≤ x.heavy → LastIsPlaced x.setting es t j
+      → t + room_of_last (constants_of x) es ≤ stack_of x → j + made_in es ≤ x.most → weight_of_exps es ≤ x.heavy → LastIsPlaced x.setting es t j
   last_placed (MoreExps (Call line called es) EndExps) t j g f h m s b w =
       let arguments = arguments_weigh es in (
         exp_placed x called t j f.0.0 h.0.0 m.0.0 (omega (arith, b)) (omega (arith, w)),
@@ -122,7 +122,7 @@ module _ (x : Around) where
 
   pub return_placed :
       (es : Exps) (closing : Bool) (t j : ℕ) → t + held_behind 0 es ≤ 250 → ExpsFind es x.hidden t x.ups → ExpsHave (constants_of x) es → ExpsMake x.source (functions_of x) es j
-      → t + room_of_list (constants_of x) 0 es None ≤ stack_of x → j + made_in es ≤ x.most → weight_of_exps es ≤ x.heavy → ReturnIsPlaced x.setting es closing t j
+      → t + room_of_last (constants_of x) es ≤ stack_of x → j + made_in es ≤ x.most → weight_of_exps es ≤ x.heavy → ReturnIsPlaced x.setting es closing t j
   return_placed es false t j g f h m s b w = last_placed es t j g f h m s b w
   return_placed es true t j g f h m s b w = list_placed es t j g f h m s b w
 
@@ -140,21 +140,31 @@ mutual
   stat_placed x (Assign line targets es) closing t j named loops k g f h m s o c b w = by (assigned targets es) refl s
     where
       by : (local : Option ℕ) → assigned targets es ≡ local → AssignHasRoom (constants_of x) (stack_of x) local targets es t → AssignIsPlaced x.setting local targets es t j
-      by None is s = by_field (stores_field targets es) s
+      by None is s = by_two (second_assigned targets es) refl s
         where
-          by_field : (field : Bool) → StoreHasRoom (constants_of x) (stack_of x) field targets es t → StoreIsPlaced x.setting field targets es t j
-          by_field true s = (
-            exps_placed x targets t j f.0 h.0 m.0 (omega (arith, b)) (omega (arith, w)),
-            (exps_placed x es t (j + made_in targets) f.1 h.1 m.1 (omega (arith, b)) (omega (arith, w)), s),
-          )
-          by_field false s = by_kept (single_store (constants_of x) targets es) s
+          by_two : (local : Option ℕ) → second_assigned targets es ≡ local → TwoHasRoom (constants_of x) (stack_of x) local targets es t → TwoIsPlaced x.setting local targets es t j
+          by_two None is s = by_field (stores_field targets es) s
             where
-              by_kept : (store : Option Coded) → KeptHasRoom (constants_of x) (stack_of x) store targets es t → KeptIsPlaced x.setting store targets es t j
-              by_kept None s = (
-                targets_placed x targets t t j o.0 f.0 h.0 m.0 s.0 (omega (arith, b)) (omega (arith, w)),
-                (exps_placed x es t (j + made_in targets) f.1 h.1 m.1 (omega (arith, b)) (omega (arith, w)), (s.1.0, (s.1.1, targets_width line targets es t g))),
+              by_field : (field : Bool) → StoreHasRoom (constants_of x) (stack_of x) field targets es t → StoreIsPlaced x.setting field targets es t j
+              by_field true s = (
+                exps_placed x targets t j f.0 h.0 m.0 (omega (arith, b)) (omega (arith, w)),
+                (exps_placed x es t (j + made_in targets) f.1 h.1 m.1 (omega (arith, b)) (omega (arith, w)), s),
               )
-              by_kept (Some i) s = (exps_placed x targets t j f.0 h.0 m.0 (omega (arith, b)) (omega (arith, w)), exps_placed x es t (j + made_in targets) f.1 h.1 m.1 (omega (arith, b)) (omega (arith, w)))
+              by_field false s = by_kept (single_store (constants_of x) targets es) s
+                where
+                  by_kept : (store : Option Coded) → KeptHasRoom (constants_of x) (stack_of x) store targets es t → KeptIsPlaced x.setting store targets es t j
+                  by_kept None s = (
+                    targets_placed x targets t t j o.0 f.0 h.0 m.0 s.0 (omega (arith, b)) (omega (arith, w)),
+                    (exps_placed x es t (j + made_in targets) f.1 h.1 m.1 (omega (arith, b)) (omega (arith, w)), (s.1.0, (s.1.1, targets_width line targets es t g))),
+                  )
+                  by_kept (Some i) s = (exps_placed x targets t j f.0 h.0 m.0 (omega (arith, b)) (omega (arith, w)), exps_placed x es t (j + made_in targets) f.1 h.1 m.1 (omega (arith, b)) (omega (arith, w)))
+          by_two (Some r) is s =
+              let form = second_is targets es r is in
+              let both = subst (λ z. ExpsFind z x.hidden t x.ups) form.targets_are f.0 in
+              let found = subst (λ p. PlaceIsThere x.hidden t x.ups p) form.place both.1.0 in (
+                targets_placed x targets t t j o.0 f.0 h.0 m.0 s.0 (omega (arith, b)) (omega (arith, w)),
+                (found.0, (x.sees r found.1, (exps_placed x es t (j + made_in targets) f.1 h.1 m.1 (omega (arith, b)) (omega (arith, w)), s.1))),
+              )
       by (Some r) is s =
           let form = assigned_is targets es r is in
           let target = subst (λ z. ExpsFind z x.hidden t x.ups) form.target f.0 in

@@ -7,6 +7,7 @@ use Rattle.lua_parse.specs.Reading.{Derives}
 use Rattle.scope_core.specs.Places.{placed}
 use Rattle.scope_core.specs.Rules.{violations}
 use Rattle.code_core.specs.declared.proto.Const.{Const}
+use Rattle.code_of.specs.declared.leaving.Leaving.{Leaving}
 use Rattle.code_of.specs.CodeOf.{body_code}
 use Rattle.code_of.specs.Constants.{of_block}
 use Rattle.code_of.specs.Levels.{made_in_block}
@@ -24,7 +25,7 @@ FunctionFits (BodyOf params vararg inner ups line) = CodeFits (BodyOf params var
 
 -- the jumps of a `for` have 17 bits, and lead over its block and two instructions more
 abbrev pub LoopFits : Block → Type 0
-LoopFits block = (constants : List Const) (back : ℕ) (closing : Bool) (outer t j : ℕ) → block_size constants back block closing outer t j + 2 < 2 ^ 17
+LoopFits block = (constants : List Const) (back : Leaving) (closing : Bool) (outer t j : ℕ) → block_size constants back block closing outer t j + 2 < 2 ^ 17
 
 -- of a source that keeps the static rules, among them the limit on the tokens in the block of a `for`
 abbrev pub CodeFitsItsFields : Type 0

@@ -23,15 +23,15 @@ use Rattle.machine_core.specs.Talk.{talk_step, says_so, before, amid}
 use Rattle.list_laws.proofs.Items.{append_nil}
 use Rattle.list_laws.proofs.Values.{nth_write_same, nth_write_other, length_write, write_more}
 use Rattle.code_of.specs.Coded.{Coded}
-use Rattle.code_of.specs.Expressions.{made_in, count, exps_code}
-use Rattle.code_of.specs.Operands.{is_direct, assigned}
-use Rattle.code_of.proofs.Operands.{assigned_is}
-use Rattle.code_of.specs.Parts.{targets_code, store_code, stores_code, direct_code, first_direct, first_field, stored_code, kept_code, store_by, assign_by}
+use Rattle.code_of.specs.Expressions.{made_in, count, exps_code, made_by, exp_code}
+use Rattle.code_of.specs.Operands.{is_direct, assigned, second_assigned}
+use Rattle.code_of.proofs.Operands.{assigned_is, second_is}
+use Rattle.code_of.specs.Parts.{targets_code, store_code, stores_code, direct_code, first_direct, first_field, stored_code, kept_code, store_by, assign_by, target_code, two_code, first_two, two_by}
 use Rattle.code_of.specs.Stores.{FieldKey, stores_field}
 use Rattle.code_of.proofs.Stores.{stores_field_is}
 use Rattle.code_of.specs.Targets.{single_store}
 use Rattle.code_of.proofs.Targets.{single_store_is}
-use Rattle.code_of.specs.Rooms.{room_of_direct, room_of_assigned, room_of_first}
+use Rattle.code_of.specs.Rooms.{room_of_direct, room_of_assigned, room_of_first, room_of, room_of_target, room_of_two}
 use Rattle.exp_laws.proofs.Registers.{Among, none_among, hides_write, Rel, HeldBelow, Ascends}
 use Rattle.exp_laws.specs.Setting.{Hidden, Setting}
 use Rattle.exp_laws.proofs.Talking.{Agree, go_left, go_right, of_tree, of_code}
@@ -40,14 +40,15 @@ use Rattle.exp_laws.specs.Placed.{NameIsPlaced, IsPlaced, ArePlaced}
 use Rattle.exp_laws.proofs.Lists.{Holds}
 use Rattle.exp_laws.proofs.Going.{next_there}
 use Rattle.exp_laws.proofs.Asking.{quick_alike}
-use Rattle.exp_laws.proofs.Exps.{exps_same}
+use Rattle.exp_laws.proofs.Exps.{exps_same, exp_same}
+use Rattle.exp_laws.proofs.Rooms.{room_some}
 use Rattle.exp_laws.proofs.Direct.{direct_same}
 use Rattle.exp_laws.proofs.Steps.{row_step, own_step, go_step, move_step}
 use Rattle.stat_laws.proofs.Standing.{Standing, GoesOn}
 use Rattle.stat_laws.proofs.Blocks.{StatLaw}
-use Rattle.stat_laws.specs.Scoped.{KeptIsPlaced, StoreIsPlaced, AssignIsPlaced}
+use Rattle.stat_laws.specs.Scoped.{KeptIsPlaced, StoreIsPlaced, AssignIsPlaced, IsTarget, TargetsArePlaced, TwoIsPlaced}
 use Rattle.stat_laws.proofs.FieldStores.{field_goes}
-use Rattle.stat_laws.proofs.Targets.{store_to, Stands, stands_still, AllAimed, all_still, aim_goes}
+use Rattle.stat_laws.proofs.Targets.{store_to, Stands, stands_still, AllAimed, all_still, aim_goes, target_aims}
 use Rattle.stat_laws.proofs.GlobalStores.{waiting_goes, local_goes}
 
 pub rel_assigned : (hidden : Hidden) (stack n : ℕ) (v : Value) (ps : List Pending) (env regs : List Value) (c : Captured) → n < length env → (Among n hidden.integers → ⊥) → Rel hidden stack ps env c regs → Rel hidden stack ps (write n v env) c (write n v regs)
@@ -228,6 +229,73 @@ module _ (S : Setting) (back : ℕ) where
       (done n (omega arith) ps (write r (first vs) env1) (write r (first vs) regs1) c1 opened1
       (record { numbered = standing.numbered; size = same ∙ af.size ∙ size; rel = rel_assigned S.hidden S.code.own.stack r (first vs) ps env1 regs1 c1 (omega (arith, low, size, af.size)) other af.rel })))))))))))
 
+  -- two values, of which the second one goes straight to a local's register. The tree stores it first too
+  two_goes : (l : ℕ) (x : Exp) (name : Name) (e d : Exp) (r n t j pc : ℕ) (closed : List ℕ) (ps : List Pending) (env regs : List Value) (c : Captured) (opened : ℕ) (s : State) (k : List Work)
+      → name.place ≡ LocalPlace r → is_direct d ≡ true → n ≤ S.bound → HasAt S pc (two_code S.code.own.constants x e d r t j) → IsTarget S.hidden x → IsPlaced S x t j → t + room_of_target S.code.own.constants x ≤ S.code.own.stack
+      → r < t → (Among r S.hidden.integers → ⊥) → IsPlaced S e t (j + made_by x) → IsPlaced S d t (j + made_by x + made_by e) → t + 2 + room_of S.code.own.constants e 2 ≤ S.code.own.stack → t + 3 + room_of_direct S.code.own.constants d ≤ S.code.own.stack
+      → pc + length (two_code S.code.own.constants x e d r t j) < length S.code.own.code → GoesOn S n t closed complete k (pc + length (two_code S.code.own.constants x e d r t j))
+      → step s ≡ goes_on (tree.at (aim [] (MoreExps x (MoreExps (Var l name) EndExps)) (MoreExps e (MoreExps d EndExps))) (of_tree S ps env c) k) → Standing S t closed ps env c regs → Agree S n s (before (of_code S ps pc regs opened) c)
+  two_goes l x name e d r n t j pc closed ps env regs c opened s k place direct fewer has is_target x_ok x_room low other e_ok d_ok e_room d_room inside done st standing =
+      let size = standing.size in
+      let local = MoreExps (Var l name) EndExps in
+      let es = MoreExps e (MoreExps d EndExps) in
+      let some = room_some S.code.own.constants e in
+      go_left S n s (tree.at (aim [] (MoreExps x local) es) (of_tree S ps env c) k) _ st
+      (target_aims S ps x t t n j pc opened local es [] env regs c k fewer (has_front S pc aims (first_value ++ (second_value ++ last_store)) has) is_target x_ok (omega (arith, inside, sum)) size (omega arith) (omega (arith, e_room, some)) x_room standing.rel
+      (λ y env1 regs1 c1 opened1 af1 aimed.
+      let to = for_assignment (y ∷ to_local r ∷ []) in
+      go_left S n _ (tree.at (aim (y ∷ to_local r ∷ []) EndExps es) (of_tree S ps env1 c1) k) _ (ap (λ p. aims_at_name l name.text p (y ∷ []) EndExps es (of_tree S ps env1 c1) k) place)
+      (go_left S n _ (tree.at (collect to [] es) (of_tree S ps env1 c1) k) _ refl
+      (go_left S n _ (tree.at (evaluate e) (of_tree S ps env1 c1) (listed to [] (MoreExps d EndExps) ∷ k)) _ refl
+      (exp_same S ps e (t + 2) (j + made_by x) n (pc + length aims) opened1 env1 regs1 c1 (listed to [] (MoreExps d EndExps) ∷ k) fewer (has_front S (pc + length aims) first_value (second_value ++ last_store) behind_aims)
+      (subst (λ u. IsPlaced S e u (j + made_by x)) (sym (af1.size ∙ size)) e_ok) (omega (arith, inside, sum)) (omega (arith, size, af1.size)) e_room af1.rel
+      (λ vs env2 regs2 c2 opened2 af2 kept one. go_left S n _ (tree.at (collect to (first vs ∷ []) (MoreExps d EndExps)) (of_tree S ps env2 c2) k) _ refl
+      (go_left S n _ (tree.at (evaluate d) (of_tree S ps env2 c2) (listed to (first vs ∷ []) EndExps ∷ k)) _ refl
+      (direct_same S ps d direct r (t + 3) (j + made_by x + made_by e) n (pc + length aims + length first_value) opened2 env2 regs2 c2 (listed to (first vs ∷ []) EndExps ∷ k) fewer (has_front S (pc + length aims + length first_value) second_value last_store behind_first)
+      (subst (λ u. IsPlaced S d u (j + made_by x + made_by e)) (sym (af2.size ∙ af1.size ∙ size)) d_ok) (omega (arith, inside, sum)) (omega (arith, size, af1.size, af2.size)) (omega (arith, low, size, standing.rel.fits)) d_room af2.rel
+      (λ ws env3 regs3 c3 opened3 af3 given.
+      let sized : length env3 ≡ t = af3.size ∙ af2.size ∙ af1.size ∙ size in
+      let w = first ws in
+      let written = write r w regs3 in
+      let stays : (q : ℕ) → t ≤ q → q < t + 2 → nth written q ≡ nth regs1 q = λ q lo hi.
+      nth_write_other r w regs3 q (λ h. absurd (omega (arith, h, lo, low))) ∙ af3.keeps q (omega (arith, size, af1.size, af2.size, lo)) (omega (arith, hi)) ∙ af2.keeps q (omega (arith, size, af1.size, lo)) hi in
+      let long : length last_store ≡ length (store_to y aimed.key aimed.line t (t + 2)) = ap length (aimed.stores (t + 2)) in
+      subst (λ xs. Agree S n (tree.at (give xs) (of_tree S ps env3 c3) (listed to (first vs ∷ []) EndExps ∷ k)) (before (of_code S ps (pc + length aims + length first_value + length second_value) written opened3) c3)) (sym given)
+      (go_left S n _ (tree.at (collect to (first vs ∷ w ∷ []) EndExps) (of_tree S ps env3 c3) k) _ refl
+      (go_left S n _ (tree.at (store ((to_local r, w) ∷ (y, first vs) ∷ [])) (of_tree S ps env3 c3) k) _ refl
+      (go_left S n _ (tree.at (store ((y, first vs) ∷ [])) (of_tree S ps (write r w env3) c3) k) _ refl
+      (store_one y aimed.key aimed.line t (t + 2) n t (pc + length aims + length first_value + length second_value) closed ps (write r w env3) written c3 opened3 (first vs) [] k
+      (stands_still S.code.own.constants S.hidden y aimed.key t t regs1 written (stays t (omega arith) (omega arith)) (stays (t + 1) (omega arith) (omega arith)) aimed.stands) (omega arith) (omega (arith, e_room, some)) (omega (arith, e_room, some))
+      (subst (HasAt S (pc + length aims + length first_value + length second_value)) (aimed.stores (t + 2)) behind_second) (omega (arith, inside, sum, long))
+      (record { numbered = standing.numbered; size = length_write r w env3 (omega (arith, low, sized)) ∙ sized; rel = rel_assigned S.hidden S.code.own.stack r w ps env3 regs3 c3 (omega (arith, low, sized)) other af3.rel })
+      (nth_write_other r w regs3 (t + 2) (λ h. absurd (omega (arith, h, low))) ∙ af3.keeps (t + 2) (omega (arith, size, af1.size, af2.size)) (omega arith) ∙ kept)
+      (λ env4 regs4 c4 opened4 st4 same. go_left S n _ (tree.at complete (of_tree S ps env4 c4) k) _ refl
+      (subst (λ q. Agree S n (tree.at complete (of_tree S ps env4 c4) k) (before (of_code S ps q regs4 opened4) c4)) (omega (arith, sum, long)) (done n (omega arith) ps env4 regs4 c4 opened4 st4))))))))))))))))
+    where
+      aims : List Coded
+      aims = target_code S.code.own.constants x t j
+
+      first_value : List Coded
+      first_value = exp_code S.code.own.constants e (t + 2) (j + made_by x) 2
+
+      second_value : List Coded
+      second_value = direct_code S.code.own.constants d r (t + 3) (j + made_by x + made_by e)
+
+      last_store : List Coded
+      last_store = store_code S.code.own.constants x t (t + 2)
+
+      behind_aims : HasAt S (pc + length aims) (first_value ++ (second_value ++ last_store))
+      behind_aims = has_back S pc aims (first_value ++ (second_value ++ last_store)) has
+
+      behind_first : HasAt S (pc + length aims + length first_value) (second_value ++ last_store)
+      behind_first = has_back S (pc + length aims) first_value (second_value ++ last_store) behind_aims
+
+      behind_second : HasAt S (pc + length aims + length first_value + length second_value) last_store
+      behind_second = has_back S (pc + length aims + length first_value) second_value last_store behind_first
+
+      sum : length (aims ++ (first_value ++ (second_value ++ last_store))) ≡ length aims + (length first_value + (length second_value + length last_store))
+      sum = let a = length-append aims (first_value ++ (second_value ++ last_store)) in let b = length-append first_value (second_value ++ last_store) in let q = length-append second_value last_store in omega (arith, a, b, q)
+
   pub assign_goes : (line : ℕ) (targets es : Exps) → StatLaw S back (Assign line targets es)
   assign_goes line targets es n closing closed t j pc named loops reach k fewer has placed titles inside under clear plain jumps done ps env regs c opened s st standing =
       by (assigned targets es) refl has placed inside done
@@ -235,47 +303,67 @@ module _ (S : Setting) (back : ℕ) where
       by : (o : Option ℕ) → assigned targets es ≡ o → HasAt S pc (assign_by S.code.own.constants o targets es t j line) → AssignIsPlaced S o targets es t j
           → pc + length (assign_by S.code.own.constants o targets es t j line) < length S.code.own.code → GoesOn S n t closed complete k (pc + length (assign_by S.code.own.constants o targets es t j line))
           → Agree S n s (before (of_code S ps pc regs opened) c)
-      by None is has placed inside done = by_field (stores_field targets es) refl has placed inside done
+      by None is has placed inside done = by_two (second_assigned targets es) refl has placed inside done
         where
-          by_field : (b : Bool) → stores_field targets es ≡ b → HasAt S pc (store_by S.code.own.constants b targets es t j line) → StoreIsPlaced S b targets es t j
-              → pc + length (store_by S.code.own.constants b targets es t j line) < length S.code.own.code → GoesOn S n t closed complete k (pc + length (store_by S.code.own.constants b targets es t j line))
+          by_two : (o : Option ℕ) → second_assigned targets es ≡ o → HasAt S pc (two_by S.code.own.constants o targets es t j line) → TwoIsPlaced S o targets es t j
+              → pc + length (two_by S.code.own.constants o targets es t j line) < length S.code.own.code → GoesOn S n t closed complete k (pc + length (two_by S.code.own.constants o targets es t j line))
               → Agree S n s (before (of_code S ps pc regs opened) c)
-          by_field false is has placed inside done = by_store (single_store S.code.own.constants targets es) refl has placed inside done
+          by_two None is has placed inside done = by_field (stores_field targets es) refl has placed inside done
             where
-              by_store : (o : Option Coded) → single_store S.code.own.constants targets es ≡ o → HasAt S pc (kept_code S.code.own.constants o targets es t j line) → KeptIsPlaced S o targets es t j
-                  → pc + length (kept_code S.code.own.constants o targets es t j line) < length S.code.own.code → GoesOn S n t closed complete k (pc + length (kept_code S.code.own.constants o targets es t j line))
+              by_field : (b : Bool) → stores_field targets es ≡ b → HasAt S pc (store_by S.code.own.constants b targets es t j line) → StoreIsPlaced S b targets es t j
+                  → pc + length (store_by S.code.own.constants b targets es t j line) < length S.code.own.code → GoesOn S n t closed complete k (pc + length (store_by S.code.own.constants b targets es t j line))
                   → Agree S n s (before (of_code S ps pc regs opened) c)
-              by_store None is has placed inside done = stored_goes targets es n t j line pc closed ps env regs c opened s k fewer has placed inside done st standing
-              by_store (Some x) is has placed inside done =
-                  let form = single_store_is S.code.own.constants targets es x is in
+              by_field false is has placed inside done = by_store (single_store S.code.own.constants targets es) refl has placed inside done
+                where
+                  by_store : (o : Option Coded) → single_store S.code.own.constants targets es ≡ o → HasAt S pc (kept_code S.code.own.constants o targets es t j line) → KeptIsPlaced S o targets es t j
+                      → pc + length (kept_code S.code.own.constants o targets es t j line) < length S.code.own.code → GoesOn S n t closed complete k (pc + length (kept_code S.code.own.constants o targets es t j line))
+                      → Agree S n s (before (of_code S ps pc regs opened) c)
+                  by_store None is has placed inside done = stored_goes targets es n t j line pc closed ps env regs c opened s k fewer has placed inside done st standing
+                  by_store (Some x) is has placed inside done =
+                      let form = single_store_is S.code.own.constants targets es x is in
+                      let size = standing.size in
+                      let target = subst (λ z. ArePlaced S z t j) form.target placed.0 in
+                      let value = subst (λ z. ArePlaced S z t (j + made_in targets)) form.values placed.1 in
+                      let whole = MoreExps (Var form.line form.name) EndExps in
+                      let alone = MoreExps form.value EndExps in
+                      go_left S n s (tree.at (aim [] whole alone) (of_tree S ps env c) k) _ (st ∙ ap₂ (λ x y. goes_on (tree.at (aim [] x y) (of_tree S ps env c) k)) form.target form.values)
+                      (local_goes S ps form.line form.name form.value form.constant form.field x t n (j + made_in targets) pc opened env regs c k form.is form.short form.store has (subst (λ m. NameIsPlaced S form.name.place form.name.text m) (sym size) target.0)
+                      (subst (λ m. IsPlaced S form.value m (j + made_in targets)) (sym size) value.0) inside (omega (arith, size)) standing.rel
+                      (λ env1 regs1 c1 o1 af. go_left S n _ (tree.at complete (of_tree S ps env1 c1) k) _ refl
+                      (done n (omega arith) ps env1 regs1 c1 o1 (record { numbered = standing.numbered; size = af.size ∙ size; rel = af.rel }))))
+              by_field true is has placed inside done =
+                  let form = stores_field_is targets es is in
+                  let after = j + made_in targets in
                   let size = standing.size in
                   let target = subst (λ z. ArePlaced S z t j) form.target placed.0 in
-                  let value = subst (λ z. ArePlaced S z t (j + made_in targets)) form.values placed.1 in
-                  let whole = MoreExps (Var form.line form.name) EndExps in
+                  let value = subst (λ z. ArePlaced S z t after) form.values placed.1.0 in
+                  let code = λ (x y : Exps). first_field S.code.own.constants x y t j after in
+                  let whole = MoreExps (Index form.line form.object form.key) EndExps in
                   let alone = MoreExps form.value EndExps in
+                  let same : code targets es ≡ code whole alone = ap₂ code form.target form.values in
+                  let room = ap₂ (λ x y. room_of_first S.code.own.constants x y) form.target form.values in
+                  let long = ap length same in
                   go_left S n s (tree.at (aim [] whole alone) (of_tree S ps env c) k) _ (st ∙ ap₂ (λ x y. goes_on (tree.at (aim [] x y) (of_tree S ps env c) k)) form.target form.values)
-                  (local_goes S ps form.line form.name form.value form.local x t n (j + made_in targets) pc opened env regs c k form.is form.short form.store has (subst (λ m. NameIsPlaced S form.name.place form.name.text m) (sym size) target.0)
-                  (subst (λ m. IsPlaced S form.value m (j + made_in targets)) (sym size) value.0) inside (omega (arith, size)) standing.rel
+                  (field_goes S ps form.line form.object form.key form.value t n j after pc opened env regs c k fewer (subst (HasAt S pc) same has) (subst (λ m. IsPlaced S (Index form.line form.object form.key) m j) (sym size) target.0)
+                  (subst (λ m. IsPlaced S form.value m after) (sym size) value.0) (omega (arith, inside, long)) (omega (arith, size)) (omega (arith, room, placed.1.1)) standing.rel
                   (λ env1 regs1 c1 o1 af. go_left S n _ (tree.at complete (of_tree S ps env1 c1) k) _ refl
-                  (done n (omega arith) ps env1 regs1 c1 o1 (record { numbered = standing.numbered; size = af.size ∙ size; rel = af.rel }))))
-          by_field true is has placed inside done =
-              let form = stores_field_is targets es is in
-              let after = j + made_in targets in
-              let size = standing.size in
-              let target = subst (λ z. ArePlaced S z t j) form.target placed.0 in
-              let value = subst (λ z. ArePlaced S z t after) form.values placed.1.0 in
-              let code = λ (x y : Exps). first_field S.code.own.constants x y t j after in
-              let whole = MoreExps (Index form.line form.object form.key) EndExps in
-              let alone = MoreExps form.value EndExps in
-              let same : code targets es ≡ code whole alone = ap₂ code form.target form.values in
-              let room = ap₂ (λ x y. room_of_first S.code.own.constants x y) form.target form.values in
+                  (subst (λ q. Agree S n (tree.at complete (of_tree S ps env1 c1) k) (before (of_code S ps (pc + q) regs1 o1) c1)) long
+                  (done n (omega arith) ps env1 regs1 c1 o1 (record { numbered = standing.numbered; size = af.size ∙ size; rel = af.rel })))))
+          by_two (Some r) is has placed inside done =
+              let form = second_is targets es r is in
+              let both = MoreExps form.target (MoreExps (Var form.line form.name) EndExps) in
+              let values = MoreExps form.first (MoreExps form.second EndExps) in
+              let code = λ (x y : Exps). first_two S.code.own.constants x y r t j in
+              let same : code targets es ≡ code both values = ap₂ code form.targets_are form.values in
+              let room = ap₂ (λ x y. room_of_two S.code.own.constants x y) form.targets_are form.values in
               let long = ap length same in
-              go_left S n s (tree.at (aim [] whole alone) (of_tree S ps env c) k) _ (st ∙ ap₂ (λ x y. goes_on (tree.at (aim [] x y) (of_tree S ps env c) k)) form.target form.values)
-              (field_goes S ps form.line form.object form.key form.value t n j after pc opened env regs c k fewer (subst (HasAt S pc) same has) (subst (λ m. IsPlaced S (Index form.line form.object form.key) m j) (sym size) target.0)
-              (subst (λ m. IsPlaced S form.value m after) (sym size) value.0) (omega (arith, inside, long)) (omega (arith, size)) (omega (arith, room, placed.1.1)) standing.rel
-              (λ env1 regs1 c1 o1 af. go_left S n _ (tree.at complete (of_tree S ps env1 c1) k) _ refl
-              (subst (λ q. Agree S n (tree.at complete (of_tree S ps env1 c1) k) (before (of_code S ps (pc + q) regs1 o1) c1)) long
-              (done n (omega arith) ps env1 regs1 c1 o1 (record { numbered = standing.numbered; size = af.size ∙ size; rel = af.rel })))))
+              let numbered : j + made_in targets ≡ j + made_by form.target = let all = ap made_in form.targets_are in omega (arith, all) in
+              let target = subst (λ z. TargetsArePlaced S z t t j) form.targets_are placed.0 in
+              let value = subst (λ m. ArePlaced S values t m) numbered (subst (λ z. ArePlaced S z t (j + made_in targets)) form.values placed.1.1.1.0) in
+              two_goes form.line form.target form.name form.first form.second r n t j pc closed ps env regs c opened s k form.place form.direct fewer (subst (HasAt S pc) same has) target.0 target.1.0 target.1.1.0
+              placed.1.0 (none_among r S.hidden.integers placed.1.1.0) value.0 value.1.0 (omega (arith, room, placed.1.1.1.1)) (omega (arith, room, placed.1.1.1.1)) (omega (arith, inside, long))
+              (subst (λ m. GoesOn S n t closed complete k (pc + m)) long done)
+              (st ∙ ap₂ (λ x y. goes_on (tree.at (aim [] x y) (of_tree S ps env c) k)) form.targets_are form.values) standing
       by (Some r) is has placed inside done =
           let form = assigned_is targets es r is in
           let from = j + made_in targets in

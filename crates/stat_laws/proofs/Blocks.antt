@@ -20,6 +20,7 @@ use Rattle.exp_laws.specs.Setting.{Setting}
 use Rattle.exp_laws.proofs.Registers.{AllUnder, under_higher}
 use Rattle.exp_laws.proofs.Talking.{Agree, go_left, of_tree, of_code}
 use Rattle.exp_laws.proofs.Placing.{HasAt, has_front, has_back}
+use Rattle.stat_laws.proofs.Ways.{way}
 use Rattle.stat_laws.proofs.Closing.{AllBelow}
 use Rattle.stat_laws.proofs.Standing.{strong, AllFrom, from_lower, from_more, below_higher, Standing, GoesOn, goes_from}
 use Rattle.code_of.proofs.Sizes.{stat_sized}
@@ -157,9 +158,9 @@ module _ (S : Setting) (back : ℕ) where
   abbrev pub StatLaw : Stat → Type 0
   StatLaw s =
       (n : ℕ) (closing : Bool) (closed : List ℕ) (t j pc : ℕ) (named : List Named) (loops : Bool) (reach : Reach) (k : List Work)
-      → n ≤ S.bound → HasAt S pc (stat_code S.code.own.constants back s closing t j pc reach) → StatIsPlaced S s closing t j named loops → StatIsNamed S.lines S.code back s closing t j pc → pc + stat_size S.code.own.constants back s closing t j < length S.code.own.code
-      → AllBelow closed t → AllUnder S.hidden.integers t → closing ≡ has_some closed → (t ≡ level_after s t → Jumps S back n pc (pc + stat_size S.code.own.constants back s closing t j) t closed named loops reach k)
-      → GoesOn S n (level_after s t) (closed_after s t closed) complete k (pc + stat_size S.code.own.constants back s closing t j)
+      → n ≤ S.bound → HasAt S pc (stat_code S.code.own.constants (way S back) s closing t j pc reach) → StatIsPlaced S s closing t j named loops → StatIsNamed S.lines S.code (way S back) s closing t j pc → pc + stat_size S.code.own.constants (way S back) s closing t j < length S.code.own.code
+      → AllBelow closed t → AllUnder S.hidden.integers t → closing ≡ has_some closed → (t ≡ level_after s t → Jumps S back n pc (pc + stat_size S.code.own.constants (way S back) s closing t j) t closed named loops reach k)
+      → GoesOn S n (level_after s t) (closed_after s t closed) complete k (pc + stat_size S.code.own.constants (way S back) s closing t j)
       → (ps : List Pending) (env regs : List Value) (c : Captured) (opened : ℕ) (st : State) → step st ≡ executes s (of_tree S ps env c) k → Standing S t closed ps env c regs
       → Agree S n st (before (of_code S ps pc regs opened) c)
 
@@ -184,21 +185,21 @@ module _ (S : Setting) (back : ℕ) where
     -- statements at a place of the block
     pub record Within (n lo hi : ℕ) (ss : Stats) (closing : Bool) (closed : List ℕ) (t j pc : ℕ) (labels : List Passed) (entries : List Visible) (names named : List Named) (loops : Bool) (reach : Reach) : Type 0 where
       pub fewer : n ≤ S.bound
-      pub has : HasAt S pc (stats_code S.code.own.constants back ss falls closing outer t j pc entries reach)
+      pub has : HasAt S pc (stats_code S.code.own.constants (way S back) ss falls closing outer t j pc entries reach)
       pub placed : StatsArePlaced S ss falls closing t j names named loops
       pub from : lo ≤ pc
-      pub to : pc + stats_size S.code.own.constants back ss closing t j ≤ hi
+      pub to : pc + stats_size S.code.own.constants (way S back) ss closing t j ≤ hi
       pub inside : hi < length S.code.own.code
       pub jumps : Jumps S back n lo hi outer base named loops reach k
       pub passed : Behind n pc t closed labels entries names
       pub added : Added outer base closed
       pub base_under : AllBelow base outer
       pub clear : AllUnder S.hidden.integers outer
-      pub titles : StatsAreNamed S.lines S.code back ss closing t j pc
+      pub titles : StatsAreNamed S.lines S.code (way S back) ss closing t j pc
       pub under : AllBelow closed t
       pub outer_low : outer ≤ t
       pub known : closing ≡ has_some closed
-      pub ends : Ends n (levels_after ss t) (closeds_after ss t closed) (pc + stats_size S.code.own.constants back ss closing t j)
+      pub ends : Ends n (levels_after ss t) (closeds_after ss t closed) (pc + stats_size S.code.own.constants (way S back) ss closing t j)
 
     abbrev pub StatsLaw : Stats → Type 0
     StatsLaw ss =
@@ -220,17 +221,17 @@ module _ (S : Setting) (back : ℕ) where
 
     -- void statements lead to the end with no code
     void_goes : (n : ℕ) (ss : Stats) (j t pc : ℕ) (closing : Bool) (labels : List Passed) → are_void ss ≡ true
-        → ((labels : List Passed) → Runs n EndStats outer base (pc + stats_size S.code.own.constants back ss closing t j) labels) → Runs n ss outer base pc labels
+        → ((labels : List Passed) → Runs n EndStats outer base (pc + stats_size S.code.own.constants (way S back) ss closing t j) labels) → Runs n ss outer base pc labels
     void_goes n EndStats j t pc closing labels is low = let there : pc + 0 ≡ pc = omega arith in goes_from S n outer base (run (at_point EndStats labels)) k (pc + 0) pc there (low labels)
     void_goes n (MoreStats (Empty l) ss) j t pc closing labels is low =
-        let size = stats_size S.code.own.constants back ss closing t (j + 0) in
+        let size = stats_size S.code.own.constants (way S back) ss closing t (j + 0) in
         let there : pc + (0 + size) ≡ pc + size = omega arith in
         let rest = void_goes n ss (j + 0) t pc closing labels is (λ more. goes_from S n outer base (run (at_point EndStats more)) k (pc + (0 + size)) (pc + size) there (low more)) in
         λ m le ps env regs c opened st.
         go_left S m _ (tree.at complete (of_tree S ps env c) (in_block (length env) (at_point ss labels) ∷ k)) _ refl
         (go_left S m _ (tree.at (run (at_point ss labels)) (of_tree S ps env c) k) _ refl (rest m le ps env regs c opened st))
     void_goes n (MoreStats (Label l name) ss) j t pc closing labels is low =
-        let size = stats_size S.code.own.constants back ss closing t (j + 0) in
+        let size = stats_size S.code.own.constants (way S back) ss closing t (j + 0) in
         let there : pc + (0 + size) ≡ pc + size = omega arith in
         λ m le ps env regs c opened st.
         let passed = passed_by name (length env) ss ∷ labels in
@@ -259,7 +260,7 @@ module _ (S : Setting) (back : ℕ) where
         passed = passed_by name t ss ∷ labels
 
         size : ℕ
-        size = stats_size S.code.own.constants back ss closing t (j + 0)
+        size = stats_size S.code.own.constants (way S back) ss closing t (j + 0)
 
         same : pc + 0 ≡ pc
         same = omega arith
@@ -275,7 +276,7 @@ module _ (S : Setting) (back : ℕ) where
             law m lo hi closing closed t (j + 0) (pc + 0) passed (visible name.text pc t ∷ entries) ((name.text, true) ∷ names) named loops reach
             (record {
               fewer = (let f = w.fewer in omega arith);
-              has = subst (λ q. HasAt S q (stats_code S.code.own.constants back ss falls closing outer t (j + 0) (pc + 0) (visible name.text pc t ∷ entries) reach)) (sym same) w.has;
+              has = subst (λ q. HasAt S q (stats_code S.code.own.constants (way S back) ss falls closing outer t (j + 0) (pc + 0) (visible name.text pc t ∷ entries) reach)) (sym same) w.has;
               placed = w.placed.1;
               from = (let f = w.from in omega arith);
               to = (let f = w.to in omega (arith, f));
@@ -344,28 +345,28 @@ module _ (S : Setting) (back : ℕ) where
     more_goes s ss is stat law n lo hi closing closed t j pc labels entries names named loops reach w = (whole, subst (λ T. T) (sym (all_other S back ending falls outer base k ending_is s n ss closing closed t j pc labels is)) rest.1)
       where
         around : Reach
-        around = record { labels = labels_ahead S.code.own.constants back ss falls (closing_after s closing) outer (level_after s t) (j + made_by_stat s) (pc + stat_size S.code.own.constants back s closing t j) ++ (entries ++ reach.labels); exit = reach.exit }
+        around = record { labels = labels_ahead S.code.own.constants (way S back) ss falls (closing_after s closing) outer (level_after s t) (j + made_by_stat s) (pc + stat_size S.code.own.constants (way S back) s closing t j) ++ (entries ++ reach.labels); exit = reach.exit }
 
-        sized : length (stat_code S.code.own.constants back s closing t j pc around) ≡ stat_size S.code.own.constants back s closing t j
-        sized = stat_sized S.code.own.constants back s closing t j pc around
+        sized : length (stat_code S.code.own.constants (way S back) s closing t j pc around) ≡ stat_size S.code.own.constants (way S back) s closing t j
+        sized = stat_sized S.code.own.constants (way S back) s closing t j pc around
 
         more : Added t closed (closed_after s t closed)
         more = added_by s t closed
 
-        behind_has : HasAt S (pc + stat_size S.code.own.constants back s closing t j) (stats_code S.code.own.constants back ss falls (closing_after s closing) outer (level_after s t) (j + made_by_stat s) (pc + stat_size S.code.own.constants back s closing t j) entries reach)
+        behind_has : HasAt S (pc + stat_size S.code.own.constants (way S back) s closing t j) (stats_code S.code.own.constants (way S back) ss falls (closing_after s closing) outer (level_after s t) (j + made_by_stat s) (pc + stat_size S.code.own.constants (way S back) s closing t j) entries reach)
         behind_has =
-            subst (λ e. HasAt S (pc + stat_size S.code.own.constants back s closing t j) (stats_code S.code.own.constants back ss falls (closing_after s closing) outer (level_after s t) (j + made_by_stat s) (pc + stat_size S.code.own.constants back s closing t j) e reach)) (passed_other s t pc entries is)
-            (subst (λ q. HasAt S (pc + q) (stats_code S.code.own.constants back ss falls (closing_after s closing) outer (level_after s t) (j + made_by_stat s) (pc + stat_size S.code.own.constants back s closing t j) (passed_after s t pc entries) reach)) sized
-            (has_back S pc (stat_code S.code.own.constants back s closing t j pc around) (stats_code S.code.own.constants back ss falls (closing_after s closing) outer (level_after s t) (j + made_by_stat s) (pc + stat_size S.code.own.constants back s closing t j) (passed_after s t pc entries) reach) w.has))
+            subst (λ e. HasAt S (pc + stat_size S.code.own.constants (way S back) s closing t j) (stats_code S.code.own.constants (way S back) ss falls (closing_after s closing) outer (level_after s t) (j + made_by_stat s) (pc + stat_size S.code.own.constants (way S back) s closing t j) e reach)) (passed_other s t pc entries is)
+            (subst (λ q. HasAt S (pc + q) (stats_code S.code.own.constants (way S back) ss falls (closing_after s closing) outer (level_after s t) (j + made_by_stat s) (pc + stat_size S.code.own.constants (way S back) s closing t j) (passed_after s t pc entries) reach)) sized
+            (has_back S pc (stat_code S.code.own.constants (way S back) s closing t j pc around) (stats_code S.code.own.constants (way S back) ss falls (closing_after s closing) outer (level_after s t) (j + made_by_stat s) (pc + stat_size S.code.own.constants (way S back) s closing t j) (passed_after s t pc entries) reach) w.has))
 
-        joined : pc + (stat_size S.code.own.constants back s closing t j + stats_size S.code.own.constants back ss (closing_after s closing) (level_after s t) (j + made_by_stat s))
-            ≡ pc + stat_size S.code.own.constants back s closing t j + stats_size S.code.own.constants back ss (closing_after s closing) (level_after s t) (j + made_by_stat s)
+        joined : pc + (stat_size S.code.own.constants (way S back) s closing t j + stats_size S.code.own.constants (way S back) ss (closing_after s closing) (level_after s t) (j + made_by_stat s))
+            ≡ pc + stat_size S.code.own.constants (way S back) s closing t j + stats_size S.code.own.constants (way S back) ss (closing_after s closing) (level_after s t) (j + made_by_stat s)
         joined = omega arith
 
-        rest : Runs n ss (level_after s t) (closed_after s t closed) (pc + stat_size S.code.own.constants back s closing t j) labels
-            × Ahead n ss (closing_after s closing) (closed_after s t closed) (level_after s t) (j + made_by_stat s) (pc + stat_size S.code.own.constants back s closing t j) labels
+        rest : Runs n ss (level_after s t) (closed_after s t closed) (pc + stat_size S.code.own.constants (way S back) s closing t j) labels
+            × Ahead n ss (closing_after s closing) (closed_after s t closed) (level_after s t) (j + made_by_stat s) (pc + stat_size S.code.own.constants (way S back) s closing t j) labels
         rest =
-            law n lo hi (closing_after s closing) (closed_after s t closed) (level_after s t) (j + made_by_stat s) (pc + stat_size S.code.own.constants back s closing t j) labels entries names named loops reach
+            law n lo hi (closing_after s closing) (closed_after s t closed) (level_after s t) (j + made_by_stat s) (pc + stat_size S.code.own.constants (way S back) s closing t j) labels entries names named loops reach
             (record {
               fewer = w.fewer;
               has = behind_has;
@@ -374,8 +375,8 @@ module _ (S : Setting) (back : ℕ) where
               to = (let f = w.to in omega (arith, f));
               inside = w.inside;
               jumps = w.jumps;
-              passed = subst (λ c. Behind n (pc + stat_size S.code.own.constants back s closing t j) (level_after s t) c labels entries names) (sym more.whole)
-                  (passed_within S back ending falls outer base k ending_is n n pc (pc + stat_size S.code.own.constants back s closing t j) t (level_after s t) closed more.more labels entries names (omega arith) (omega arith) (level_rises s t) more.from w.passed);
+              passed = subst (λ c. Behind n (pc + stat_size S.code.own.constants (way S back) s closing t j) (level_after s t) c labels entries names) (sym more.whole)
+                  (passed_within S back ending falls outer base k ending_is n n pc (pc + stat_size S.code.own.constants (way S back) s closing t j) t (level_after s t) closed more.more labels entries names (omega arith) (omega arith) (level_rises s t) more.from w.passed);
               added = added_then outer t base closed (closed_after s t closed) w.outer_low w.added more;
               base_under = w.base_under;
               clear = w.clear;
@@ -387,20 +388,20 @@ module _ (S : Setting) (back : ℕ) where
             })
 
         jumps_here : (m : ℕ) → m ≤ n → t ≡ level_after s t
-            → Jumps S back m pc (pc + stat_size S.code.own.constants back s closing t j) t closed (names_ahead ss falls t (level_after s t) ++ (names ++ named)) loops around (in_block t (at_point ss labels) ∷ k)
+            → Jumps S back m pc (pc + stat_size S.code.own.constants (way S back) s closing t j) t closed (names_ahead ss falls t (level_after s t) ++ (names ++ named)) loops around (in_block t (at_point ss labels) ∷ k)
         jumps_here m le same =
             let a = w.added in
             let f = w.from in
             let g = w.to in
             let i = w.inside in
-            subst (λ c. Jumps S back m pc (pc + stat_size S.code.own.constants back s closing t j) t c (names_ahead ss falls t (level_after s t) ++ (names ++ named)) loops around (in_block t (at_point ss labels) ∷ k)) (append_nil closed)
-            (jumps_within S back n m pc (pc + stat_size S.code.own.constants back s closing t j) pc (pc + stat_size S.code.own.constants back s closing t j) t t closed [] (names_ahead ss falls t (level_after s t) ++ (names ++ named)) loops around (in_block t (at_point ss labels) ∷ k) le (omega arith) (omega arith) (omega arith) tt
-            (rest_jumps S back ending falls outer base k ending_is n pc (pc + stat_size S.code.own.constants back s closing t j) t (level_after s t) (closing_after s closing) closed (closed_after s t closed) a.more ss (j + made_by_stat s) (pc + stat_size S.code.own.constants back s closing t j) labels entries names named loops reach
+            subst (λ c. Jumps S back m pc (pc + stat_size S.code.own.constants (way S back) s closing t j) t c (names_ahead ss falls t (level_after s t) ++ (names ++ named)) loops around (in_block t (at_point ss labels) ∷ k)) (append_nil closed)
+            (jumps_within S back n m pc (pc + stat_size S.code.own.constants (way S back) s closing t j) pc (pc + stat_size S.code.own.constants (way S back) s closing t j) t t closed [] (names_ahead ss falls t (level_after s t) ++ (names ++ named)) loops around (in_block t (at_point ss labels) ∷ k) le (omega arith) (omega arith) (omega arith) tt
+            (rest_jumps S back ending falls outer base k ending_is n pc (pc + stat_size S.code.own.constants (way S back) s closing t j) t (level_after s t) (closing_after s closing) closed (closed_after s t closed) a.more ss (j + made_by_stat s) (pc + stat_size S.code.own.constants (way S back) s closing t j) labels entries names named loops reach
             a.whole a.from w.base_under w.under w.outer_low same (λ l. level_still s t closed l) (omega arith) (omega arith) rest.1 w.passed
-            (subst (λ b. Jumps S back n pc (pc + stat_size S.code.own.constants back s closing t j) outer b named loops reach k) (append_nil base)
-            (jumps_within S back n n lo hi pc (pc + stat_size S.code.own.constants back s closing t j) outer outer base [] named loops reach k (omega arith) (omega arith) (omega arith) (omega arith) tt w.jumps))))
+            (subst (λ b. Jumps S back n pc (pc + stat_size S.code.own.constants (way S back) s closing t j) outer b named loops reach k) (append_nil base)
+            (jumps_within S back n n lo hi pc (pc + stat_size S.code.own.constants (way S back) s closing t j) outer outer base [] named loops reach k (omega arith) (omega arith) (omega arith) (omega arith) tt w.jumps))))
 
-        done : (m : ℕ) → m ≤ n → GoesOn S m (level_after s t) (closed_after s t closed) complete (in_block t (at_point ss labels) ∷ k) (pc + stat_size S.code.own.constants back s closing t j)
+        done : (m : ℕ) → m ≤ n → GoesOn S m (level_after s t) (closed_after s t closed) complete (in_block t (at_point ss labels) ∷ k) (pc + stat_size S.code.own.constants (way S back) s closing t j)
         done m le l less ps env regs c opened st = go_left S l _ (tree.at (run (at_point ss labels)) (of_tree S ps env c) k) _ refl (rest.0 l (omega arith) ps env regs c opened st)
 
         whole : Runs n (MoreStats s ss) t closed pc labels
@@ -409,6 +410,6 @@ module _ (S : Setting) (back : ℕ) where
             let g = w.to in
             let i = w.inside in
             stat m closing closed t j pc (names_ahead ss falls t (level_after s t) ++ (names ++ named)) loops around (in_block t (at_point ss labels) ∷ k) (let b = w.fewer in omega arith)
-            (has_front S pc (stat_code S.code.own.constants back s closing t j pc around) (stats_code S.code.own.constants back ss falls (closing_after s closing) outer (level_after s t) (j + made_by_stat s) (pc + stat_size S.code.own.constants back s closing t j) (passed_after s t pc entries) reach) w.has)
+            (has_front S pc (stat_code S.code.own.constants (way S back) s closing t j pc around) (stats_code S.code.own.constants (way S back) ss falls (closing_after s closing) outer (level_after s t) (j + made_by_stat s) (pc + stat_size S.code.own.constants (way S back) s closing t j) (passed_after s t pc entries) reach) w.has)
             w.placed.0 w.titles.0 (omega arith) w.under (under_higher S.hidden.integers outer t w.outer_low w.clear) w.known (jumps_here m le) (done m le) ps env regs c opened (tree.at (run (at_point (MoreStats s ss) labels)) (of_tree S ps env c) k)
             (runs_stat s ss (at_point (MoreStats s ss) labels) (of_tree S ps env c) k is ∙ ap (λ u. executes s (of_tree S ps env c) (in_block u (at_point ss labels) ∷ k)) st.size) st

@@ -24,6 +24,7 @@ use Rattle.exp_laws.proofs.Placing.{HasAt, has_front, has_back}
 use Rattle.exp_laws.proofs.Going.{next_there, at_place}
 use Rattle.exp_laws.proofs.Loads.{integer_step}
 use Rattle.exp_laws.proofs.Exps.{exp_same}
+use Rattle.stat_laws.proofs.Ways.{way}
 use Rattle.stat_laws.specs.Scoped.{BoundsArePlaced}
 use Rattle.stat_laws.proofs.Blocks.{StatLaw}
 use Rattle.stat_laws.proofs.Forms.{BlockLaw}
@@ -94,10 +95,10 @@ module _ (S : Setting) (back_field : ℕ) where
       sum = length-append pair one
 
       exit : ℕ
-      exit = pc + (li + (block_size S.code.own.constants back_field block closing (t + 3) (t + 4) (j + made_by from + made_by limit) + 2))
+      exit = pc + (li + (block_size S.code.own.constants (way S back_field) block closing (t + 3) (t + 4) (j + made_by from + made_by limit) + 2))
 
       inner : List Coded
-      inner = block_code S.code.own.constants back_field block closing (t + 3) (t + 4) (j + made_by from + made_by limit) (pc + li + 1) (in_loop reach exit t)
+      inner = block_code S.code.own.constants (way S back_field) block closing (t + 3) (t + 4) (j + made_by from + made_by limit) (pc + li + 1) (in_loop reach exit t)
 
       behind : List Coded
       behind = with_abx ForPrep t (length inner) line ∷ (inner ++ with_abx ForLoop t (length inner + 1) line ∷ [])
@@ -157,10 +158,10 @@ module _ (S : Setting) (back_field : ℕ) where
       sum = length-append pair one
 
       exit : ℕ
-      exit = pc + (li + (block_size S.code.own.constants back_field block closing (t + 3) (t + 4) (j + made_by from + made_by limit + made_by by) + 2))
+      exit = pc + (li + (block_size S.code.own.constants (way S back_field) block closing (t + 3) (t + 4) (j + made_by from + made_by limit + made_by by) + 2))
 
       inner : List Coded
-      inner = block_code S.code.own.constants back_field block closing (t + 3) (t + 4) (j + made_by from + made_by limit + made_by by) (pc + li + 1) (in_loop reach exit t)
+      inner = block_code S.code.own.constants (way S back_field) block closing (t + 3) (t + 4) (j + made_by from + made_by limit + made_by by) (pc + li + 1) (in_loop reach exit t)
 
       behind : List Coded
       behind = with_abx ForPrep t (length inner) line ∷ (inner ++ with_abx ForLoop t (length inner + 1) line ∷ [])

@@ -1,12 +1,13 @@
 -- Bodies that the law covers, so that its premise is no empty one.
-use Rattle.std.proofs.Common.{ℕ, List, lit<, lit≤, true, [], ◌∷◌, Option, Some, refl, arith}
+use Rattle.std.proofs.Common.{ℕ, ◌+◌, ◌<◌, ◌^◌, Bool, false, List, lit<, lit≤, true, [], ◌∷◌, Option, Some, refl, arith}
 use Rattle.std.specs.Prelude.{codes}
 use Rattle.code_core.specs.Opcode.{opcodes, number_of}
 use Rattle.tree_core.specs.declared.name.Place.TheVariants.{Local as LocalPlace}
-use Rattle.tree_core.specs.Tree.{Body, Index, LocalFunction, Do, While, Repeat, NumFor, NumForStep, GenFor, Label, Goto, Break, EndExps, MoreExps}
+use Rattle.tree_core.specs.Tree.{Block, Body, Index, LocalFunction, Do, While, Repeat, NumFor, NumForStep, GenFor, Label, Goto, Break, EndExps, MoreExps}
 use Rattle.code_means.specs.Means.{Means}
 use Rattle.tree_terms.proofs.Forms.{name, no_variable, of_local, loc, outer, int, call, block, returning, loc_is, locals, closed, assigns, assign, global, when, fun, function, does}
 use Rattle.code_of.specs.CodeOf.{code_of}
+use Rattle.code_of.specs.Sizes.{block_size}
 use Rattle.stat_laws.specs.Fits.{BodyFits}
 use Rattle.stat_laws.proofs.Whole.{means}
 
@@ -71,7 +72,7 @@ this_fits = (
             (
               (lit< tt, (lit≤ tt, ((refl, tt), tt))),
               (
-                (record { prototype = code_of source gives_x; there = refl; near = lit< tt; upvalues = refl; alike = λ n lt. absurd (omega arith) }, (((λ e. (lit< tt, (tt, tt))), tt), lit< tt)),
+                (record { prototype = code_of source gives_x; there = refl; near = lit< tt; upvalues = refl; alike = λ n lt. absurd (omega arith) }, (((λ e. (lit< tt, (tt, (tt, refl)))), tt), lit< tt)),
                 tt,
               ),
             ),
@@ -190,6 +191,17 @@ counts_up = fun ("f" ∷ []) [] (block (
     NumFor 1 (name "k" (LocalPlace 8)) (int 1) (loc "i" 4) (block (when (call (loc "f" 0) (loc "k" 8 ∷ [])) (Break 1 ∷ []) ∷ [])) ∷ []))
     ∷ []))
 
+-- how long a jump is hangs on whether the function makes functions
+either_way : (P : Bool → Type 0) → P true → P false → (b : Bool) → P b
+either_way P x y true = x
+either_way P x y false = y
+
+abbrev inner_rounds : Block
+inner_rounds = block (when (call (loc "f" 0) (loc "k" 8 ∷ [])) (Break 1 ∷ []) ∷ [])
+
+abbrev outer_rounds : Block
+outer_rounds = block (NumFor 1 (name "k" (LocalPlace 8)) (int 1) (loc "i" 4) (block (when (call (loc "f" 0) (loc "k" 8 ∷ [])) (Break 1 ∷ []) ∷ [])) ∷ [])
+
 up_fits : BodyFits source counts_up
 unfolding opcodes number_of
 up_fits = (
@@ -204,11 +216,11 @@ up_fits = (
           (
             lit≤ tt,
             (
-              (λ back. lit< tt),
+              (λ back. either_way (λ closes. block_size (code_of source counts_up).own.constants (record { back = back.back; closes = closes }) outer_rounds false 4 5 0 + 2 < 2 ^ 17) (lit< tt) (lit< tt) back.closes),
               (
                 (
                   ((λ e. absurd (cc)), (lit≤ tt, (lit< tt, lit≤ tt))),
-                  (lit≤ tt, ((λ back. lit< tt), (((lit< tt, (lit< tt, tt)), (lit≤ tt, ((refl, tt), tt))), tt))),
+                  (lit≤ tt, ((λ back. either_way (λ closes. block_size (code_of source counts_up).own.constants (record { back = back.back; closes = closes }) inner_rounds false 8 9 0 + 2 < 2 ^ 17) (lit< tt) (lit< tt) back.closes), (((lit< tt, (lit< tt, tt)), (lit≤ tt, ((refl, tt), tt))), tt))),
                 ),
                 tt,
               ),
@@ -266,7 +278,7 @@ down_fits = (
                           (
                             (
                               record { prototype = code_of source gives_i; there = refl; near = lit< tt; upvalues = refl; alike = λ n lt. absurd (omega arith) },
-                              ((λ e. (lit< tt, (((λ d. omega (arith, d)), ((λ d. omega (arith, d)), ((λ d. omega (arith, d)), tt))), tt))), tt),
+                              ((λ e. (lit< tt, (((λ d. omega (arith, d)), ((λ d. omega (arith, d)), ((λ d. omega (arith, d)), tt))), (tt, refl)))), tt),
                             ),
                             tt,
                           ),

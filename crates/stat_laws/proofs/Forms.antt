@@ -1,7 +1,7 @@
 -- Blocks, and the statements that have some: `do`, `if` and `while`.
 use Rattle.std.proofs.Common.{◌≡◌, ℕ, zero, suc, ◌+◌, ◌<◌, ◌≤◌, Bool, true, false, cond, List, [], ◌∷◌, ◌++◌, length, Option, Some, None, refl, sym, ap, subst, ◌∙◌, arith, append_assoc}
 use Rattle.std.proofs.lemmas.List.{length-map}
-use Rattle.std.specs.Prelude.{nat_eq, nat_lt}
+use Rattle.std.specs.Prelude.{nat_eq, nat_lt, ◌||◌}
 use Rattle.int_core.specs.Value.{Value, known, nil, shape, holds}
 use Rattle.int_core.specs.Ask.{Captured}
 use Rattle.tree_core.specs.Tree.{Block, Falls, Stats, EndStats, Empty, Do, While, If, IfElse, Label, Goto, Break, Arms, EndArms, MoreArms, Exp}
@@ -26,20 +26,21 @@ use Rattle.exp_laws.specs.Setting.{Hidden, Setting, with_scope, scoped}
 use Rattle.exp_laws.proofs.Talking.{Agree, go_left, go_right, of_tree, of_code}
 use Rattle.exp_laws.proofs.Placing.{HasAt, has_front, has_back}
 use Rattle.exp_laws.specs.Placed.{IsPlaced}
-use Rattle.exp_laws.proofs.Conditions.{TestSame, truth_is}
+use Rattle.exp_laws.proofs.TestForms.{TestSame, truth_is}
 use Rattle.exp_laws.proofs.Going.{next_there}
 use Rattle.exp_laws.proofs.Tests.{jump_step}
 use Rattle.tree_activation.specs.Activation.{step}
+use Rattle.stat_laws.proofs.Ways.{way}
 use Rattle.stat_laws.proofs.Closing.{AllBelow, NothingHeld, nothing_held, ends_goes}
-use Rattle.stat_laws.proofs.Standing.{strong, numbers, AllFrom, from_lower, from_more, Parted, part, ascends_under, Standing, GoesOn, goes_fewer, goes_from, back_goes, lands_ahead, below_higher}
+use Rattle.stat_laws.proofs.Standing.{NoneOpen, no_numbers, strong, numbers, AllFrom, from_lower, from_more, Parted, part, ascends_under, Standing, GoesOn, goes_fewer, goes_from, back_goes, lands_ahead, below_higher}
 use Rattle.stat_laws.proofs.Naming.{BlockIsNamed, ArmsAreNamed}
 use Rattle.tree_terms.specs.Labels.{Named}
 use Rattle.stat_laws.specs.Scoped.{ArmsArePlaced, StatsArePlaced, BlockIsPlaced}
 use Rattle.stat_laws.proofs.Hiding.{low_there, rel_unscoped, rel_scoped, has_inner, jumps_inner}
-use Rattle.stat_laws.proofs.Scoping.{second_false, none_made, unmarked_after, stats_scoped}
+use Rattle.stat_laws.proofs.Scoping.{first_false, second_false, none_made, unmarked_after, stats_scoped}
 use Rattle.code_of.proofs.Sizes.{test_sized, past_sized, block_sized, arms_sized, stats_sized}
 use Rattle.stat_laws.proofs.Labels.{Jumps, jumps_within}
-use Rattle.stat_laws.proofs.Blocks.{has_some, Added, added_all, added_none, closeds_after, StatLaw, StatsLaw}
+use Rattle.stat_laws.proofs.Blocks.{has_some, no_some, Added, added_all, added_none, closeds_after, StatLaw, StatsLaw}
 use Rattle.tree_terms.proofs.Levels.{levels_rise}
 
 module _ (S : Setting) where
@@ -57,21 +58,21 @@ module _ (S : Setting) where
       (subst (λ q. Agree S n s (before (of_code S ps q regs opened) c)) (sym far) h)
 
   -- what stands behind the arms of an `if`
-  arms_behind : (back : ℕ) (arms : Arms) (code : List Coded) (closing : Bool) (t j pc line : ℕ) (reach : Reach) → HasAt S pc (arms_code S.code.own.constants back arms code closing t j pc line reach)
-      → HasAt S (pc + arms_size S.code.own.constants back arms (length code) closing t j) code
+  arms_behind : (back : ℕ) (arms : Arms) (code : List Coded) (closing : Bool) (t j pc line : ℕ) (reach : Reach) → HasAt S pc (arms_code S.code.own.constants (way S back) arms code closing t j pc line reach)
+      → HasAt S (pc + arms_size S.code.own.constants (way S back) arms (length code) closing t j) code
   arms_behind back EndArms code closing t j pc line reach has = let there : pc ≡ pc + 0 = omega arith in subst (λ q. HasAt S q code) there has
   arms_behind back (MoreArms e block arms) code closing t j pc line reach has =
       let cs = S.code.own.constants in
       let i = j + made_by e + made_in_block block in
       let lt = length (test_code cs e true 0 t j) in
-      let lb = block_size cs back block closing t t (j + made_by e) in
-      let lo = arms_size cs back arms (length code) closing t i in
+      let lb = block_size cs (way S back) block closing t t (j + made_by e) in
+      let lo = arms_size cs (way S back) arms (length code) closing t i in
       let skip = past_size (lo + length code) in
-      let inner = block_code cs back block closing t t (j + made_by e) (pc + lt) reach in
-      let rest = arms_code cs back arms code closing t i (pc + lt + lb + skip) line reach in
+      let inner = block_code cs (way S back) block closing t t (j + made_by e) (pc + lt) reach in
+      let rest = arms_code cs (way S back) arms code closing t i (pc + lt + lb + skip) line reach in
       let test = test_code cs e true (length inner + length (past rest line)) t j in
-      let a = block_sized cs back block closing t t (j + made_by e) (pc + lt) reach in
-      let b = arms_sized cs back arms code closing t i (pc + lt + lb + skip) line reach in
+      let a = block_sized cs (way S back) block closing t t (j + made_by e) (pc + lt) reach in
+      let b = arms_sized cs (way S back) arms code closing t i (pc + lt + lb + skip) line reach in
       let d = past_sized rest line ∙ ap past_size b in
       let l = test_sized cs e true (length inner + length (past rest line)) t j in
       let at_both = has_back S pc test (inner ++ (past rest line ++ rest)) has in
@@ -85,10 +86,10 @@ module _ (S : Setting) where
     abbrev pub BlockLaw : Block → Type 0
     BlockLaw block =
         (n : ℕ) (closing : Bool) (closed : List ℕ) (outer t j pc : ℕ) (named : List Named) (loops : Bool) (reach : Reach) (k : List Work)
-        → n ≤ S.bound → HasAt S pc (block_code S.code.own.constants back block closing outer t j pc reach) → BlockIsPlaced S block closing t j named loops
-        → BlockIsNamed S.lines S.code back block closing outer t j pc → pc + block_size S.code.own.constants back block closing outer t j < length S.code.own.code → AllBelow closed outer → AllUnder S.hidden.integers outer → outer ≤ t → closing ≡ has_some closed
-        → Jumps S back n pc (pc + block_size S.code.own.constants back block closing outer t j) outer closed named loops reach k
-        → GoesOn S n outer closed complete k (pc + block_size S.code.own.constants back block closing outer t j)
+        → n ≤ S.bound → HasAt S pc (block_code S.code.own.constants (way S back) block closing outer t j pc reach) → BlockIsPlaced S block closing t j named loops
+        → BlockIsNamed S.lines S.code (way S back) block closing outer t j pc → pc + block_size S.code.own.constants (way S back) block closing outer t j < length S.code.own.code → AllBelow closed outer → AllUnder S.hidden.integers outer → outer ≤ t → closing ≡ has_some closed
+        → Jumps S back n pc (pc + block_size S.code.own.constants (way S back) block closing outer t j) outer closed named loops reach k
+        → GoesOn S n outer closed complete k (pc + block_size S.code.own.constants (way S back) block closing outer t j)
         → (m : ℕ) → m ≤ n → (ps : List Pending) (env regs : List Value) (c : Captured) (opened : ℕ) → Standing S t closed ps env c regs → HeldBelow c.held outer
         → Agree S m (tree.at (run (point_of block outer)) (of_tree S ps env c) k) (before (of_code S ps pc regs opened) c)
 
@@ -98,14 +99,14 @@ module _ (S : Setting) where
     -- a block that falls off its end
     pub falls_goes : (ss : Stats) (tokens line : ℕ) → ((outer : ℕ) (closed : List ℕ) (k : List Work) → StatsLaw (scoped S (may_hold ss) outer) back (falls_off line) true outer closed k (λ ss. refl) ss) → BlockLaw (Falls ss tokens line)
     falls_goes ss tokens line law n closing closed outer t j pc named loops reach k fewer has placed titles inside under clear outer_low plain jumps done m le ps env regs c opened st below =
-        (law outer closed k n pc (pc + block_size S.code.own.constants back (Falls ss tokens line) closing outer t j) closing closed t j pc [] [] [] named loops reach (record {
+        (law outer closed k n pc (pc + block_size S.code.own.constants (way S back) (Falls ss tokens line) closing outer t j) closing closed t j pc [] [] [] named loops reach (record {
           fewer = fewer;
           has = has_inner S within pc code (has_front S pc code close has);
           placed = placed_within;
           from = omega arith;
           to = omega arith;
           inside = inside;
-          jumps = jumps_inner S within out back n pc (pc + block_size S.code.own.constants back (Falls ss tokens line) closing outer t j) outer closed named loops reach k jumps;
+          jumps = jumps_inner S within out back n pc (pc + block_size S.code.own.constants (way S back) (Falls ss tokens line) closing outer t j) outer closed named loops reach k jumps;
           passed = tt;
           added = added_none outer closed;
           base_under = under;
@@ -125,19 +126,19 @@ module _ (S : Setting) where
 
         -- no function is made in the scope, where none of its locals may be captured
         placed_within : StatsArePlaced (scoped S (may_hold ss) outer) ss true closing t j [] named loops
-        placed_within = stats_scoped (may_hold ss) outer S ss true closing t j [] named loops placed (none_made ss)
+        placed_within = stats_scoped (may_hold ss) outer false S ss true closing t j [] named loops placed (none_made ss)
 
         code : List Coded
-        code = stats_code S.code.own.constants back ss true closing outer t j pc [] reach
+        code = stats_code S.code.own.constants (way S back) ss true closing outer t j pc [] reach
 
         close : List Coded
         close = close_code outer (closed_below ss outer t) line
 
         size : ℕ
-        size = stats_size S.code.own.constants back ss closing t j
+        size = stats_size S.code.own.constants (way S back) ss closing t j
 
         at_end : HasAt S (pc + size) close
-        at_end = subst (λ q. HasAt S (pc + q) close) (stats_sized S.code.own.constants back ss true closing outer t j pc [] reach) (has_back S pc code close has)
+        at_end = subst (λ q. HasAt S (pc + q) close) (stats_sized S.code.own.constants (way S back) ss true closing outer t j pc [] reach) (has_back S pc code close has)
 
         all : Added t closed (closeds_after ss t closed)
         all = added_all ss t closed
@@ -185,17 +186,21 @@ module _ (S : Setting) where
         (subst (λ u. Agree S n (tree.at (run (point_of block u)) (of_tree S ps env c) k) (before (of_code S ps pc regs opened) c)) (sym standing.size)
         (law n closing closed t t j pc named loops reach k fewer has placed titles inside under clear (omega arith) plain (jumps refl) done n (omega arith) ps env regs c opened standing (subst (HeldBelow c.held) standing.size standing.rel.held)))
 
-    -- jumps
+    -- jumps: where no local of the function has a cell and no variable is to be closed, nothing is open
+
+    none_open : (closing : Bool) (closed : List ℕ) (ps : List Pending) (env : List Value) (c : Captured) (regs : List Value) {t : ℕ} → closing ≡ has_some closed → Standing S t closed ps env c regs → (S.hidden.celled || closing) ≡ false → NoneOpen S ps c
+    none_open closing closed ps env c regs plain standing e =
+        (no_numbers ps (standing.numbered ∙ no_some closed (sym plain ∙ second_false S.hidden.celled closing e)), standing.rel.hides.bare (first_false S.hidden.celled closing e))
 
     pub goto_goes : (line : ℕ) (name : _) → StatLaw S back (Goto line name)
     goto_goes line name n closing closed t j pc named loops reach k fewer has placed titles inside under clear plain jumps done ps env regs c opened s st standing =
         let size = standing.size in
-        (jumps refl).gotos name.text placed n line pc ps env regs c opened [] s (omega arith) has (omega arith) (omega arith) (standing.numbered ∙ sym (append_nil closed)) tt (omega arith) standing.rel st
+        (jumps refl).gotos name.text placed n line pc ps env regs c opened [] s (omega arith) (S.hidden.celled || closing) (none_open closing closed ps env c regs plain standing) has (omega arith) (omega arith) (standing.numbered ∙ sym (append_nil closed)) tt (omega arith) standing.rel st
 
     pub break_goes : (line : ℕ) → StatLaw S back (Break line)
     break_goes line n closing closed t j pc named loops reach k fewer has placed titles inside under clear plain jumps done ps env regs c opened s st standing =
         let size = standing.size in
-        (jumps refl).exits placed n line pc ps env regs c opened [] s (omega arith) has (omega arith) (omega arith) (standing.numbered ∙ sym (append_nil closed)) tt (omega arith) standing.rel st
+        (jumps refl).exits placed n line pc ps env regs c opened [] s (omega arith) (S.hidden.celled || closing) (none_open closing closed ps env c regs plain standing) has (omega arith) (omega arith) (standing.numbered ∙ sym (append_nil closed)) tt (omega arith) standing.rel st
 
     pub empty_stat_goes : (line : ℕ) → StatLaw S back (Empty line)
     empty_stat_goes line n closing closed t j pc named loops reach k fewer has placed titles inside under clear plain jumps done ps env regs c opened s st standing =
@@ -215,11 +220,11 @@ module _ (S : Setting) where
     loop_jumps w n lo hi lo' hi' t outer exit closed extra named loops reach k passes ends a b far inside low from under jumps done =
         let within = jumps_within S back n n lo hi lo' hi' t outer closed extra named loops reach k (omega arith) a b low from jumps in
         record {
-          gotos = λ name ok m line pc ps env regs c opened more s fewer has above below numbered up size rel st.
-              within.gotos name ok m line pc ps env regs c opened more s fewer has above below numbered up size rel (st ∙ passes name line (of_tree S ps env c));
-          exits = λ ok m line pc ps env regs c opened more s fewer has above below numbered up size rel st.
-              lands_ahead S m (record { place = exit; level = t }) closed pc line ps env regs c opened s k has (omega arith) inside (extra ++ more) (numbered ∙ append_assoc closed extra more)
-              (from_more t extra more from (from_lower t outer more low up)) under (omega arith) rel complete (omega arith) (st ∙ ends line (of_tree S ps env c)) (goes_fewer S m n t closed complete k exit fewer done);
+          gotos = λ name ok m line pc ps env regs c opened more s fewer closes shut has above below numbered up size rel st.
+              within.gotos name ok m line pc ps env regs c opened more s fewer closes shut has above below numbered up size rel (st ∙ passes name line (of_tree S ps env c));
+          exits = λ ok m line pc ps env regs c opened more s fewer closes shut has above below numbered up size rel st.
+              lands_ahead S m (record { place = exit; level = t }) closed pc line ps env regs c opened s k inside (extra ++ more) (numbered ∙ append_assoc closed extra more)
+              (from_more t extra more from (from_lower t outer more low up)) under (omega arith) rel closes shut has (omega arith) complete (omega arith) (st ∙ ends line (of_tree S ps env c)) (goes_fewer S m n t closed complete k exit fewer done);
         }
 
     module _ (tests : TestLaw) where
@@ -232,7 +237,7 @@ module _ (S : Setting) where
           lt = length (test_code S.code.own.constants e true 0 t j)
 
           lb : ℕ
-          lb = block_size S.code.own.constants back block closing t t (j + made_by e)
+          lb = block_size S.code.own.constants (way S back) block closing t t (j + made_by e)
 
           exit : ℕ
           exit = pc + (lt + (lb + 1))
@@ -241,10 +246,10 @@ module _ (S : Setting) where
           around = in_loop reach (pc + (lt + (lb + 1))) t
 
           inner : List Coded
-          inner = block_code S.code.own.constants back block closing t t (j + made_by e) (pc + lt) around
+          inner = block_code S.code.own.constants (way S back) block closing t t (j + made_by e) (pc + lt) around
 
           sized : length inner ≡ lb
-          sized = block_sized S.code.own.constants back block closing t t (j + made_by e) (pc + lt) around
+          sized = block_sized S.code.own.constants (way S back) block closing t t (j + made_by e) (pc + lt) around
 
           test : List Coded
           test = test_code S.code.own.constants e true (length inner + 1) t j
@@ -307,11 +312,11 @@ module _ (S : Setting) where
       abbrev pub ArmsLaw : Arms → Type 0
       ArmsLaw arms =
           (otherwise : Option Block) (code : List Coded) (n : ℕ) (closing : Bool) (closed : List ℕ) (t j pc line : ℕ) (named : List Named) (loops : Bool) (reach : Reach) (k : List Work)
-          → n ≤ S.bound → HasAt S pc (arms_code S.code.own.constants back arms code closing t j pc line reach) → ArmsArePlaced S arms closing t j named loops
-          → ArmsAreNamed S.lines S.code back arms (length code) closing t j pc → pc + (arms_size S.code.own.constants back arms (length code) closing t j + length code) < length S.code.own.code → AllBelow closed t → AllUnder S.hidden.integers t → closing ≡ has_some closed
-          → Jumps S back n pc (pc + (arms_size S.code.own.constants back arms (length code) closing t j + length code)) t closed named loops reach k
-          → GoesOn S n t closed complete k (pc + (arms_size S.code.own.constants back arms (length code) closing t j + length code))
-          → GoesOn S n t closed (choose EndArms otherwise) k (pc + arms_size S.code.own.constants back arms (length code) closing t j)
+          → n ≤ S.bound → HasAt S pc (arms_code S.code.own.constants (way S back) arms code closing t j pc line reach) → ArmsArePlaced S arms closing t j named loops
+          → ArmsAreNamed S.lines S.code (way S back) arms (length code) closing t j pc → pc + (arms_size S.code.own.constants (way S back) arms (length code) closing t j + length code) < length S.code.own.code → AllBelow closed t → AllUnder S.hidden.integers t → closing ≡ has_some closed
+          → Jumps S back n pc (pc + (arms_size S.code.own.constants (way S back) arms (length code) closing t j + length code)) t closed named loops reach k
+          → GoesOn S n t closed complete k (pc + (arms_size S.code.own.constants (way S back) arms (length code) closing t j + length code))
+          → GoesOn S n t closed (choose EndArms otherwise) k (pc + arms_size S.code.own.constants (way S back) arms (length code) closing t j)
           → GoesOn S n t closed (choose arms otherwise) k pc
 
       pub no_arms_goes : ArmsLaw EndArms
@@ -350,19 +355,19 @@ module _ (S : Setting) where
           lt = length (test_code S.code.own.constants e true 0 t j)
 
           lb : ℕ
-          lb = block_size S.code.own.constants back block closing t t (j + made_by e)
+          lb = block_size S.code.own.constants (way S back) block closing t t (j + made_by e)
 
           lo : ℕ
-          lo = arms_size S.code.own.constants back arms (length code) closing t (j + made_by e + made_in_block block)
+          lo = arms_size S.code.own.constants (way S back) arms (length code) closing t (j + made_by e + made_in_block block)
 
           skip : ℕ
-          skip = past_size (arms_size S.code.own.constants back arms (length code) closing t (j + made_by e + made_in_block block) + length code)
+          skip = past_size (arms_size S.code.own.constants (way S back) arms (length code) closing t (j + made_by e + made_in_block block) + length code)
 
           inner : List Coded
-          inner = block_code S.code.own.constants back block closing t t (j + made_by e) (pc + lt) reach
+          inner = block_code S.code.own.constants (way S back) block closing t t (j + made_by e) (pc + lt) reach
 
           rest : List Coded
-          rest = arms_code S.code.own.constants back arms code closing t (j + made_by e + made_in_block block) (pc + lt + lb + skip) line reach
+          rest = arms_code S.code.own.constants (way S back) arms code closing t (j + made_by e + made_in_block block) (pc + lt + lb + skip) line reach
 
           test : List Coded
           test = test_code S.code.own.constants e true (length inner + length (past rest line)) t j
@@ -371,10 +376,10 @@ module _ (S : Setting) where
           tested = test_sized S.code.own.constants e true (length inner + length (past rest line)) t j
 
           inner_sized : length inner ≡ lb
-          inner_sized = block_sized S.code.own.constants back block closing t t (j + made_by e) (pc + lt) reach
+          inner_sized = block_sized S.code.own.constants (way S back) block closing t t (j + made_by e) (pc + lt) reach
 
           rest_sized : length rest ≡ lo + length code
-          rest_sized = arms_sized S.code.own.constants back arms code closing t (j + made_by e + made_in_block block) (pc + lt + lb + skip) line reach
+          rest_sized = arms_sized S.code.own.constants (way S back) arms code closing t (j + made_by e + made_in_block block) (pc + lt + lb + skip) line reach
 
           skip_sized : length (past rest line) ≡ skip
           skip_sized = past_sized rest line ∙ ap past_size rest_sized
@@ -415,7 +420,7 @@ module _ (S : Setting) where
 
       pub if_goes : (line : ℕ) (arms : Arms) → ArmsLaw arms → StatLaw S back (If line arms)
       if_goes line arms law n closing closed t j pc named loops reach k fewer has placed titles inside under clear plain jumps done ps env regs c opened s st standing =
-          let size = arms_size S.code.own.constants back arms 0 closing t j in
+          let size = arms_size S.code.own.constants (way S back) arms 0 closing t j in
           let none : pc + size ≡ pc + (size + 0) = omega arith in
           let done' = goes_from S n t closed complete k (pc + size) (pc + (size + 0)) none done in
           go_left S n s (tree.at (choose arms None) (of_tree S ps env c) k) _ st
@@ -426,26 +431,26 @@ module _ (S : Setting) where
       pub if_else_goes : (line : ℕ) (arms : Arms) (block : Block) → ArmsLaw arms → BlockLaw block → StatLaw S back (IfElse line arms block)
       if_else_goes line arms block law last n closing closed t j pc named loops reach k fewer has placed titles inside under clear plain jumps done ps env regs c opened s st standing =
           go_left S n s (tree.at (choose arms (Some block)) (of_tree S ps env c) k) _ st
-          (law (Some block) code n closing closed t j pc line named loops reach k fewer has placed.0 (subst (λ m. ArmsAreNamed S.lines S.code back arms m closing t j pc) (sym sized) titles.0) (subst (λ m. pc + (arms_size S.code.own.constants back arms m closing t j + m) < length S.code.own.code) (sym sized) inside) under clear plain
-          (subst (λ m. Jumps S back n pc (pc + (arms_size S.code.own.constants back arms m closing t j + m)) t closed named loops reach k) (sym sized) (jumps refl))
-          (subst (λ m. GoesOn S n t closed complete k (pc + (arms_size S.code.own.constants back arms m closing t j + m))) (sym sized) done)
-          (subst (λ m. GoesOn S n t closed (choose EndArms (Some block)) k (pc + arms_size S.code.own.constants back arms m closing t j)) (sym sized) others)
+          (law (Some block) code n closing closed t j pc line named loops reach k fewer has placed.0 (subst (λ m. ArmsAreNamed S.lines S.code (way S back) arms m closing t j pc) (sym sized) titles.0) (subst (λ m. pc + (arms_size S.code.own.constants (way S back) arms m closing t j + m) < length S.code.own.code) (sym sized) inside) under clear plain
+          (subst (λ m. Jumps S back n pc (pc + (arms_size S.code.own.constants (way S back) arms m closing t j + m)) t closed named loops reach k) (sym sized) (jumps refl))
+          (subst (λ m. GoesOn S n t closed complete k (pc + (arms_size S.code.own.constants (way S back) arms m closing t j + m))) (sym sized) done)
+          (subst (λ m. GoesOn S n t closed (choose EndArms (Some block)) k (pc + arms_size S.code.own.constants (way S back) arms m closing t j)) (sym sized) others)
           n (omega arith) ps env regs c opened standing)
         where
           lb : ℕ
-          lb = block_size S.code.own.constants back block closing t t (j + made_in_arms arms)
+          lb = block_size S.code.own.constants (way S back) block closing t t (j + made_in_arms arms)
 
           lo : ℕ
-          lo = arms_size S.code.own.constants back arms (block_size S.code.own.constants back block closing t t (j + made_in_arms arms)) closing t j
+          lo = arms_size S.code.own.constants (way S back) arms (block_size S.code.own.constants (way S back) block closing t t (j + made_in_arms arms)) closing t j
 
           code : List Coded
-          code = block_code S.code.own.constants back block closing t t (j + made_in_arms arms) (pc + lo) reach
+          code = block_code S.code.own.constants (way S back) block closing t t (j + made_in_arms arms) (pc + lo) reach
 
           sized : length code ≡ lb
-          sized = block_sized S.code.own.constants back block closing t t (j + made_in_arms arms) (pc + lo) reach
+          sized = block_sized S.code.own.constants (way S back) block closing t t (j + made_in_arms arms) (pc + lo) reach
 
           at_block : HasAt S (pc + lo) code
-          at_block = subst (λ m. HasAt S (pc + arms_size S.code.own.constants back arms m closing t j) code) sized (arms_behind back arms code closing t j pc line reach has)
+          at_block = subst (λ m. HasAt S (pc + arms_size S.code.own.constants (way S back) arms m closing t j) code) sized (arms_behind back arms code closing t j pc line reach has)
 
           there : pc + (lo + lb) ≡ pc + lo + lb
           there = omega arith

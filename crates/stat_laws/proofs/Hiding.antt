@@ -48,7 +48,7 @@ module _ (hidden : Hidden) (stack t : ℕ) (ps : List Pending) (env : List Value
   rel_outer h = record {
     agree = h.agree;
     held = h.held;
-    hides = record { free = λ r m. h.hides.free r (inr (inr (inr m))); whole = λ r m lt. h.hides.whole r (inr (inr (inr m))) lt; low = h.hides.low };
+    hides = record { free = λ r m. h.hides.free r (inr (inr (inr m))); whole = λ r m lt. h.hides.whole r (inr (inr (inr m))) lt; low = h.hides.low; bare = h.hides.bare };
     ascends = h.ascends;
     fits = h.fits;
     room = h.room;
@@ -58,7 +58,7 @@ module _ (hidden : Hidden) (stack t : ℕ) (ps : List Pending) (env : List Value
   rel_hiding low a b d h = record {
     agree = h.agree;
     held = h.held;
-    hides = record { free = λ r m. free r m; whole = λ r m lt. whole r m lt; low = h.hides.low };
+    hides = record { free = λ r m. free r m; whole = λ r m lt. whole r m lt; low = h.hides.low; bare = h.hides.bare };
     ascends = h.ascends;
     fits = h.fits;
     room = h.room;
@@ -95,7 +95,7 @@ module _ (hidden : Hidden) (captures : Bool) (level stack : ℕ) (ps : List Pend
   rel_unscoped h = record {
     agree = h.agree;
     held = h.held;
-    hides = record { free = h.hides.free; whole = h.hides.whole; low = low_out hidden.free_from captures level c.held h.hides.low };
+    hides = record { free = h.hides.free; whole = h.hides.whole; low = low_out hidden.free_from captures level c.held h.hides.low; bare = h.hides.bare };
     ascends = h.ascends;
     fits = h.fits;
     room = h.room;
@@ -105,7 +105,7 @@ module _ (hidden : Hidden) (captures : Bool) (level stack : ℕ) (ps : List Pend
   rel_scoped below h = record {
     agree = h.agree;
     held = h.held;
-    hides = record { free = h.hides.free; whole = h.hides.whole; low = low_in hidden.free_from captures level c.held below h.hides.low };
+    hides = record { free = h.hides.free; whole = h.hides.whole; low = low_in hidden.free_from captures level c.held below h.hides.low; bare = h.hides.bare };
     ascends = h.ascends;
     fits = h.fits;
     room = h.room;
@@ -128,8 +128,8 @@ module _ (S : Setting) (h : Hidden) where
 
     jump_inner : (back n lo hi t : ℕ) (closed : List ℕ) (jump : ℕ → tree.Activation → List Work → Next Body State) (there : Option Landing) (k : List Work)
         → JumpGoes S back n lo hi t closed jump there k → JumpGoes (record S { hidden = h }) back n lo hi t closed jump there k
-    jump_inner back n lo hi t closed jump there k a m line pc ps env regs c opened more s le has x y numbered above size rel st =
-        a m line pc ps env regs c opened more s le (has_outer pc _ has) x y numbered above size (out ps env c regs rel) st
+    jump_inner back n lo hi t closed jump there k a m line pc ps env regs c opened more s le closes shut has x y numbered above size rel st =
+        a m line pc ps env regs c opened more s le closes shut (has_outer pc _ has) x y numbered above size (out ps env c regs rel) st
 
     pub jumps_inner : (back n lo hi t : ℕ) (closed : List ℕ) (named : List Named) (loops : Bool) (reach : Reach) (k : List Work)
         → Jumps S back n lo hi t closed named loops reach k → Jumps (record S { hidden = h }) back n lo hi t closed named loops reach k

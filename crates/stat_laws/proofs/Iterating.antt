@@ -44,6 +44,7 @@ use Rattle.exp_laws.proofs.Calls.{filled, values_step}
 use Rattle.exp_laws.proofs.Marking.{with_one, GoesMarked, ascends_more}
 use Rattle.exp_laws.proofs.Exps.{exps_same}
 use Rattle.code_of.proofs.Sizes.{block_sized}
+use Rattle.stat_laws.proofs.Ways.{way}
 use Rattle.stat_laws.proofs.Closing.{AllBelow, close_goes}
 use Rattle.stat_laws.proofs.Standing.{strong, part, ascends_under, below_higher, Standing, goes_fewer}
 use Rattle.stat_laws.proofs.Labels.{Jumps, jumps_within}
@@ -154,7 +155,7 @@ module _ (S : Setting) (back_field : ℕ) where
       li = length (exps_code S.code.own.constants es (Some 4) t j line)
 
       lb : ℕ
-      lb = block_size S.code.own.constants back_field block true (t + 4) (t + 4 + length names) (j + made_in es)
+      lb = block_size S.code.own.constants (way S back_field) block true (t + 4) (t + 4 + length names) (j + made_in es)
 
       exit : ℕ
       exit = pc + (li + (lb + 4))
@@ -163,10 +164,10 @@ module _ (S : Setting) (back_field : ℕ) where
       around = in_loop reach (pc + (li + (lb + 4))) t
 
       inner : List Coded
-      inner = block_code S.code.own.constants back_field block true (t + 4) (t + 4 + length names) (j + made_in es) (pc + li + 1) around
+      inner = block_code S.code.own.constants (way S back_field) block true (t + 4) (t + 4 + length names) (j + made_in es) (pc + li + 1) around
 
       sized : length inner ≡ lb
-      sized = block_sized S.code.own.constants back_field block true (t + 4) (t + 4 + length names) (j + made_in es) (pc + li + 1) around
+      sized = block_sized S.code.own.constants (way S back_field) block true (t + 4) (t + 4 + length names) (j + made_in es) (pc + li + 1) around
 
       turns : List Coded
       turns = with_abc TForCall t 0 wide line ∷ with_abx TForLoop t (length inner + 2) line ∷ with_abc Close t 0 0 line ∷ []
@@ -196,7 +197,7 @@ module _ (S : Setting) (back_field : ℕ) where
       some = placed.1.1.1.0
 
       near : lb + 2 < 2 ^ 17
-      near = placed.1.1.1.1.1.0 back_field
+      near = placed.1.1.1.1.1.0 (way S back_field)
 
       t_fits : t < 2 ^ 8
       t_fits = omega (arith, room, S.small)

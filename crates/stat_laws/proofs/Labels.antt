@@ -15,7 +15,7 @@ use Rattle.tree_activation.specs.Statements.{is_closed, executes, runs_on}
 use Rattle.tree_terms.specs.Labels.{are_void, Named, legal, names_ahead, names_passed}
 use Rattle.tree_activation.specs.Jumps.{is_at_end, Landing as TreeLanding, passed_by, ahead, behind, lands, goes_to, breaks}
 use Rattle.machine_core.specs.Talk.{before}
-use Rattle.code_of.specs.Jumps.{Landing, Visible, Reach, label_in, leads, jump_code}
+use Rattle.code_of.specs.Jumps.{Landing, Visible, Reach, label_in, leads, jump_code, jump_size}
 use Rattle.code_of.specs.Levels.{made_by_stat, closing_after}
 use Rattle.tree_terms.specs.Levels.{level_after}
 use Rattle.code_of.specs.Sizes.{stat_size}
@@ -24,8 +24,9 @@ use Rattle.exp_laws.proofs.Registers.{Rel}
 use Rattle.exp_laws.specs.Setting.{Setting}
 use Rattle.exp_laws.proofs.Talking.{Agree, of_tree, of_code}
 use Rattle.exp_laws.proofs.Placing.{HasAt}
+use Rattle.stat_laws.proofs.Ways.{way}
 use Rattle.stat_laws.proofs.Closing.{AllBelow}
-use Rattle.stat_laws.proofs.Standing.{numbers, AllFrom, from_lower, from_more, GoesOn, lands_ahead, lands_back}
+use Rattle.stat_laws.proofs.Standing.{NoneOpen, numbers, AllFrom, from_lower, from_more, GoesOn, lands_ahead, lands_back}
 use Rattle.list_laws.proofs.Items.{append_nil}
 use Rattle.tree_terms.proofs.Levels.{level_rises}
 
@@ -121,7 +122,8 @@ module _ (S : Setting) (back : ℕ) where
 
   abbrev pub JumpGoes : (n lo hi t : ℕ) (closed : List ℕ) → (ℕ → tree.Activation → List Work → Next Body State) → Option Landing → (k : List Work) → Type 0
   JumpGoes n lo hi t closed jump there k =
-      (m line pc : ℕ) (ps : List Pending) (env regs : List Value) (c : Captured) (opened : ℕ) (more : List ℕ) (s : State) → m ≤ n → HasAt S pc (leads there pc line) → lo ≤ pc → pc + 2 ≤ hi
+      (m line pc : ℕ) (ps : List Pending) (env regs : List Value) (c : Captured) (opened : ℕ) (more : List ℕ) (s : State) → m ≤ n
+      → (closes : Bool) → (closes ≡ false → NoneOpen S ps c) → HasAt S pc (leads closes there pc line) → lo ≤ pc → pc + jump_size closes ≤ hi
       → numbers ps ≡ closed ++ more → AllFrom t more → t ≤ length env → Rel S.hidden S.code.own.stack ps env c regs → step s ≡ jump line (of_tree S ps env c) k
       → Agree S m s (before (of_code S ps pc regs opened) c)
 
@@ -132,8 +134,8 @@ module _ (S : Setting) (back : ℕ) where
   jump_within : (n m lo hi lo' hi' t t' : ℕ) (closed extra : List ℕ) (jump : ℕ → tree.Activation → List Work → Next Body State) (there : Option Landing) (k : List Work)
       → m ≤ n → lo ≤ lo' → hi' ≤ hi → t ≤ t' → AllFrom t extra → JumpGoes n lo hi t closed jump there k → JumpGoes m lo' hi' t' (closed ++ extra) jump there k
   jump_within n m lo hi lo' hi' t t' closed extra jump there k fewer a b c from h =
-      λ l line pc ps env regs c' opened more s less has x y numbered above size rel st.
-      h l line pc ps env regs c' opened (extra ++ more) s (omega arith) has (omega arith) (omega arith) (numbered ∙ append_assoc closed extra more) (from_more t extra more from (from_lower t t' more c above)) (omega arith) rel st
+      λ l line pc ps env regs c' opened more s less closes shut has x y numbered above size rel st.
+      h l line pc ps env regs c' opened (extra ++ more) s (omega arith) closes shut has (omega arith) (omega arith) (numbered ∙ append_assoc closed extra more) (from_more t extra more from (from_lower t t' more c above)) (omega arith) rel st
 
   pub jumps_within : (n m lo hi lo' hi' t t' : ℕ) (closed extra : List ℕ) (named : List Named) (loops : Bool) (reach : Reach) (k : List Work)
       → m ≤ n → lo ≤ lo' → hi' ≤ hi → t ≤ t' → AllFrom t extra → Jumps n lo hi t closed named loops reach k → Jumps m lo' hi' t' (closed ++ extra) named loops reach k
@@ -157,10 +159,10 @@ module _ (S : Setting) (back : ℕ) where
         ((pc < length S.code.own.code) × RunGoes n ss (cond (falls && are_void ss) outer level) (cond (falls && are_void ss) base closed) pc (passed_by name level ss ∷ labels))
         × AllAhead n ss closing closed level j pc (passed_by name level ss ∷ labels)
     AllAhead n (MoreStats s ss) closing closed level j pc labels =
-        AllAhead n ss (closing_after s closing) (closed_after s level closed) (level_after s level) (j + made_by_stat s) (pc + stat_size S.code.own.constants back s closing level j) labels
+        AllAhead n ss (closing_after s closing) (closed_after s level closed) (level_after s level) (j + made_by_stat s) (pc + stat_size S.code.own.constants (way S back) s closing level j) labels
 
     pub all_other : (s : Stat) (n : ℕ) (ss : Stats) (closing : Bool) (closed : List ℕ) (level j pc : ℕ) (labels : List Passed) → IsNoLabel s → AllAhead n (MoreStats s ss) closing closed level j pc labels
-        ≡ AllAhead n ss (closing_after s closing) (closed_after s level closed) (level_after s level) (j + made_by_stat s) (pc + stat_size S.code.own.constants back s closing level j) labels
+        ≡ AllAhead n ss (closing_after s closing) (closed_after s level closed) (level_after s level) (j + made_by_stat s) (pc + stat_size S.code.own.constants (way S back) s closing level j) labels
     all_other (Empty line) n ss closing closed level j pc labels is = refl
     all_other (Local line names es) n ss closing closed level j pc labels is = refl
     all_other (LocalFunction line name' body) n ss closing closed level j pc labels is = refl
@@ -226,20 +228,20 @@ module _ (S : Setting) (back : ℕ) where
     -- a `goto` from a place in a statement before which t locals are in scope
     module _ (n lo hi t : ℕ) (closed front : List ℕ) (reach : Reach) (named : List Named) (loops : Bool) (whole : closed ≡ base ++ front) (front_from : AllFrom outer front) (base_under : AllBelow base outer) (closed_under : AllBelow closed t) (outer_low : outer ≤ t)
         (outward : Jumps n lo hi outer base named loops reach k)
-        (here : Stats) (passed : List Passed) (name : List ℕ) (m line pc : ℕ) (ps : List Pending) (env regs : List Value) (c : Captured) (opened : ℕ) (more : List ℕ) (s : State) (fewer : m ≤ n) (low : lo ≤ pc) (high : pc + 2 ≤ hi) (end : pc + 2 < length S.code.own.code)
+        (here : Stats) (passed : List Passed) (name : List ℕ) (m line pc : ℕ) (ps : List Pending) (env regs : List Value) (c : Captured) (opened : ℕ) (more : List ℕ) (s : State) (fewer : m ≤ n) (closes : Bool) (shut : closes ≡ false → NoneOpen S ps c) (low : lo ≤ pc) (high : pc + jump_size closes ≤ hi) (end : pc + jump_size closes < length S.code.own.code)
         (numbered : numbers ps ≡ closed ++ more) (above : AllFrom t more) (size : t ≤ length env) (rel : Rel S.hidden S.code.own.stack ps env c regs) where
       abbrev a : tree.Activation
       a = of_tree S ps env c
 
       abbrev Here : List Visible → Type 0
-      Here labels = HasAt S pc (leads (label_in name labels) pc line)
+      Here labels = HasAt S pc (leads closes (label_in name labels) pc line)
 
       from_base : numbers ps ≡ base ++ (front ++ more)
       from_base = numbered ∙ ap (λ l. l ++ more) whole ∙ append_assoc base front more
 
       out_of : step s ≡ goes_to name line a k → Here reach.labels → legal name named ≡ true → Agree S m s (before (of_code S ps pc regs opened) c)
       out_of st has ok =
-          outward.gotos name ok m line pc ps env regs c opened (front ++ more) s fewer has low high from_base
+          outward.gotos name ok m line pc ps env regs c opened (front ++ more) s fewer closes shut has low high from_base
           (from_more outer front more front_from (from_lower outer t more outer_low above)) (omega arith) rel st
 
       -- the block as the tree has it while the statement is under way
@@ -270,16 +272,16 @@ module _ (S : Setting) (back : ℕ) where
               → step s ≡ lands None (cond b (Some (record { level = x.level; point = point x.behind (x ∷ xs) })) (behind name p xs)) line (goes_to name line a k) a k
           tree_so b same = st ∙ ap (λ b. lands None (cond b (Some (record { level = x.level; point = point x.behind (x ∷ xs) })) (behind name p xs)) line (goes_to name line a k) a k) same
 
-          code_so : (b : Bool) → bytes_eq x.name name ≡ b → HasAt S pc (leads (cond b (Some landing) (label_in name (vs ++ reach.labels))) pc line)
-          code_so b same = subst (λ b. HasAt S pc (leads (cond b (Some landing) (label_in name (vs ++ reach.labels))) pc line)) same first_here
+          code_so : (b : Bool) → bytes_eq x.name name ≡ b → HasAt S pc (leads closes (cond b (Some landing) (label_in name (vs ++ reach.labels))) pc line)
+          code_so b same = subst (λ b. HasAt S pc (leads closes (cond b (Some landing) (label_in name (vs ++ reach.labels))) pc line)) same first_here
 
           by : (b : Bool) → bytes_eq x.name name ≡ b
               → (step s ≡ lands None (behind name p xs) line (goes_to name line a k) a k → Here (vs ++ reach.labels) → legal name (ws ++ named) ≡ true → Done) → Done
           by false same rest = rest (tree_so false same) (code_so false same) (sym (ap (λ b. cond b true (legal name (ws ++ named))) same) ∙ fine)
           by true same rest =
-              lands_back S m landing o.front pc line ps env regs c opened s k (code_so true same) end o.inside (o.more ++ more)
+              lands_back S m landing o.front pc line ps env regs c opened s k o.inside (o.more ++ more)
               (numbered ∙ ap (λ l. l ++ more) o.whole ∙ append_assoc o.front o.more more) (from_more x.level o.more more o.above (from_lower x.level t more o.low above)) o.under (let l = o.low in omega arith) rel
-              (run (point x.behind (x ∷ xs))) o.near (tree_so true same) (λ l less. o.again l (omega arith))
+              closes shut (code_so true same) end (run (point x.behind (x ∷ xs))) o.near (tree_so true same) (λ l less. o.again l (omega arith))
       back_jump _ _ _ all st has ok = absurd all
 
       -- among the labels to come, and else as `others` say
@@ -288,23 +290,23 @@ module _ (S : Setting) (back : ℕ) where
         found_label : (ss : Stats) (found : Name) (closing' : Bool) (closed' : List ℕ) (level j pc' : ℕ) (labels : List Passed) → t ≤ level → hi ≤ pc' → (level ≤ t → closed' ≡ closed) → pc' < length S.code.own.code
             → RunGoes n ss (cond (falls && are_void ss) outer level) (cond (falls && are_void ss) base closed') pc' (passed_by found level ss ∷ labels)
             → step s ≡ go (leave_scope (cond (is_at_end ending ss) outer level) line (known nil) (run (point ss (passed_by found level ss ∷ labels)))) a k
-            → HasAt S pc (jump_code (record { place = pc'; level = cond (falls && are_void ss) outer level }) pc line) → ((falls && are_void ss) || nat_le level t) ≡ true → Done
+            → HasAt S pc (jump_code closes (record { place = pc'; level = cond (falls && are_void ss) outer level }) pc line) → ((falls && are_void ss) || nat_le level t) ≡ true → Done
         found_label ss found closing' closed' level j pc' labels above_t far still inside goes st has ok = by (falls && are_void ss) refl goes (st ∙ ap (λ b. go (leave_scope (cond b outer level) line (known nil) (run (point ss (passed_by found level ss ∷ labels)))) a k) (ending_is ss)) has ok
           where
             by : (b : Bool) → (falls && are_void ss) ≡ b → RunGoes n ss (cond b outer level) (cond b base closed') pc' (passed_by found level ss ∷ labels)
                 → step s ≡ go (leave_scope (cond b outer level) line (known nil) (run (point ss (passed_by found level ss ∷ labels)))) a k
-                → HasAt S pc (jump_code (record { place = pc'; level = cond b outer level }) pc line) → (b || nat_le level t) ≡ true → Done
+                → HasAt S pc (jump_code closes (record { place = pc'; level = cond b outer level }) pc line) → (b || nat_le level t) ≡ true → Done
             by true is goes st has ok =
-                lands_ahead S m (record { place = pc'; level = outer }) base pc line ps env regs c opened s k has end inside (front ++ more) from_base
+                lands_ahead S m (record { place = pc'; level = outer }) base pc line ps env regs c opened s k inside (front ++ more) from_base
                 (from_more outer front more front_from (from_lower outer t more outer_low above)) base_under (omega arith) rel
-                (run (point ss (passed_by found level ss ∷ labels))) (omega arith) st (λ l less. goes l (omega arith))
+                closes shut has end (run (point ss (passed_by found level ss ∷ labels))) (omega arith) st (λ l less. goes l (omega arith))
             by false is goes st has ok =
                 let le = leb-true level t ok in
                 let same : level ≡ t = omega (arith, le, above_t) in
                 let closed_same = still le in
-                lands_ahead S m (record { place = pc'; level = level }) closed' pc line ps env regs c opened s k has end inside more (numbered ∙ ap (λ l. l ++ more) (sym closed_same))
+                lands_ahead S m (record { place = pc'; level = level }) closed' pc line ps env regs c opened s k inside more (numbered ∙ ap (λ l. l ++ more) (sym closed_same))
                 (subst (λ l. AllFrom l more) (sym same) above) (subst (λ l. AllBelow l level) (sym closed_same) (subst (AllBelow closed) (sym same) closed_under)) (omega arith) rel
-                (run (point ss (passed_by found level ss ∷ labels))) (omega arith) st (λ l less. goes l (omega arith))
+                closes shut has end (run (point ss (passed_by found level ss ∷ labels))) (omega arith) st (λ l less. goes l (omega arith))
 
         rises_from : (s : Stat) (level : ℕ) → t ≤ level → t ≤ level_after s level
         rises_from s level le = let h = level_rises s level in omega (arith, h, le)
@@ -313,7 +315,7 @@ module _ (S : Setting) (back : ℕ) where
         still_after s level closed' still above_t le = let h = level_rises s level in level_still s level closed' (omega (arith, h, le, above_t)) ∙ still (omega (arith, h, le))
 
         on_jump : (ss : Stats) (closing' : Bool) (closed' : List ℕ) (level j pc' : ℕ) (labels : List Passed) → t ≤ level → hi ≤ pc' → (level ≤ t → closed' ≡ closed) → AllAhead n ss closing' closed' level j pc' labels
-            → step s ≡ lands (ahead name level ss p labels) there line (goes_to name line a k) a k → Here (labels_ahead S.code.own.constants back ss falls closing' outer level j pc' ++ backs)
+            → step s ≡ lands (ahead name level ss p labels) there line (goes_to name line a k) a k → Here (labels_ahead S.code.own.constants (way S back) ss falls closing' outer level j pc' ++ backs)
             → legal name (names_ahead ss falls t level ++ back_names) ≡ true → Done
         on_jump EndStats closing' closed' level j pc' labels above_t far still all st has ok = others st has ok
         on_jump (MoreStats (Label l found) ss) closing' closed' level j pc' labels above_t far still all st has ok =
@@ -329,49 +331,49 @@ module _ (S : Setting) (back : ℕ) where
             code_landing = record { place = pc'; level = cond (falls && are_void ss) outer level }
 
             later : List Visible
-            later = labels_ahead S.code.own.constants back ss falls closing' outer level j pc' ++ backs
+            later = labels_ahead S.code.own.constants (way S back) ss falls closing' outer level j pc' ++ backs
 
             by : (b : Bool) → bytes_eq found.text name ≡ b
                 → (step s ≡ lands behind_it there line (goes_to name line a k) a k → Here later → legal name (names_ahead ss falls t level ++ back_names) ≡ true → Done) → Done
             by false same rest =
                 rest (st ∙ ap (λ b. lands (cond b (Some tree_landing) behind_it) there line (goes_to name line a k) a k) same)
-                (subst (λ b. HasAt S pc (leads (cond b (Some code_landing) (label_in name later)) pc line)) same has)
+                (subst (λ b. HasAt S pc (leads closes (cond b (Some code_landing) (label_in name later)) pc line)) same has)
                 (sym (ap (λ b. cond b ((falls && are_void ss) || nat_le level t) (legal name (names_ahead ss falls t level ++ back_names))) same) ∙ ok)
             by true same rest =
                 found_label ss found closing' closed' level j pc' labels above_t far still all.0.0 all.0.1
                 (st ∙ ap (λ b. lands (cond b (Some tree_landing) behind_it) there line (goes_to name line a k) a k) same)
-                (subst (λ b. HasAt S pc (leads (cond b (Some code_landing) (label_in name later)) pc line)) same has)
+                (subst (λ b. HasAt S pc (leads closes (cond b (Some code_landing) (label_in name later)) pc line)) same has)
                 (sym (ap (λ b. cond b ((falls && are_void ss) || nat_le level t) (legal name (names_ahead ss falls t level ++ back_names))) same) ∙ ok)
-        on_jump (MoreStats (Empty l) ss) closing' closed' level j pc' labels above_t far still all st has ok = on_jump ss (closing_after (Empty l) closing') (closed_after (Empty l) level closed') (level_after (Empty l) level) (j + made_by_stat (Empty l)) (pc' + stat_size S.code.own.constants back (Empty l) closing' level j) labels (rises_from (Empty l) level above_t) (omega arith) (still_after (Empty l) level closed' still above_t) all st has ok
-        on_jump (MoreStats (Local l names es) ss) closing' closed' level j pc' labels above_t far still all st has ok = on_jump ss (closing_after (Local l names es) closing') (closed_after (Local l names es) level closed') (level_after (Local l names es) level) (j + made_by_stat (Local l names es)) (pc' + stat_size S.code.own.constants back (Local l names es) closing' level j) labels (rises_from (Local l names es) level above_t) (omega arith) (still_after (Local l names es) level closed' still above_t) all st has ok
-        on_jump (MoreStats (LocalFunction l name' body) ss) closing' closed' level j pc' labels above_t far still all st has ok = on_jump ss (closing_after (LocalFunction l name' body) closing') (closed_after (LocalFunction l name' body) level closed') (level_after (LocalFunction l name' body) level) (j + made_by_stat (LocalFunction l name' body)) (pc' + stat_size S.code.own.constants back (LocalFunction l name' body) closing' level j) labels (rises_from (LocalFunction l name' body) level above_t) (omega arith) (still_after (LocalFunction l name' body) level closed' still above_t) all st has ok
-        on_jump (MoreStats (Assign l targets es) ss) closing' closed' level j pc' labels above_t far still all st has ok = on_jump ss (closing_after (Assign l targets es) closing') (closed_after (Assign l targets es) level closed') (level_after (Assign l targets es) level) (j + made_by_stat (Assign l targets es)) (pc' + stat_size S.code.own.constants back (Assign l targets es) closing' level j) labels (rises_from (Assign l targets es) level above_t) (omega arith) (still_after (Assign l targets es) level closed' still above_t) all st has ok
-        on_jump (MoreStats (CallStat l e) ss) closing' closed' level j pc' labels above_t far still all st has ok = on_jump ss (closing_after (CallStat l e) closing') (closed_after (CallStat l e) level closed') (level_after (CallStat l e) level) (j + made_by_stat (CallStat l e)) (pc' + stat_size S.code.own.constants back (CallStat l e) closing' level j) labels (rises_from (CallStat l e) level above_t) (omega arith) (still_after (CallStat l e) level closed' still above_t) all st has ok
-        on_jump (MoreStats (Do l block) ss) closing' closed' level j pc' labels above_t far still all st has ok = on_jump ss (closing_after (Do l block) closing') (closed_after (Do l block) level closed') (level_after (Do l block) level) (j + made_by_stat (Do l block)) (pc' + stat_size S.code.own.constants back (Do l block) closing' level j) labels (rises_from (Do l block) level above_t) (omega arith) (still_after (Do l block) level closed' still above_t) all st has ok
-        on_jump (MoreStats (While l e block) ss) closing' closed' level j pc' labels above_t far still all st has ok = on_jump ss (closing_after (While l e block) closing') (closed_after (While l e block) level closed') (level_after (While l e block) level) (j + made_by_stat (While l e block)) (pc' + stat_size S.code.own.constants back (While l e block) closing' level j) labels (rises_from (While l e block) level above_t) (omega arith) (still_after (While l e block) level closed' still above_t) all st has ok
-        on_jump (MoreStats (Repeat l block e) ss) closing' closed' level j pc' labels above_t far still all st has ok = on_jump ss (closing_after (Repeat l block e) closing') (closed_after (Repeat l block e) level closed') (level_after (Repeat l block e) level) (j + made_by_stat (Repeat l block e)) (pc' + stat_size S.code.own.constants back (Repeat l block e) closing' level j) labels (rises_from (Repeat l block e) level above_t) (omega arith) (still_after (Repeat l block e) level closed' still above_t) all st has ok
-        on_jump (MoreStats (If l arms) ss) closing' closed' level j pc' labels above_t far still all st has ok = on_jump ss (closing_after (If l arms) closing') (closed_after (If l arms) level closed') (level_after (If l arms) level) (j + made_by_stat (If l arms)) (pc' + stat_size S.code.own.constants back (If l arms) closing' level j) labels (rises_from (If l arms) level above_t) (omega arith) (still_after (If l arms) level closed' still above_t) all st has ok
-        on_jump (MoreStats (IfElse l arms block) ss) closing' closed' level j pc' labels above_t far still all st has ok = on_jump ss (closing_after (IfElse l arms block) closing') (closed_after (IfElse l arms block) level closed') (level_after (IfElse l arms block) level) (j + made_by_stat (IfElse l arms block)) (pc' + stat_size S.code.own.constants back (IfElse l arms block) closing' level j) labels (rises_from (IfElse l arms block) level above_t) (omega arith) (still_after (IfElse l arms block) level closed' still above_t) all st has ok
-        on_jump (MoreStats (NumFor l name' from limit block) ss) closing' closed' level j pc' labels above_t far still all st has ok = on_jump ss (closing_after (NumFor l name' from limit block) closing') (closed_after (NumFor l name' from limit block) level closed') (level_after (NumFor l name' from limit block) level) (j + made_by_stat (NumFor l name' from limit block)) (pc' + stat_size S.code.own.constants back (NumFor l name' from limit block) closing' level j) labels (rises_from (NumFor l name' from limit block) level above_t) (omega arith) (still_after (NumFor l name' from limit block) level closed' still above_t) all st has ok
-        on_jump (MoreStats (NumForStep l name' from limit step block) ss) closing' closed' level j pc' labels above_t far still all st has ok = on_jump ss (closing_after (NumForStep l name' from limit step block) closing') (closed_after (NumForStep l name' from limit step block) level closed') (level_after (NumForStep l name' from limit step block) level) (j + made_by_stat (NumForStep l name' from limit step block)) (pc' + stat_size S.code.own.constants back (NumForStep l name' from limit step block) closing' level j) labels (rises_from (NumForStep l name' from limit step block) level above_t) (omega arith) (still_after (NumForStep l name' from limit step block) level closed' still above_t) all st has ok
-        on_jump (MoreStats (GenFor l names es block) ss) closing' closed' level j pc' labels above_t far still all st has ok = on_jump ss (closing_after (GenFor l names es block) closing') (closed_after (GenFor l names es block) level closed') (level_after (GenFor l names es block) level) (j + made_by_stat (GenFor l names es block)) (pc' + stat_size S.code.own.constants back (GenFor l names es block) closing' level j) labels (rises_from (GenFor l names es block) level above_t) (omega arith) (still_after (GenFor l names es block) level closed' still above_t) all st has ok
-        on_jump (MoreStats (Goto l name') ss) closing' closed' level j pc' labels above_t far still all st has ok = on_jump ss (closing_after (Goto l name') closing') (closed_after (Goto l name') level closed') (level_after (Goto l name') level) (j + made_by_stat (Goto l name')) (pc' + stat_size S.code.own.constants back (Goto l name') closing' level j) labels (rises_from (Goto l name') level above_t) (omega arith) (still_after (Goto l name') level closed' still above_t) all st has ok
-        on_jump (MoreStats (Break l) ss) closing' closed' level j pc' labels above_t far still all st has ok = on_jump ss (closing_after (Break l) closing') (closed_after (Break l) level closed') (level_after (Break l) level) (j + made_by_stat (Break l)) (pc' + stat_size S.code.own.constants back (Break l) closing' level j) labels (rises_from (Break l) level above_t) (omega arith) (still_after (Break l) level closed' still above_t) all st has ok
+        on_jump (MoreStats (Empty l) ss) closing' closed' level j pc' labels above_t far still all st has ok = on_jump ss (closing_after (Empty l) closing') (closed_after (Empty l) level closed') (level_after (Empty l) level) (j + made_by_stat (Empty l)) (pc' + stat_size S.code.own.constants (way S back) (Empty l) closing' level j) labels (rises_from (Empty l) level above_t) (omega arith) (still_after (Empty l) level closed' still above_t) all st has ok
+        on_jump (MoreStats (Local l names es) ss) closing' closed' level j pc' labels above_t far still all st has ok = on_jump ss (closing_after (Local l names es) closing') (closed_after (Local l names es) level closed') (level_after (Local l names es) level) (j + made_by_stat (Local l names es)) (pc' + stat_size S.code.own.constants (way S back) (Local l names es) closing' level j) labels (rises_from (Local l names es) level above_t) (omega arith) (still_after (Local l names es) level closed' still above_t) all st has ok
+        on_jump (MoreStats (LocalFunction l name' body) ss) closing' closed' level j pc' labels above_t far still all st has ok = on_jump ss (closing_after (LocalFunction l name' body) closing') (closed_after (LocalFunction l name' body) level closed') (level_after (LocalFunction l name' body) level) (j + made_by_stat (LocalFunction l name' body)) (pc' + stat_size S.code.own.constants (way S back) (LocalFunction l name' body) closing' level j) labels (rises_from (LocalFunction l name' body) level above_t) (omega arith) (still_after (LocalFunction l name' body) level closed' still above_t) all st has ok
+        on_jump (MoreStats (Assign l targets es) ss) closing' closed' level j pc' labels above_t far still all st has ok = on_jump ss (closing_after (Assign l targets es) closing') (closed_after (Assign l targets es) level closed') (level_after (Assign l targets es) level) (j + made_by_stat (Assign l targets es)) (pc' + stat_size S.code.own.constants (way S back) (Assign l targets es) closing' level j) labels (rises_from (Assign l targets es) level above_t) (omega arith) (still_after (Assign l targets es) level closed' still above_t) all st has ok
+        on_jump (MoreStats (CallStat l e) ss) closing' closed' level j pc' labels above_t far still all st has ok = on_jump ss (closing_after (CallStat l e) closing') (closed_after (CallStat l e) level closed') (level_after (CallStat l e) level) (j + made_by_stat (CallStat l e)) (pc' + stat_size S.code.own.constants (way S back) (CallStat l e) closing' level j) labels (rises_from (CallStat l e) level above_t) (omega arith) (still_after (CallStat l e) level closed' still above_t) all st has ok
+        on_jump (MoreStats (Do l block) ss) closing' closed' level j pc' labels above_t far still all st has ok = on_jump ss (closing_after (Do l block) closing') (closed_after (Do l block) level closed') (level_after (Do l block) level) (j + made_by_stat (Do l block)) (pc' + stat_size S.code.own.constants (way S back) (Do l block) closing' level j) labels (rises_from (Do l block) level above_t) (omega arith) (still_after (Do l block) level closed' still above_t) all st has ok
+        on_jump (MoreStats (While l e block) ss) closing' closed' level j pc' labels above_t far still all st has ok = on_jump ss (closing_after (While l e block) closing') (closed_after (While l e block) level closed') (level_after (While l e block) level) (j + made_by_stat (While l e block)) (pc' + stat_size S.code.own.constants (way S back) (While l e block) closing' level j) labels (rises_from (While l e block) level above_t) (omega arith) (still_after (While l e block) level closed' still above_t) all st has ok
+        on_jump (MoreStats (Repeat l block e) ss) closing' closed' level j pc' labels above_t far still all st has ok = on_jump ss (closing_after (Repeat l block e) closing') (closed_after (Repeat l block e) level closed') (level_after (Repeat l block e) level) (j + made_by_stat (Repeat l block e)) (pc' + stat_size S.code.own.constants (way S back) (Repeat l block e) closing' level j) labels (rises_from (Repeat l block e) level above_t) (omega arith) (still_after (Repeat l block e) level closed' still above_t) all st has ok
+        on_jump (MoreStats (If l arms) ss) closing' closed' level j pc' labels above_t far still all st has ok = on_jump ss (closing_after (If l arms) closing') (closed_after (If l arms) level closed') (level_after (If l arms) level) (j + made_by_stat (If l arms)) (pc' + stat_size S.code.own.constants (way S back) (If l arms) closing' level j) labels (rises_from (If l arms) level above_t) (omega arith) (still_after (If l arms) level closed' still above_t) all st has ok
+        on_jump (MoreStats (IfElse l arms block) ss) closing' closed' level j pc' labels above_t far still all st has ok = on_jump ss (closing_after (IfElse l arms block) closing') (closed_after (IfElse l arms block) level closed') (level_after (IfElse l arms block) level) (j + made_by_stat (IfElse l arms block)) (pc' + stat_size S.code.own.constants (way S back) (IfElse l arms block) closing' level j) labels (rises_from (IfElse l arms block) level above_t) (omega arith) (still_after (IfElse l arms block) level closed' still above_t) all st has ok
+        on_jump (MoreStats (NumFor l name' from limit block) ss) closing' closed' level j pc' labels above_t far still all st has ok = on_jump ss (closing_after (NumFor l name' from limit block) closing') (closed_after (NumFor l name' from limit block) level closed') (level_after (NumFor l name' from limit block) level) (j + made_by_stat (NumFor l name' from limit block)) (pc' + stat_size S.code.own.constants (way S back) (NumFor l name' from limit block) closing' level j) labels (rises_from (NumFor l name' from limit block) level above_t) (omega arith) (still_after (NumFor l name' from limit block) level closed' still above_t) all st has ok
+        on_jump (MoreStats (NumForStep l name' from limit step block) ss) closing' closed' level j pc' labels above_t far still all st has ok = on_jump ss (closing_after (NumForStep l name' from limit step block) closing') (closed_after (NumForStep l name' from limit step block) level closed') (level_after (NumForStep l name' from limit step block) level) (j + made_by_stat (NumForStep l name' from limit step block)) (pc' + stat_size S.code.own.constants (way S back) (NumForStep l name' from limit step block) closing' level j) labels (rises_from (NumForStep l name' from limit step block) level above_t) (omega arith) (still_after (NumForStep l name' from limit step block) level closed' still above_t) all st has ok
+        on_jump (MoreStats (GenFor l names es block) ss) closing' closed' level j pc' labels above_t far still all st has ok = on_jump ss (closing_after (GenFor l names es block) closing') (closed_after (GenFor l names es block) level closed') (level_after (GenFor l names es block) level) (j + made_by_stat (GenFor l names es block)) (pc' + stat_size S.code.own.constants (way S back) (GenFor l names es block) closing' level j) labels (rises_from (GenFor l names es block) level above_t) (omega arith) (still_after (GenFor l names es block) level closed' still above_t) all st has ok
+        on_jump (MoreStats (Goto l name') ss) closing' closed' level j pc' labels above_t far still all st has ok = on_jump ss (closing_after (Goto l name') closing') (closed_after (Goto l name') level closed') (level_after (Goto l name') level) (j + made_by_stat (Goto l name')) (pc' + stat_size S.code.own.constants (way S back) (Goto l name') closing' level j) labels (rises_from (Goto l name') level above_t) (omega arith) (still_after (Goto l name') level closed' still above_t) all st has ok
+        on_jump (MoreStats (Break l) ss) closing' closed' level j pc' labels above_t far still all st has ok = on_jump ss (closing_after (Break l) closing') (closed_after (Break l) level closed') (level_after (Break l) level) (j + made_by_stat (Break l)) (pc' + stat_size S.code.own.constants (way S back) (Break l) closing' level j) labels (rises_from (Break l) level above_t) (omega arith) (still_after (Break l) level closed' still above_t) all st has ok
 
     -- a `goto` in a statement with ss behind it
     pub rest_jumps : (n lo hi t level : ℕ) (closing : Bool) (closed closed' front : List ℕ) (ss : Stats) (j pc : ℕ) (labels : List Passed) (entries : List Visible) (names named : List Named) (loops : Bool) (reach : Reach)
         → closed ≡ base ++ front → AllFrom outer front → AllBelow base outer → AllBelow closed t → outer ≤ t → t ≡ level → (level ≤ t → closed' ≡ closed) → hi ≤ pc → hi < length S.code.own.code
         → AllAhead n ss closing closed' level j pc labels → AllPassed n lo t closed labels entries names → Jumps n lo hi outer base named loops reach k
-        → Jumps n lo hi t closed (names_ahead ss falls t level ++ (names ++ named)) loops (record { labels = labels_ahead S.code.own.constants back ss falls closing outer level j pc ++ (entries ++ reach.labels); exit = reach.exit }) (in_block t (point ss labels) ∷ k)
+        → Jumps n lo hi t closed (names_ahead ss falls t level ++ (names ++ named)) loops (record { labels = labels_ahead S.code.own.constants (way S back) ss falls closing outer level j pc ++ (entries ++ reach.labels); exit = reach.exit }) (in_block t (point ss labels) ∷ k)
     rest_jumps n lo hi t level closing closed closed' front ss j pc labels entries names named loops reach whole front_from base_under closed_under outer_low same still far inside all passed outward = record {
-      gotos = λ name ok m line at_pc ps env regs c opened more s fewer has low high numbered above size rel st.
-          on_jump n lo hi t closed front reach named loops whole front_from base_under closed_under outer_low outward ss labels name m line at_pc ps env regs c opened more s fewer low high (omega arith) numbered above size rel
+      gotos = λ name ok m line at_pc ps env regs c opened more s fewer closes shut has low high numbered above size rel st.
+          on_jump n lo hi t closed front reach named loops whole front_from base_under closed_under outer_low outward ss labels name m line at_pc ps env regs c opened more s fewer closes shut low high (omega arith) numbered above size rel
           (entries ++ reach.labels) (names ++ named) (behind name (point ss labels) labels)
-          (λ st' has' ok'. back_jump n lo hi t closed front reach named loops whole front_from base_under closed_under outer_low outward ss labels name m line at_pc ps env regs c opened more s fewer low high (omega arith) numbered above size rel
+          (λ st' has' ok'. back_jump n lo hi t closed front reach named loops whole front_from base_under closed_under outer_low outward ss labels name m line at_pc ps env regs c opened more s fewer closes shut low high (omega arith) numbered above size rel
           labels entries names (subst (λ l. AllPassed n at_pc t l labels entries names) (append_nil closed) (passed_within n n lo at_pc t t closed [] labels entries names (omega arith) low (omega arith) tt passed)) st' has' ok')
           ss closing closed' level j pc labels (omega (arith, same)) far still all
           (subst (λ u. step s ≡ lands (ahead name u ss (point ss labels) labels) (behind name (point ss labels) labels) line (goes_to name line (of_tree S ps env c) k) (of_tree S ps env c) k) same st) has ok;
-      exits = λ ok m line at_pc ps env regs c opened more s fewer has low high numbered above size rel st.
-          outward.exits ok m line at_pc ps env regs c opened (front ++ more) s fewer has low high (numbered ∙ ap (λ l. l ++ more) whole ∙ append_assoc base front more)
+      exits = λ ok m line at_pc ps env regs c opened more s fewer closes shut has low high numbered above size rel st.
+          outward.exits ok m line at_pc ps env regs c opened (front ++ more) s fewer closes shut has low high (numbered ∙ ap (λ l. l ++ more) whole ∙ append_assoc base front more)
           (from_more outer front more front_from (from_lower outer t more outer_low above)) (omega arith) rel st;
     }

@@ -1,3 +1,4 @@
+mod Ways
 mod Naming
 mod Alive
 mod Scopes

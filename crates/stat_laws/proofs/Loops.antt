@@ -10,7 +10,7 @@ use Rattle.tree_activation.specs.Work as tree
 use Rattle.tree_activation.specs.Asking.{first, go}
 use Rattle.tree_activation.specs.Statements.{repeat_point}
 use Rattle.tree_activation.specs.Activation.{step}
-use Rattle.exp_laws.proofs.Conditions.{truth_not}
+use Rattle.exp_laws.proofs.TestForms.{truth_not}
 use Rattle.machine_core.specs.Talk.{before}
 use Rattle.list_laws.proofs.Items.{append_nil}
 use Rattle.code_of.specs.Coded.{Coded, jump_back}
@@ -27,6 +27,7 @@ use Rattle.exp_laws.specs.Setting.{Hidden, Setting, with_scope, scoped}
 use Rattle.exp_laws.proofs.Talking.{Agree, go_left, of_tree, of_code}
 use Rattle.exp_laws.proofs.Placing.{HasAt, has_front, has_back}
 use Rattle.exp_laws.specs.Placed.{IsPlaced}
+use Rattle.stat_laws.proofs.Ways.{way}
 use Rattle.stat_laws.proofs.Closing.{AllBelow, GoesLeft, NothingHeld, nothing_held, ends_goes}
 use Rattle.stat_laws.proofs.Standing.{strong, numbers, Parted, part, ascends_under, Standing, GoesOn, goes_fewer, back_goes}
 use Rattle.code_of.proofs.Sizes.{test_sized, close_sized, stats_sized}
@@ -73,7 +74,7 @@ module _ (S : Setting) (back : ℕ) where
       low = closed_until (Falls ss tokens last) e t
 
       li : ℕ
-      li = stats_size S.code.own.constants back ss closing t j
+      li = stats_size S.code.own.constants (way S back) ss closing t j
 
       close : List Coded
       close = close_code t (closed_until (Falls ss tokens last) e t) last
@@ -100,10 +101,10 @@ module _ (S : Setting) (back : ℕ) where
       around = in_loop reach (pc + (li + (lt + (lc + lc + 1)))) t
 
       inner : List Coded
-      inner = stats_code S.code.own.constants back ss false closing t t j pc [] around
+      inner = stats_code S.code.own.constants (way S back) ss false closing t t j pc [] around
 
       sized : length inner ≡ li
-      sized = stats_sized S.code.own.constants back ss false closing t t j pc [] around
+      sized = stats_sized S.code.own.constants (way S back) ss false closing t t j pc [] around
 
       turns : List Coded
       turns = jump_back (length inner + length test + length close + 1) line ∷ close
@@ -206,7 +207,7 @@ module _ (S : Setting) (back : ℕ) where
           let size = st.size in
           go_left S l _ (tree.at (evaluate e) (of_tree S ps env c) (until_test last t ∷ w ∷ k)) _ refl
           (tests t ps e false (length close + 1) (levels_after ss t) (j + made_in_stats ss) l (pc + li) opened env regs c (until_test last t ∷ w ∷ k) (omega (arith, fewer, le, less)) (has_inner S within (pc + li) test at_test)
-          (subst (λ u. IsPlaced T e u (j + made_in_stats ss)) (sym st.size) (exp_scoped captures t S e (levels_after ss t) (j + made_in_stats ss) placed.1.0 (λ is. let none = none_here is in omega (arith, none)))) (omega (arith, inside, tested, same_close)) (omega (arith, size)) placed.1.1 st.rel
+          (subst (λ u. IsPlaced T e u (j + made_in_stats ss)) (sym st.size) (exp_scoped captures t false S e (levels_after ss t) (j + made_in_stats ss) placed.1.0 (λ is. let none = none_here is in omega (arith, none)))) (omega (arith, inside, tested, same_close)) (omega (arith, size)) placed.1.1 st.rel
           (λ vs env1 regs1 c1 o1 af is. go_left S l _ (tree.at (leave_scope t last (known nil) (decide false)) (of_tree S ps env1 c1) (w ∷ k)) _ (decides vs false ps env1 c1 (truth_not T ps _ true is))
           (subst (λ q. Agree S l (tree.at (leave_scope t last (known nil) (decide false)) (of_tree S ps env1 c1) (w ∷ k)) (before (of_code S ps (pc + li + q) regs1 o1) c1)) (sym tested)
           (turns_back l (omega arith) (λ i lower. loop i (omega arith)) ps env1 regs1 c1 o1 (record { numbered = st.numbered; size = af.size ∙ size; rel = af.rel }))))
@@ -219,7 +220,7 @@ module _ (S : Setting) (back : ℕ) where
           (law t closed (w ∷ k) m pc (pc + li) closing closed t j pc [] [] [] named true around (record {
             fewer = omega (arith, fewer, le);
             has = has_inner S within pc inner at_inner;
-            placed = stats_scoped captures t S ss false closing t j [] named true placed.0 (λ is. let none = none_here is in omega (arith, none));
+            placed = stats_scoped captures t false S ss false closing t j [] named true placed.0 (λ is. let none = none_here is in omega (arith, none));
             from = omega arith;
             to = omega arith;
             inside = omega (arith, inside);

@@ -5,6 +5,7 @@ use Rattle.tree_core.specs.Tree.{Block, Falls, Returns, Stats, EndStats, MoreSta
 use Rattle.tree_activation.specs.Statements.{is_closed}
 use Rattle.code_core.specs.Prototype.{Prototype}
 use Rattle.machine_core.specs.InstructionRows.{variable_name}
+use Rattle.code_of.specs.declared.leaving.Leaving.{Leaving}
 use Rattle.code_of.specs.Expressions.{made_by, made_in, exps_code}
 use Rattle.code_of.specs.Conditions.{test_code}
 use Rattle.code_of.specs.Levels.{made_by_stat, made_in_arms, made_in_block, closing_after}
@@ -22,7 +23,7 @@ module _ (lines : Bool) (p : Prototype) where
   AreNamed [] r pc = Unit {0}
   AreNamed (d ∷ names) r pc = (is_closed d.attrib ≡ true → variable_name p pc r ≡ cond lines d.name.text (codes "?")) × AreNamed names (r + 1) (pc + past_mark (is_closed d.attrib))
 
-  module _ (back : ℕ) where
+  module _ (back : Leaving) where
     abbrev mutual
       pub StatIsNamed : Stat → (closing : Bool) → (t j pc : ℕ) → Type 0
       StatIsNamed (Local line names es) closing t j pc = AreNamed names t (pc + length (exps_code p.own.constants es (Some (length names)) t j line))

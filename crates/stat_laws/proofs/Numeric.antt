@@ -36,6 +36,7 @@ use Rattle.exp_laws.proofs.Leaving.{faults_alike}
 use Rattle.exp_laws.proofs.Going.{next_there, at_place}
 use Rattle.exp_laws.proofs.Steps.{go_step}
 use Rattle.tree_terms.specs.Labels.{Named}
+use Rattle.stat_laws.proofs.Ways.{way}
 use Rattle.stat_laws.specs.Scoped.{IsNear, BlockIsPlaced}
 use Rattle.code_of.proofs.Sizes.{block_sized}
 use Rattle.stat_laws.proofs.Naming.{BlockIsNamed}
@@ -128,10 +129,10 @@ counts_more line block level (negsuc r) a k e = refl
 
 module _ (S : Setting) (back_field line : ℕ) (block : Block) (n : ℕ) (closing : Bool) (closed : List ℕ) (t j lo pc exit : ℕ) (named : List Named) (loops : Bool) (reach : Reach) (k : List Work) where
   abbrev pub body : List Coded
-  body = block_code S.code.own.constants back_field block closing (t + 3) (t + 4) j (pc + 1) (in_loop reach exit t)
+  body = block_code S.code.own.constants (way S back_field) block closing (t + 3) (t + 4) j (pc + 1) (in_loop reach exit t)
 
   abbrev size_of : ℕ
-  size_of = block_size S.code.own.constants back_field block closing (t + 3) (t + 4) j
+  size_of = block_size S.code.own.constants (way S back_field) block closing (t + 3) (t + 4) j
 
   abbrev w : Work
   w = counting line block t
@@ -149,14 +150,14 @@ module _ (S : Setting) (back_field line : ℕ) (block : Block) (n : ℕ) (closin
     pub placed : BlockIsPlaced (hiding S t) block closing (t + 4) j named true
     pub under : AllBelow closed t
     pub clear : AllUnder S.hidden.integers t
-    pub titles : BlockIsNamed S.lines S.code back_field block closing (t + 3) (t + 4) j (pc + 1)
+    pub titles : BlockIsNamed S.lines S.code (way S back_field) block closing (t + 3) (t + 4) j (pc + 1)
     pub plain : closing ≡ has_some closed
     pub jumps : Jumps S back_field n lo exit t closed named loops reach k
     pub done : GoesOn S n t closed complete k exit
 
   module _ (x : Counted) where
     sized : length body ≡ size_of
-    sized = block_sized S.code.own.constants back_field block closing (t + 3) (t + 4) j (pc + 1) (in_loop reach exit t)
+    sized = block_sized S.code.own.constants (way S back_field) block closing (t + 3) (t + 4) j (pc + 1) (in_loop reach exit t)
 
     at_block : HasAt S (pc + 1) body
     at_block = has_front S (pc + 1) body (with_abx ForLoop t (length body + 1) line ∷ []) x.has.1.1
@@ -238,7 +239,7 @@ module _ (S : Setting) (back_field line : ℕ) (block : Block) (n : ℕ) (closin
             ≡ talk S.code (cond (same_integer r (pos 0)) next (quick pay' (λ _. again_text i r d))) (three t regs) (of_code S ps (pc + 1 + size_of) regs opened) c
         reads =
             let size = st.size in
-            let near = x.near back_field in
+            let near = x.near (way S back_field) in
             let same = λ (q : ℕ) (lt : q < length env). same_shape (nth regs q) ∙ ap (λ v. integer_in (shape v)) (sym (st.rel.agree q lt)) in
             turn_step S.code t (length body + 1) (of_code S ps (pc + 1 + size_of) regs opened) c at_turn.0 t_fits (omega (arith, sized, near)) (omega (arith, x.room, st.rel.room))
             ∙ ap (λ o. talk S.code (goes_round t (length body + 1) o (integer_of_shape (shape (nth regs (t + 1)))) (integer_of_shape (shape (nth regs (t + 2))))) (three t regs) (of_code S ps (pc + 1 + size_of) regs opened) c) (same t (omega (arith, size)) ∙ ap (λ v. integer_in (shape v)) e0)
@@ -366,7 +367,7 @@ module _ (S : Setting) (back_field line : ℕ) (block : Block) (n : ℕ) (closin
         reads : talk_step S.code (before (of_code S ps pc regs opened) c)
             ≡ talk S.code (prepares t (length body) (integer_in (shape v0)) (integer_in (shape v1)) (integer_in (shape v2))) (three t regs) (of_code S ps pc regs opened) c
         reads =
-            let near = x.near back_field in
+            let near = x.near (way S back_field) in
             begin_step S.code t (length body) (of_code S ps pc regs opened) c x.has.0 t_fits (omega (arith, sized, near)) (omega (arith, x.room, standing.rel.room))
             ∙ ap (λ o. talk S.code (prepares t (length body) o (integer_of_shape (shape (nth regs (t + 1)))) (integer_of_shape (shape (nth regs (t + 2))))) (three t regs) (of_code S ps pc regs opened) c) (same_shape (nth regs t) ∙ ap (λ v. integer_in (shape v)) e0)
             ∙ ap (λ o. talk S.code (prepares t (length body) (integer_in (shape v0)) o (integer_of_shape (shape (nth regs (t + 2))))) (three t regs) (of_code S ps pc regs opened) c) (same_shape (nth regs (t + 1)) ∙ ap (λ v. integer_in (shape v)) e1)

@@ -7,7 +7,7 @@ use Rattle.tree_terms.specs.Bodies.{upvalues_of}
 use Rattle.code_core.specs.Prototype.{Prototype, list_of}
 use Rattle.code_of.specs.CodeOf.{code_of, upvalue}
 use Rattle.code_of.specs.Expressions.{made_by, made_in}
-use Rattle.code_of.specs.Operands.{assigned}
+use Rattle.code_of.specs.Operands.{assigned, second_assigned}
 use Rattle.code_of.specs.Coded.{Coded}
 use Rattle.code_of.specs.Stores.{stores_field}
 use Rattle.code_of.specs.Targets.{single_store}
@@ -16,7 +16,7 @@ use Rattle.tree_terms.specs.Levels.{level_after, levels_after, levels_in}
 use Rattle.exp_laws.specs.Setting.{Hidden, Setting, with_loop, Alike}
 use Rattle.exp_laws.specs.Placed.{Inner, IsPlaced, ArePlaced, FieldsArePlaced}
 use Rattle.tree_terms.specs.Labels.{Named, names_ahead, names_passed}
-use Rattle.stat_laws.specs.Scoped.{TargetsArePlaced, KeptIsPlaced, StoreIsPlaced, AssignIsPlaced, LastIsPlaced, ReturnIsPlaced, BoundsArePlaced, StatIsPlaced, ArmsArePlaced, StatsArePlaced, BlockIsPlaced, OpenIsPlaced}
+use Rattle.stat_laws.specs.Scoped.{TargetsArePlaced, KeptIsPlaced, StoreIsPlaced, AssignIsPlaced, LastIsPlaced, ReturnIsPlaced, BoundsArePlaced, StatIsPlaced, ArmsArePlaced, StatsArePlaced, BlockIsPlaced, OpenIsPlaced, TwoIsPlaced}
 use Rattle.stat_laws.specs.Fits.{is_known, setting, BodyFits, InExp, InExps, InFields, InStat, InArms, InStats, InBlock}
 
 pub upvalues_same : (source : Option (List ℕ)) (body : Body) → (code_of source body).own.upvalues ≡ map upvalue (upvalues_of body)
@@ -76,8 +76,12 @@ module _ (source : Option (List ℕ)) (p : Prototype) (bound : ℕ) (varargs : L
   store_up hs true targets es t j h a b = (exps_up hs targets t j h.0 a, (exps_up hs es t (j + made_in targets) h.1.0 b, h.1.1))
   store_up hs false targets es t j h a b = kept_up hs (single_store p.own.constants targets es) targets es t j h a b
 
+  two_up : (hs : Hidden) (o : Option ℕ) (targets es : Exps) (t j : ℕ) → TwoIsPlaced (low hs) o targets es t j → InExps source p targets j → InExps source p es (j + made_in targets) → TwoIsPlaced (high hs) o targets es t j
+  two_up hs None targets es t j h a b = store_up hs (stores_field targets es) targets es t j h a b
+  two_up hs (Some r) targets es t j h a b = (targets_up hs targets t t j h.0 a, (h.1.0, (h.1.1.0, (exps_up hs es t (j + made_in targets) h.1.1.1.0 b, h.1.1.1.1))))
+
   assign_up : (hs : Hidden) (o : Option ℕ) (targets es : Exps) (t j : ℕ) → AssignIsPlaced (low hs) o targets es t j → InExps source p targets j → InExps source p es (j + made_in targets) → AssignIsPlaced (high hs) o targets es t j
-  assign_up hs None targets es t j h a b = store_up hs (stores_field targets es) targets es t j h a b
+  assign_up hs None targets es t j h a b = two_up hs (second_assigned targets es) targets es t j h a b
   assign_up hs (Some r) targets es t j h a b = (h.0, (h.1.0, (exps_up hs es t (j + made_in targets) h.1.1.0 b, h.1.1.1)))
 
   last_up : (hs : Hidden) (es : Exps) (t j : ℕ) → LastIsPlaced (low hs) es t j → InExps source p es j → LastIsPlaced (high hs) es t j

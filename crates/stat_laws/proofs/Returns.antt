@@ -1,5 +1,5 @@
 -- Leaving a function with values: `return`, and the end of its block.
-use Rattle.std.proofs.Common.{◌≡◌, ℕ, ◌+◌, ◌-◌, ◌<◌, ◌≤◌, ◌^◌, lit<, Bool, true, false, cond, List, [], ◌∷◌, ◌++◌, length, Some, None, refl, sym, ap, ap₂, subst, ◌∙◌, arith, append_assoc, length-append}
+use Rattle.std.proofs.Common.{◌≡◌, ℕ, ◌+◌, ◌-◌, ◌<◌, ◌≤◌, ◌^◌, lit<, Bool, true, false, cond, List, [], ◌∷◌, ◌++◌, length, Option, Some, None, refl, sym, ap, ap₂, subst, ◌∙◌, arith, append_assoc, length-append}
 use Rattle.std.specs.Prelude.{nat_lt, ◌==◌}
 use Rattle.int_core.specs.Value.{Value}
 use Rattle.int_core.specs.Ask.{goes_on, Captured}
@@ -22,9 +22,9 @@ use Rattle.code_of.specs.Expressions.{made_by, count, list_field, exp_code, exps
 use Rattle.code_of.specs.Jumps.{Reach}
 use Rattle.tree_terms.specs.Levels.{level_after, levels_after}
 use Rattle.code_of.specs.Levels.{closing_after, closings_after, made_in_stats}
-use Rattle.code_of.specs.Operands.{local_of, seat, unless}
+use Rattle.code_of.specs.Operands.{local_of, lone_local, seat, unless}
 use Rattle.code_of.specs.Operators.{self_code}
-use Rattle.code_of.specs.Parts.{values_last, return_code}
+use Rattle.code_of.specs.Parts.{returned_by, values_last, return_code}
 use Rattle.code_of.specs.Sizes.{stat_size, stats_size, block_size, open_size}
 use Rattle.code_of.specs.Statements.{in_loop, stats_code, open_code}
 use Rattle.exp_laws.proofs.Registers.{Rel}
@@ -32,21 +32,20 @@ use Rattle.exp_laws.specs.Setting.{Setting}
 use Rattle.exp_laws.proofs.Talking.{Agree, go_left, of_tree, of_code}
 use Rattle.exp_laws.proofs.Placing.{HasAt, has_front, has_back}
 use Rattle.exp_laws.proofs.Calls.{read_values_step}
-use Rattle.code_of.specs.Rooms.{room_of_list}
+use Rattle.code_of.specs.Rooms.{room_of_list, room_of_last}
+use Rattle.code_of.specs.Stores.{room_unless}
 use Rattle.exp_laws.specs.Placed.{IsPlaced, ArePlaced}
 use Rattle.exp_laws.proofs.Steps.{row_step}
 use Rattle.exp_laws.proofs.LastCalls.{call_last_same, method_last_same}
-use Rattle.stat_laws.proofs.Standing.{numbers, GoesOn}
+use Rattle.stat_laws.proofs.Ways.{way}
+use Rattle.stat_laws.proofs.Standing.{no_numbers, numbers, GoesOn}
 use Rattle.stat_laws.specs.Scoped.{ListIsPlaced, LastIsPlaced, ReturnIsPlaced}
+use Rattle.code_of.proofs.Operands.{lone_is}
 use Rattle.code_of.proofs.Sizes.{stats_sized}
 use Rattle.stat_laws.proofs.Labels.{closed_after, Jumps}
 use Rattle.stat_laws.proofs.Blocks.{has_some, no_some, closeds_after, known_after, added_none, StatLaw, StatsLaw}
 use Rattle.stat_laws.proofs.Forms.{BlockLaw, below_level, loop_jumps}
-use Rattle.exp_laws.proofs.Returns.{return_list_same}
-
-pub no_numbers : (ps : List Pending) → numbers ps ≡ [] → ps ≡ []
-no_numbers [] e = refl
-no_numbers (p ∷ ps) e = absurd (cc)
+use Rattle.exp_laws.proofs.Returns.{return_list_same, return_local_same}
 
 -- behind some statements
 pub known_all : (ss : Stats) (t : ℕ) (closing : Bool) (closed : List ℕ) → closing ≡ has_some closed → closings_after ss closing ≡ has_some (closeds_after ss t closed)
@@ -54,7 +53,11 @@ known_all EndStats t closing closed h = h
 known_all (MoreStats s ss) t closing closed h = known_all ss (level_after s t) (closing_after s closing) (closed_after s t closed) (known_after s t closing closed h)
 
 last_some : (cs : List Const) (es : Exps) (t j line back : ℕ) → 1 ≤ length (values_last cs es t j line back)
-last_some cs es t j line back = let sum = length-append (exps_code cs es None t j line) (leaving_by Return t (list_field 0 es) back line ∷ []) in omega (arith, sum)
+last_some cs es t j line back = by (lone_local es)
+  where
+    by : (o : Option ℕ) → 1 ≤ length (returned_by cs o es t j line back)
+    by None = let sum = length-append (exps_code cs es None t j line) (leaving_by Return t (list_field 0 es) back line ∷ []) in omega (arith, sum)
+    by (Some r) = omega arith
 
 -- a `return` has an instruction at least
 pub return_some : (cs : List Const) (closing : Bool) (es : Exps) (t j line back : ℕ) → 1 ≤ length (return_code cs closing es t j line back)
@@ -163,11 +166,20 @@ module _ (S : Setting) where
   module _ (back : ℕ) where
     -- the values of a list
     list_returns : (ps : List Pending) (es : Exps) (n t j line pc opened : ℕ) (env regs : List Value) (c : Captured) (k : List Work) → n ≤ S.bound → HasAt S pc (values_last S.code.own.constants es t j line back) → ArePlaced S es t j
-        → t + room_of_list S.code.own.constants 0 es None ≤ S.code.own.stack → count es + 1 < 2 ^ 8 → pc + length (values_last S.code.own.constants es t j line back) ≤ length S.code.own.code → length env ≡ t → Rel S.hidden S.code.own.stack ps env c regs
+        → t + room_of_last S.code.own.constants es ≤ S.code.own.stack → count es + 1 < 2 ^ 8 → pc + length (values_last S.code.own.constants es t j line back) ≤ length S.code.own.code → length env ≡ t → Rel S.hidden S.code.own.stack ps env c regs
         → Agree S n (tree.at (collect (for_return line) [] es) (of_tree S ps env c) k) (before (of_code S ps pc regs opened) c)
-    list_returns ps es n t j line pc opened env regs c k fewer has placed room few inside size rel =
-        let sum = length-append (exps_code S.code.own.constants es None t j line) (leaving_by Return t (list_field 0 es) back line ∷ []) in
-        return_list_same S ps es line t j back n pc opened env regs c k fewer has (subst (λ u. ArePlaced S es u j) (sym size) placed) (omega (arith, inside, sum)) few (omega (arith, size)) (omega (arith, size, rel.fits)) room rel
+    list_returns ps es n t j line pc opened env regs c k fewer has placed room few inside size rel = by (lone_local es) refl has room inside
+      where
+        by : (o : Option ℕ) → lone_local es ≡ o → HasAt S pc (returned_by S.code.own.constants o es t j line back) → t + room_unless o (room_of_list S.code.own.constants 0 es None) ≤ S.code.own.stack
+            → pc + length (returned_by S.code.own.constants o es t j line back) ≤ length S.code.own.code → Agree S n (tree.at (collect (for_return line) [] es) (of_tree S ps env c) k) (before (of_code S ps pc regs opened) c)
+        by None is has room inside =
+            let sum = length-append (exps_code S.code.own.constants es None t j line) (leaving_by Return t (list_field 0 es) back line ∷ []) in
+            return_list_same S ps es line t j back n pc opened env regs c k fewer has (subst (λ u. ArePlaced S es u j) (sym size) placed) (omega (arith, inside, sum)) few (omega (arith, size)) (omega (arith, size, rel.fits)) room rel
+        by (Some r) is has room inside =
+            let lone = lone_is es r is in
+            let alone = subst (λ z. ArePlaced S z (length env) j) lone.values (subst (λ u. ArePlaced S es u j) (sym size) placed) in
+            subst (λ z. Agree S n (tree.at (collect (for_return line) [] z) (of_tree S ps env c) k) (before (of_code S ps pc regs opened) c)) (sym lone.values)
+            (return_local_same S ps lone.value r line back j n pc opened (nat_lt 0 t) env regs c k lone.is has alone.0 rel)
 
     -- `return`, where no variable to be closed is in scope
     return_goes : (es : Exps) (n t j line pc opened : ℕ) (env regs : List Value) (c : Captured) (k : List Work) (s : tree.State) → step s ≡ begins_return line es (of_tree S [] env c) k → n ≤ S.bound
@@ -272,25 +284,25 @@ module _ (S : Setting) where
 
     -- the end of statements, where `return` stands
     pub return_ends : (ss : Stats) (es : Exps) (line n : ℕ) (closing : Bool) (closed : List ℕ) (outer t j pc : ℕ) (reach : Reach) (k : List Work) → n ≤ S.bound
-        → HasAt S pc (stats_code S.code.own.constants back ss false closing outer t j pc [] reach ++ return_code S.code.own.constants (closings_after ss closing) es (levels_after ss t) (j + made_in_stats ss) line back)
+        → HasAt S pc (stats_code S.code.own.constants (way S back) ss false closing outer t j pc [] reach ++ return_code S.code.own.constants (closings_after ss closing) es (levels_after ss t) (j + made_in_stats ss) line back)
         → ReturnIsPlaced S es (closings_after ss closing) (levels_after ss t) (j + made_in_stats ss)
-        → pc + (stats_size S.code.own.constants back ss closing t j + length (return_code S.code.own.constants (closings_after ss closing) es (levels_after ss t) (j + made_in_stats ss) line back)) ≤ length S.code.own.code
+        → pc + (stats_size S.code.own.constants (way S back) ss closing t j + length (return_code S.code.own.constants (closings_after ss closing) es (levels_after ss t) (j + made_in_stats ss) line back)) ≤ length S.code.own.code
         → closing ≡ has_some closed → (labels : List Passed)
-        → GoesOn S n (levels_after ss t) (closeds_after ss t closed) (run (record { rest = EndStats; ending = returns_list line es; level = outer; labels = labels })) k (pc + stats_size S.code.own.constants back ss closing t j)
+        → GoesOn S n (levels_after ss t) (closeds_after ss t closed) (run (record { rest = EndStats; ending = returns_list line es; level = outer; labels = labels })) k (pc + stats_size S.code.own.constants (way S back) ss closing t j)
     return_ends ss es line n closing closed outer t j pc reach k fewer has placed inside plain labels m le ps env regs c opened st =
         by (closings_after ss closing) (sym (known_all ss t closing closed plain)) at_last placed inside
       where
         code : List Coded
-        code = stats_code S.code.own.constants back ss false closing outer t j pc [] reach
+        code = stats_code S.code.own.constants (way S back) ss false closing outer t j pc [] reach
 
         level : ℕ
         level = levels_after ss t
 
         size : ℕ
-        size = stats_size S.code.own.constants back ss closing t j
+        size = stats_size S.code.own.constants (way S back) ss closing t j
 
         at_last : HasAt S (pc + size) (return_code S.code.own.constants (closings_after ss closing) es level (j + made_in_stats ss) line back)
-        at_last = subst (λ q. HasAt S (pc + q) (return_code S.code.own.constants (closings_after ss closing) es level (j + made_in_stats ss) line back)) (stats_sized S.code.own.constants back ss false closing outer t j pc [] reach)
+        at_last = subst (λ q. HasAt S (pc + q) (return_code S.code.own.constants (closings_after ss closing) es level (j + made_in_stats ss) line back)) (stats_sized S.code.own.constants (way S back) ss false closing outer t j pc [] reach)
             (has_back S pc code (return_code S.code.own.constants (closings_after ss closing) es level (j + made_in_stats ss) line back) has)
 
         state : List Pending → tree.State
@@ -315,9 +327,9 @@ module _ (S : Setting) where
     -- a block that ends by `return`
     pub returns_goes : (ss : Stats) (es : Exps) (tokens line : ℕ) → ((outer : ℕ) (closed : List ℕ) (k : List Work) → StatsLaw S back (returns_list line es) false outer closed k (λ ss. refl) ss) → BlockLaw S back (Returns ss es tokens line)
     returns_goes ss es tokens line law n closing closed outer t j pc named loops reach k fewer has placed titles inside under clear outer_low plain jumps done m le ps env regs c opened st below =
-        (law outer closed k n pc (pc + block_size S.code.own.constants back (Returns ss es tokens line) closing outer t j) closing closed t j pc [] [] [] named loops reach (record {
+        (law outer closed k n pc (pc + block_size S.code.own.constants (way S back) (Returns ss es tokens line) closing outer t j) closing closed t j pc [] [] [] named loops reach (record {
           fewer = fewer;
-          has = has_front S pc (stats_code S.code.own.constants back ss false closing outer t j pc [] reach) (return_code S.code.own.constants (closings_after ss closing) es (levels_after ss t) (j + made_in_stats ss) line back) has;
+          has = has_front S pc (stats_code S.code.own.constants (way S back) ss false closing outer t j pc [] reach) (return_code S.code.own.constants (closings_after ss closing) es (levels_after ss t) (j + made_in_stats ss) line back) has;
           placed = placed.0;
           from = omega arith;
           to = omega arith;
@@ -366,19 +378,19 @@ module _ (S : Setting) where
         w = repeating line e (Returns ss es tokens last) t
 
         size : ℕ
-        size = open_size S.code.own.constants back (Returns ss es tokens last) closing t j
+        size = open_size S.code.own.constants (way S back) (Returns ss es tokens last) closing t j
 
         exit : ℕ
-        exit = pc + stat_size S.code.own.constants back (Repeat line (Returns ss es tokens last) e) closing t j
+        exit = pc + stat_size S.code.own.constants (way S back) (Repeat line (Returns ss es tokens last) e) closing t j
 
         around : Reach
-        around = in_loop reach (pc + stat_size S.code.own.constants back (Repeat line (Returns ss es tokens last) e) closing t j) t
+        around = in_loop reach (pc + stat_size S.code.own.constants (way S back) (Repeat line (Returns ss es tokens last) e) closing t j) t
 
         code : List Coded
-        code = stats_code S.code.own.constants back ss false closing t t j pc [] around
+        code = stats_code S.code.own.constants (way S back) ss false closing t t j pc [] around
 
-        at_open : HasAt S pc (open_code S.code.own.constants back (Returns ss es tokens last) closing t j pc around)
-        at_open = has_front S pc (open_code S.code.own.constants back (Returns ss es tokens last) closing t j pc around) _ has
+        at_open : HasAt S pc (open_code S.code.own.constants (way S back) (Returns ss es tokens last) closing t j pc around)
+        at_open = has_front S pc (open_code S.code.own.constants (way S back) (Returns ss es tokens last) closing t j pc around) _ has
 
         in_block : Jumps S back n pc (pc + size) t closed named true around (w ∷ k)
         in_block =

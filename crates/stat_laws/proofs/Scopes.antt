@@ -14,7 +14,8 @@ use Rattle.code_of.specs.Parts.{past_size, bounds_code, steps_code}
 use Rattle.list_laws.proofs.Items.{append_nil}
 use Rattle.tree_core.specs.declared.name.UpName.{UpName}
 use Rattle.code_of.specs.Coded.{Coded}
-use Rattle.code_of.specs.CodeOf.{back_field, opening, body_code, code_of}
+use Rattle.code_of.specs.declared.leaving.Leaving.{Leaving}
+use Rattle.code_of.specs.CodeOf.{leaving_of, opening, body_code, code_of}
 use Rattle.code_of.specs.Constants.{of_block}
 use Rattle.code_of.specs.Statements.{whole_code}
 use Rattle.stat_laws.specs.Fits.{is_known}
@@ -24,7 +25,7 @@ use Rattle.code_of.specs.Variables.{names_of, variables, hidden, looped, declare
 use Rattle.stat_laws.proofs.Naming.{StatIsNamed, ArmsAreNamed, StatsAreNamed, BlockIsNamed, OpenIsNamed}
 use Rattle.stat_laws.proofs.Alive.{alive, variables_alive, hidden_alive, Ended, ended_by, ended_both, variables_ended, hidden_ended, ended_none, alive_both, Around, narrow, first_part, second_part, second_count, declared_named, closed_unnamed}
 
-module _ (cs : List Const) (back : ℕ) where
+module _ (cs : List Const) (back : Leaving) where
   -- what is declared within a piece ends with it
 
   declared_ended : (s : Stat) (t j pc end : ℕ) → Ended (declared_by cs back s t j pc end) end
@@ -152,7 +153,7 @@ module _ (cs : List Const) (back : ℕ) where
       let b = variables_alive names (place + 1) (place + 1 + size) q le lt in
       omega (arith, both, a, b)
 
-module _ (lines : Bool) (p : Prototype) (back : ℕ) where
+module _ (lines : Bool) (p : Prototype) (back : Leaving) where
   -- the block of a `for`
   for_scope : (k : ℕ) (names : List Name) (t place size end lo hi : ℕ) (front block after : List LocVar) → lo ≤ place → end ≤ hi → place + 1 + size ≤ end → Around lines p front (looped p.own.constants back k names place size end ++ block) after t lo hi
       → Around lines p (front ++ looped p.own.constants back k names place size end) block after (t + (k + length names)) (place + 1) (place + 1 + size)
@@ -274,7 +275,7 @@ module _ (lines : Bool) (p : Prototype) (back : ℕ) where
 
 -- a whole function
 
-whole_named : (lines : Bool) (p : Prototype) (back : ℕ) (block : Block) (params j pc : ℕ) (front after : List LocVar)
+whole_named : (lines : Bool) (p : Prototype) (back : Leaving) (block : Block) (params j pc : ℕ) (front after : List LocVar)
     → Around lines p front (within_whole p.own.constants back block params j pc) after params pc (pc + whole_size p.own.constants back block params j) → BlockIsNamed lines p back block false 0 params j pc
 whole_named lines p back (Falls ss tokens line) params j pc front after h = stats_named lines p back ss false params j pc (pc + whole_size p.own.constants back (Falls ss tokens line) params j) front after (omega arith) h
 whole_named lines p back (Returns ss es tokens line) params j pc front after h = stats_named lines p back ss false params j pc (pc + whole_size p.own.constants back (Returns ss es tokens line) params j) front after (omega arith) h
@@ -284,25 +285,25 @@ begin_size true params line = refl
 begin_size false params line = refl
 
 pub body_named : (source : Option (List ℕ)) (params : List Name) (vararg : Bool) (inner : Block) (ups : List UpName) (line : ℕ)
-    → BlockIsNamed (is_known source) (code_of source (BodyOf params vararg inner ups line)) (back_field vararg (length params)) inner false 0 (length params) 0 (length (opening vararg (length params) line))
+    → BlockIsNamed (is_known source) (code_of source (BodyOf params vararg inner ups line)) (leaving_of vararg (length params) inner) inner false 0 (length params) 0 (length (opening vararg (length params) line))
 body_named source params vararg inner ups line =
-    whole_named (is_known source) (code_of source (BodyOf params vararg inner ups line)) (back_field vararg (length params)) inner (length params) 0 (length (opening vararg (length params) line)) parameters []
+    whole_named (is_known source) (code_of source (BodyOf params vararg inner ups line)) (leaving_of vararg (length params) inner) inner (length params) 0 (length (opening vararg (length params) line)) parameters []
     (record { whole = whole source; scope = λ q lo hi. variables_alive params 0 (length (body_code (BodyOf params vararg inner ups line))) q (omega arith) (omega (arith, hi, sum, wide)) })
   where
     parameters : List LocVar
     parameters = variables params 0 (length (body_code (BodyOf params vararg inner ups line)))
 
     within : ℕ → List LocVar
-    within pc = within_whole (of_block inner []) (back_field vararg (length params)) inner (length params) 0 pc
+    within pc = within_whole (of_block inner []) (leaving_of vararg (length params) inner) inner (length params) 0 pc
 
     rest : List Coded
-    rest = whole_code (of_block inner []) (back_field vararg (length params)) inner (length params) (length (opening vararg (length params) line))
+    rest = whole_code (of_block inner []) (leaving_of vararg (length params) inner) inner (length params) (length (opening vararg (length params) line))
 
     sum : length (body_code (BodyOf params vararg inner ups line)) ≡ length (opening vararg (length params) line) + length rest
     sum = length-append (opening vararg (length params) line) rest
 
-    wide : length rest ≡ whole_size (of_block inner []) (back_field vararg (length params)) inner (length params) 0
-    wide = whole_sized (of_block inner []) (back_field vararg (length params)) inner (length params) (length (opening vararg (length params) line))
+    wide : length rest ≡ whole_size (of_block inner []) (leaving_of vararg (length params) inner) inner (length params) 0
+    wide = whole_sized (of_block inner []) (leaving_of vararg (length params) inner) inner (length params) (length (opening vararg (length params) line))
 
     whole : (source : Option (List ℕ)) → (code_of source (BodyOf params vararg inner ups line)).own.locals ≡ cond (is_known source) (parameters ++ (within (length (opening vararg (length params) line)) ++ [])) []
     whole None = refl

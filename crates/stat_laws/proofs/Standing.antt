@@ -1,5 +1,5 @@
 -- What holds of a tree and its code between two statements, and how a jump leads from one such place to another.
-use Rattle.std.proofs.Common.{◌≡◌, ℕ, zero, suc, ◌+◌, ◌-◌, ◌<◌, ◌≤◌, pos, negsuc, ◌+ℤ◌, ◌-ℤ◌, Bool, true, false, cond, List, [], ◌∷◌, ◌++◌, length, map, Option, Some, None, refl, sym, ap, ap₂, subst, ◌∙◌, arith, append_assoc}
+use Rattle.std.proofs.Common.{◌≡◌, ℕ, zero, suc, ◌+◌, ◌-◌, ◌<◌, ◌≤◌, pos, negsuc, ◌+ℤ◌, ◌-ℤ◌, Bool, true, false, cond, List, [], ◌∷◌, ◌++◌, length, map, Option, Some, None, refl, sym, ap, ap₂, subst, ◌∙◌, arith, length-append, append_assoc}
 use borrow.Author.Tests.{le-leb, leb-true}
 use Rattle.std.specs.Prelude.{nat_le}
 use Rattle.int_core.specs.Value.{Value, known, nil, bind}
@@ -18,15 +18,15 @@ use Rattle.machine_core.specs.InstructionRows.{jumps}
 use Rattle.machine_core.specs.Talk as code
 use Rattle.machine_core.specs.Talk.{talk, talk_step, says_so, before, amid}
 use Rattle.code_of.specs.Coded.{with_abc, jump_over, jump_back}
-use Rattle.code_of.specs.Jumps.{Landing, jump_code}
-use Rattle.exp_laws.proofs.Registers.{Rel, Ascends, told, share_same, after_share}
+use Rattle.code_of.specs.Jumps.{Landing, jump_code, jump_size}
+use Rattle.exp_laws.proofs.Registers.{HeldBelow, held_higher, Rel, Ascends, told, share_same, after_share}
 use Rattle.exp_laws.specs.Setting.{Setting}
 use Rattle.exp_laws.proofs.Talking.{Agree, go_left, go_right, both_ask, of_tree, of_code}
 use Rattle.exp_laws.proofs.Placing.{HasAt, here_abc}
 use Rattle.exp_laws.proofs.Going.{next_there}
 use Rattle.exp_laws.proofs.Steps.{row_step}
 use Rattle.exp_laws.proofs.Tests.{jump_step}
-use Rattle.stat_laws.proofs.Closing.{Grown, as_before, one_more, grown_then, AllBelow, close_goes}
+use Rattle.stat_laws.proofs.Closing.{Grown, as_before, one_more, grown_then, AllBelow, NothingHeld, close_goes, empty_goes}
 use Rattle.list_laws.proofs.Items.{append_nil}
 
 -- a law at a number of asks that may rest on the law at fewer
@@ -57,6 +57,10 @@ from_more level (m ∷ ms) ns h g = (h.0, from_more level ms ns h.1 g)
 pub below_higher : (low high : ℕ) (ms : List ℕ) → low ≤ high → AllBelow ms low → AllBelow ms high
 below_higher low high [] le h = tt
 below_higher low high (m ∷ ms) le h = let f = h.0 in (omega (arith, f), below_higher low high ms le h.1)
+
+pub no_numbers : (ps : List Pending) → numbers ps ≡ [] → ps ≡ []
+no_numbers [] e = refl
+no_numbers (p ∷ ps) e = absurd (cc)
 
 abbrev first_of : List ℕ → ℕ
 first_of [] = 0
@@ -159,20 +163,33 @@ module _ (S : Setting) where
         go_right S n _ _ (before (of_code S ps target (brought c.held x.shared regs) opened) (told c)) (landed ([] ++ values_in x.reply) (brought c.held x.shared regs) (told c) opened)
         (after (brought c.held x.shared env) (brought c.held x.shared regs) (told c) af.size af.rel))
 
-  -- where a jump of two instructions leads
+  -- where a jump leads, which closes what it leaves or finds nothing open
 
-  ahead_code : (x : Landing) (pc line : ℕ) → pc + 2 ≤ x.place → jump_code x pc line ≡ with_abc Close x.level 0 0 line ∷ jump_over (x.place - (pc + 2)) line ∷ []
+  abbrev pub NoneOpen : List Pending → Captured → Type 0
+  NoneOpen ps c = (ps ≡ []) × HeldBelow c.held 0
+
+  ahead_code : (x : Landing) (pc line : ℕ) → pc + 2 ≤ x.place → jump_code true x pc line ≡ with_abc Close x.level 0 0 line ∷ jump_over (x.place - (pc + 2)) line ∷ []
   ahead_code x pc line le = ap (λ b. with_abc Close x.level 0 0 line ∷ cond b (jump_over (x.place - (pc + 2)) line) (jump_back (pc + 2 - x.place) line) ∷ []) (le-leb (pc + 2) x.place le)
 
-  back_code : (x : Landing) (pc line : ℕ) → x.place ≤ pc → jump_code x pc line ≡ with_abc Close x.level 0 0 line ∷ jump_back (pc + 2 - x.place) line ∷ []
-  back_code x pc line le = ap (λ b. with_abc Close x.level 0 0 line ∷ cond b (jump_over (x.place - (pc + 2)) line) (jump_back (pc + 2 - x.place) line) ∷ []) (by (nat_le (pc + 2) x.place) refl)
+  ahead_one : (x : Landing) (pc line : ℕ) → pc + 1 ≤ x.place → jump_code false x pc line ≡ jump_over (x.place - (pc + 1)) line ∷ []
+  ahead_one x pc line le = ap (λ b. cond b (jump_over (x.place - (pc + 1)) line) (jump_back (pc + 1 - x.place) line) ∷ []) (le-leb (pc + 1) x.place le)
+
+  -- a place that is not so far
+  not_ahead : (m place : ℕ) → place < m → nat_le m place ≡ false
+  not_ahead m place lt = by (nat_le m place) refl
     where
-      by : (b : Bool) → nat_le (pc + 2) x.place ≡ b → nat_le (pc + 2) x.place ≡ false
+      by : (b : Bool) → nat_le m place ≡ b → nat_le m place ≡ false
       by false e = e
-      by true e = let h = leb-true (pc + 2) x.place e in absurd (omega (arith, h, le))
+      by true e = let h = leb-true m place e in absurd (omega (arith, h, lt))
+
+  back_code : (x : Landing) (pc line : ℕ) → x.place ≤ pc → jump_code true x pc line ≡ with_abc Close x.level 0 0 line ∷ jump_back (pc + 2 - x.place) line ∷ []
+  back_code x pc line le = ap (λ b. with_abc Close x.level 0 0 line ∷ cond b (jump_over (x.place - (pc + 2)) line) (jump_back (pc + 2 - x.place) line) ∷ []) (not_ahead (pc + 2) x.place (omega (arith, le)))
+
+  back_one : (x : Landing) (pc line : ℕ) → x.place ≤ pc → jump_code false x pc line ≡ jump_back (pc + 1 - x.place) line ∷ []
+  back_one x pc line le = ap (λ b. cond b (jump_over (x.place - (pc + 1)) line) (jump_back (pc + 1 - x.place) line) ∷ []) (not_ahead (pc + 1) x.place (omega (arith, le)))
 
   module _ (n : ℕ) (x : Landing) (closed : List ℕ) (pc line : ℕ) (ps : List Pending) (env regs : List Value) (c : Captured) (opened : ℕ) (s : tree.State) (k : List Work)
-      (has : HasAt S pc (jump_code x pc line)) (end : pc + 2 < length S.code.own.code) (inside : x.place < length S.code.own.code) (more : List ℕ) (numbered : numbers ps ≡ closed ++ more) (from : AllFrom x.level more) (under : AllBelow closed x.level)
+      (inside : x.place < length S.code.own.code) (more : List ℕ) (numbered : numbers ps ≡ closed ++ more) (from : AllFrom x.level more) (under : AllBelow closed x.level)
       (low : x.level ≤ length env) (rel : Rel S.hidden S.code.own.stack ps env c regs) where
     parted : Parted x.level closed ps
     parted = part x.level closed more ps numbered from
@@ -180,8 +197,16 @@ module _ (S : Setting) where
     base_under : Ascends 0 parted.base x.level
     base_under = ascends_under 0 (length env) x.level parted.base parted.rest (subst (λ l. Ascends 0 l (length env)) parted.whole rel.ascends) (subst (λ l. AllBelow l x.level) (sym parted.numbered) under)
 
-    pub lands_ahead : (goes : Control) → pc + 2 ≤ x.place → step s ≡ go (leave_scope x.level line (known nil) goes) (of_tree S ps env c) k → GoesOn n x.level closed goes k x.place → Agree S n s (before (of_code S ps pc regs opened) c)
-    lands_ahead goes le st after =
+    -- nothing is open from the level on
+    nothing : NoneOpen ps c → NothingHeld S x.level parted.base ps c
+    nothing h =
+        let whole = ap length parted.whole ∙ length-append parted.base parted.rest in
+        let none : length ps ≡ 0 = ap length h.0 in
+        (held_higher c.held 0 x.level (omega arith) h.1, omega (arith, whole, none))
+
+    pub lands_ahead : (closes : Bool) → (closes ≡ false → NoneOpen ps c) → HasAt S pc (jump_code closes x pc line) → pc + jump_size closes < length S.code.own.code → (goes : Control) → pc + jump_size closes ≤ x.place
+        → step s ≡ go (leave_scope x.level line (known nil) goes) (of_tree S ps env c) k → GoesOn n x.level closed goes k x.place → Agree S n s (before (of_code S ps pc regs opened) c)
+    lands_ahead true shut has end goes le st after =
         let h = subst (HasAt S pc) (ahead_code x pc line le) has in
         let there = next_there S (pc + 1 + (x.place - (pc + 2) + 1)) (omega (arith, le, inside)) in
         let to : pc + 1 + (x.place - (pc + 2) + 1) ≡ x.place = omega (arith, le) in
@@ -192,10 +217,22 @@ module _ (S : Setting) where
         (subst (λ q. Agree S n (tree.at goes (of_tree S parted.base env1 c1) k) (before (of_code S parted.base q regs1 opened1) c1)) (sym to)
         (after n (omega arith) parted.base env1 regs1 c1 opened1 (record { numbered = parted.numbered; size = size1; rel = rel1 }))))
         ps parted.grown env regs c opened low rel)
+    lands_ahead false shut has end goes le st after =
+        let h = subst (HasAt S pc) (ahead_one x pc line le) has in
+        let there = next_there S (pc + (x.place - (pc + 1) + 1)) (omega (arith, le, inside)) in
+        let to : pc + (x.place - (pc + 1) + 1) ≡ x.place = omega (arith, le) in
+        go_left S n s _ _ st
+        (empty_goes S n x.level line pc parted.base goes k base_under
+        (λ env1 regs1 c1 opened1 size1 rel1. go_right S n _ _ (before (of_code S parted.base (pc + (x.place - (pc + 1) + 1)) regs1 opened1) c1)
+        (jump_step S.code (of_code S parted.base pc regs1 opened1) c1 (x.place - (pc + 1)) there.0 h.0 (omega (arith, inside, S.short)) there.1)
+        (subst (λ q. Agree S n (tree.at goes (of_tree S parted.base env1 c1) k) (before (of_code S parted.base q regs1 opened1) c1)) (sym to)
+        (after n (omega arith) parted.base env1 regs1 c1 opened1 (record { numbered = parted.numbered; size = size1; rel = rel1 }))))
+        ps parted.grown env regs c opened low (nothing (shut refl)) rel)
 
-    pub lands_back : (goes : Control) → x.place ≤ pc → step s ≡ go (leave_scope x.level line (known nil) (pay line goes)) (of_tree S ps env c) k
+    pub lands_back : (closes : Bool) → (closes ≡ false → NoneOpen ps c) → HasAt S pc (jump_code closes x pc line) → pc + jump_size closes < length S.code.own.code → (goes : Control) → x.place ≤ pc
+        → step s ≡ go (leave_scope x.level line (known nil) (pay line goes)) (of_tree S ps env c) k
         → ((m : ℕ) → m < n → GoesOn m x.level closed goes k x.place) → Agree S n s (before (of_code S ps pc regs opened) c)
-    lands_back goes le st after =
+    lands_back true shut has end goes le st after =
         let h = subst (HasAt S pc) (back_code x pc line le) has in
         go_left S n s _ _ st
         (close_goes S n x.level line pc parted.base (pay line goes) k (omega (arith, low, rel.fits, S.small)) (here_abc S Close x.level 0 0 false line pc (jump_back (pc + 2 - x.place) line ∷ []) h) h.0 (omega (arith, end)) base_under
@@ -207,4 +244,17 @@ module _ (S : Setting) where
         again zero after h env1 regs1 c1 opened1 size1 rel1 = tt
         again (suc m) after h env1 regs1 c1 opened1 size1 rel1 =
             back_goes (pc + 2 - x.place) x.place line (pc + 1) parted.base (omega (arith, le)) (omega (arith, end, S.short)) (omega (arith, le)) h inside m _ goes env1 regs1 c1 opened1 k refl rel1
+            (λ env2 regs2 c2 size2 rel2. after m (omega arith) m (omega arith) parted.base env2 regs2 c2 opened1 (record { numbered = parted.numbered; size = size2 ∙ size1; rel = rel2 }))
+    lands_back false shut has end goes le st after =
+        let h = subst (HasAt S pc) (back_one x pc line le) has in
+        go_left S n s _ _ st
+        (empty_goes S n x.level line pc parted.base (pay line goes) k base_under
+        (λ env1 regs1 c1 opened1 size1 rel1. again n after h env1 regs1 c1 opened1 size1 rel1) ps parted.grown env regs c opened low (nothing (shut refl)) rel)
+      where
+        again : (n : ℕ) → ((m : ℕ) → m < n → GoesOn m x.level closed goes k x.place) → HasAt S pc (jump_back (pc + 1 - x.place) line ∷ [])
+            → (env1 regs1 : List Value) (c1 : Captured) (opened1 : ℕ) → length env1 ≡ x.level → Rel S.hidden S.code.own.stack parted.base env1 c1 regs1
+            → Agree S n (tree.at (pay line goes) (of_tree S parted.base env1 c1) k) (before (of_code S parted.base pc regs1 opened1) c1)
+        again zero after h env1 regs1 c1 opened1 size1 rel1 = tt
+        again (suc m) after h env1 regs1 c1 opened1 size1 rel1 =
+            back_goes (pc + 1 - x.place) x.place line pc parted.base (omega (arith, le)) (omega (arith, end, S.short)) (omega (arith, le)) h inside m _ goes env1 regs1 c1 opened1 k refl rel1
             (λ env2 regs2 c2 size2 rel2. after m (omega arith) m (omega arith) parted.base env2 regs2 c2 opened1 (record { numbered = parted.numbered; size = size2 ∙ size1; rel = rel2 }))

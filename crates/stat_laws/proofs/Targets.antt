@@ -161,7 +161,7 @@ module _ (S : Setting) (ps : List Pending) where
       (to_register_step S.code r (read 0) there.0 (o ∷ []) (of_code S ps pc regs1 opened) c1 (omega (arith, room, af.rel.room)) there.1)
       (key_follows (text_number S.code.own.constants text) o text l r t n pc opened e ts es aimed env regs env1 regs1 c1 k refl stores ok.1 has.1.1 inside size le room af goes))
 
-  abbrev AimLaw : Exp → Type 0
+  abbrev pub AimLaw : Exp → Type 0
   AimLaw e =
       (r t n j pc opened : ℕ) (ts es : Exps) (aimed : List Target) (env regs : List Value) (c : Captured) (k : List Work)
       → n ≤ S.bound → HasAt S pc (target_code S.code.own.constants e r j) → IsTarget S.hidden e → IsPlaced S e t j → pc + length (target_code S.code.own.constants e r j) < length S.code.own.code
@@ -229,7 +229,7 @@ module _ (S : Setting) (ps : List Pending) where
   no_target : (e : Exp) → (IsTarget S.hidden e → ⊥) → AimLaw e
   no_target e none r t n j pc opened ts es aimed env regs c k fewer has is = absurd (none is)
 
-  target_aims : (e : Exp) → AimLaw e
+  pub target_aims : (e : Exp) → AimLaw e
   target_aims (Var l name) = variable_aims l name
   target_aims (Index l o key) = index_aims l o key
   target_aims (Nil l) = no_target (Nil l) (λ is. is)

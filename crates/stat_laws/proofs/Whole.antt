@@ -24,17 +24,20 @@ use Rattle.code_of.specs.Coded.{Coded, lines, leaving_by}
 use Rattle.code_of.specs.Constants.{of_block}
 use Rattle.code_of.specs.Jumps.{Reach}
 use Rattle.tree_terms.specs.Levels.{levels_after}
-use Rattle.code_of.specs.Levels.{closings_after, made_in_stats}
+use Rattle.code_of.specs.declared.leaving.Leaving.{Leaving}
+use Rattle.code_of.specs.Expressions.{made_in}
+use Rattle.code_of.specs.Levels.{closings_after, made_in_stats, made_in_block}
 use Rattle.code_of.specs.Parts.{return_code}
 use Rattle.code_of.specs.Sizes.{stats_size}
 use Rattle.code_of.specs.Statements.{stats_code, whole_code}
-use Rattle.code_of.specs.CodeOf.{back_field, opening, body_code, code_of}
-use Rattle.exp_laws.proofs.Registers.{AllUnder, Rel}
-use Rattle.exp_laws.specs.Setting.{Setting, Alike}
+use Rattle.code_of.specs.CodeOf.{back_field, leaving_of, opening, body_code, code_of}
+use Rattle.exp_laws.proofs.Registers.{AllUnder, HeldUnder, Rel}
+use Rattle.exp_laws.specs.Setting.{Setting, Alike, inside}
 use Rattle.exp_laws.proofs.Talking.{Agree, go_left, go_right, of_tree, of_code}
 use Rattle.exp_laws.proofs.Placing.{HasAt, has_front, has_back}
 use Rattle.exp_laws.proofs.Going.{next_there}
 use Rattle.exp_laws.proofs.Steps.{row_step, go_step}
+use Rattle.stat_laws.proofs.Ways.{way}
 use Rattle.stat_laws.proofs.Standing.{strong}
 use Rattle.code_of.proofs.Sizes.{stats_sized}
 use Rattle.stat_laws.proofs.Labels.{Jumps}
@@ -51,6 +54,7 @@ use Rattle.code_of.proofs.Lines.{lines_back}
 use Rattle.stat_laws.proofs.Lines.{has_all}
 use Rattle.stat_laws.specs.Fits.{is_known, setting, BlockFits, BodyFits, InBlock}
 use Rattle.stat_laws.proofs.Raised.{stats_up, return_up}
+use Rattle.stat_laws.proofs.Scoping.{none_counted, stats_scoped, return_scoped}
 
 -- arguments in locals and in registers
 
@@ -73,13 +77,13 @@ no_cells = record { held = []; gone = [] }
 abbrev start_reach : Reach
 start_reach = record { labels = []; exit = None }
 
-whole_some : (cs : List Const) (back : ℕ) (inner : Block) (params pc : ℕ) → 1 ≤ length (whole_code cs back inner params pc)
+whole_some : (cs : List Const) (back : Leaving) (inner : Block) (params pc : ℕ) → 1 ≤ length (whole_code cs back inner params pc)
 whole_some cs back (Falls ss tokens line) params pc =
-    let sum = length-append (stats_code cs back ss true false 0 params 0 pc [] start_reach) (leaving_by Return (levels_after ss params) 1 back line ∷ []) in omega (arith, sum)
+    let sum = length-append (stats_code cs back ss true false 0 params 0 pc [] start_reach) (leaving_by Return (levels_after ss params) 1 back.back line ∷ []) in omega (arith, sum)
 whole_some cs back (Returns ss es tokens line) params pc =
-    let last = return_code cs (closings_after ss false) es (levels_after ss params) (0 + made_in_stats ss) line back in
+    let last = return_code cs (closings_after ss false) es (levels_after ss params) (0 + made_in_stats ss) line back.back in
     let sum = length-append (stats_code cs back ss false false 0 params 0 pc [] start_reach) last in
-    let some = return_some cs (closings_after ss false) es (levels_after ss params) (0 + made_in_stats ss) line back in
+    let some = return_some cs (closings_after ss false) es (levels_after ss params) (0 + made_in_stats ss) line back.back in
     omega (arith, sum, some)
 
 module _ (S : Setting) (back : ℕ) where
@@ -104,8 +108,8 @@ module _ (S : Setting) (back : ℕ) where
       → Agree S n (tree.at (run (point_of inner 0)) (of_tree S [] env no_cells) (end_of_body (line_of_end inner) ∷ [])) (before (of_code S [] pc regs opened) no_cells)
 
   -- a function's block, at its first instruction
-  block_runs : (inner : Block) (n params pc : ℕ) → n ≤ S.bound → HasAt S pc (whole_code S.code.own.constants back inner params pc) → pc + length (whole_code S.code.own.constants back inner params pc) ≤ length S.code.own.code
-      → BlockFits S params inner → AllUnder S.hidden.integers 0 → BlockIsNamed S.lines S.code back inner false 0 params 0 pc → Runs inner n params pc
+  block_runs : (inner : Block) (n params pc : ℕ) → n ≤ S.bound → HasAt S pc (whole_code S.code.own.constants (way S back) inner params pc) → pc + length (whole_code S.code.own.constants (way S back) inner params pc) ≤ length S.code.own.code
+      → BlockFits S params inner → AllUnder S.hidden.integers 0 → BlockIsNamed S.lines S.code (way S back) inner false 0 params 0 pc → Runs inner n params pc
   block_runs (Falls ss tokens line) n params pc fewer has inside fits clear titles env regs opened size rel =
       (stats_goes back S ss (falls_off line) true 0 [] (end_of_body line ∷ []) (λ more. refl) n pc (pc + length body) false [] params 0 pc [] [] [] [] false start_reach (record {
         fewer = fewer;
@@ -130,16 +134,16 @@ module _ (S : Setting) (back : ℕ) where
       })).0 n (omega arith) [] env regs no_cells opened (record { numbered = refl; size = size; rel = rel })
     where
       body : List Coded
-      body = stats_code S.code.own.constants back ss true false 0 params 0 pc [] start_reach
+      body = stats_code S.code.own.constants (way S back) ss true false 0 params 0 pc [] start_reach
 
       last : List Coded
       last = leaving_by Return (levels_after ss params) 1 back line ∷ []
 
       size_of : ℕ
-      size_of = stats_size S.code.own.constants back ss false params 0
+      size_of = stats_size S.code.own.constants (way S back) ss false params 0
 
       sized : length body ≡ size_of
-      sized = stats_sized S.code.own.constants back ss true false 0 params 0 pc [] start_reach
+      sized = stats_sized S.code.own.constants (way S back) ss true false 0 params 0 pc [] start_reach
 
       sum : length (body ++ last) ≡ length body + 1
       sum = length-append body last
@@ -170,13 +174,13 @@ module _ (S : Setting) (back : ℕ) where
       })).0 n (omega arith) [] env regs no_cells opened (record { numbered = refl; size = size; rel = rel })
     where
       body : List Coded
-      body = stats_code S.code.own.constants back ss false false 0 params 0 pc [] start_reach
+      body = stats_code S.code.own.constants (way S back) ss false false 0 params 0 pc [] start_reach
 
       last : List Coded
       last = return_code S.code.own.constants (closings_after ss false) es (levels_after ss params) (0 + made_in_stats ss) line back
 
-      sized : length body ≡ stats_size S.code.own.constants back ss false params 0
-      sized = stats_sized S.code.own.constants back ss false false 0 params 0 pc [] start_reach
+      sized : length body ≡ stats_size S.code.own.constants (way S back) ss false params 0
+      sized = stats_sized S.code.own.constants (way S back) ss false false 0 params 0 pc [] start_reach
 
       sum : length (body ++ last) ≡ length body + length last
       sum = length-append body last
@@ -214,8 +218,16 @@ module _ (source : Option (List ℕ)) where
       p : Prototype
       p = code_of source (BodyOf params vararg inner ups line)
 
+      -- where a block makes no function, no local has a cell
+      celled_by : Block → Setting
+      celled_by block = inside (setting source (code_of source (BodyOf params vararg inner ups line)) N (cond vararg (drop (length params) arguments) []) fits.0.small fits.0.short) (nat_lt 0 (made_in_block block)) 0 true
+
       S : Setting
-      S = setting source (code_of source (BodyOf params vararg inner ups line)) N (cond vararg (drop (length params) arguments) []) fits.0.small fits.0.short
+      S = inside (setting source (code_of source (BodyOf params vararg inner ups line)) N (cond vararg (drop (length params) arguments) []) fits.0.small fits.0.short) (nat_lt 0 (made_in_block inner)) 0 true
+
+      none_held : (b : Bool) → HeldUnder [] (cond b [] (0 ∷ []))
+      none_held true = tt
+      none_held false = (tt, tt)
 
       regs : List Value
       regs = fitted (code_of source (BodyOf params vararg inner ups line)).own.stack (take (length params) arguments)
@@ -224,7 +236,7 @@ module _ (source : Option (List ℕ)) where
       begin = opening vararg (length params) line
 
       whole : List Coded
-      whole = whole_code (of_block inner []) (back_field vararg (length params)) inner (length params) (length (opening vararg (length params) line))
+      whole = whole_code (of_block inner []) (leaving_of vararg (length params) inner) inner (length params) (length (opening vararg (length params) line))
 
       has : HasAt S 0 (begin ++ whole)
       has = has_all S [] (body_code (BodyOf params vararg inner ups line)) refl (λ i x e. lined source (BodyOf params vararg inner ups line) i x e)
@@ -236,7 +248,7 @@ module _ (source : Option (List ℕ)) where
       sized = length-map (begin ++ whole) (λ y. y.0) ∙ length-append begin whole
 
       some : 1 ≤ length whole
-      some = whole_some (of_block inner []) (back_field vararg (length params)) inner (length params) (length begin)
+      some = whole_some (of_block inner []) (leaving_of vararg (length params) inner) inner (length params) (length begin)
 
       rel : Rel S.hidden S.code.own.stack [] (fitted (length params) arguments) no_cells regs
       rel =
@@ -246,17 +258,26 @@ module _ (source : Option (List ℕ)) where
           record {
             agree = λ r lr. nth_fitted (length params) arguments r (omega (arith, lr, wide)) ∙ sym (nth_registers (code_of source (BodyOf params vararg inner ups line)).own.stack (length params) arguments r (omega (arith, lr, wide)) room);
             held = tt;
-            hides = record { free = λ r a. absurd a; whole = λ r a. absurd a; low = tt };
+            hides = record { free = λ r a. absurd a; whole = λ r a. absurd a; low = none_held (nat_lt 0 (made_in_block inner)); bare = λ e. tt };
             ascends = tt;
             fits = omega (arith, wide, room);
             room = omega (arith, all);
           }
 
-      raised : (inner' : Block) → BlockFits (setting source p 0 [] fits.0.small fits.0.short) (length params) inner' → InBlock source p inner' 0 → BlockFits S (length params) inner'
-      raised (Falls ss tokens end) h g = (stats_up source p N (cond vararg (drop (length params) arguments) []) fits.0.small fits.0.short below (record { integers = []; free_from = [] }) ss true false (length params) 0 [] [] false h.0 g, h.1)
+      raised : (inner' : Block) → BlockFits (setting source p 0 [] fits.0.small fits.0.short) (length params) inner' → InBlock source p inner' 0 → BlockFits (celled_by inner') (length params) inner'
+      raised (Falls ss tokens end) h g = (
+        stats_scoped (nat_lt 0 (made_in_stats ss)) 0 true (setting source p N (cond vararg (drop (length params) arguments) []) fits.0.small fits.0.short) ss true false (length params) 0 [] [] false
+            (stats_up source p N (cond vararg (drop (length params) arguments) []) fits.0.small fits.0.short below (record { integers = []; free_from = []; celled = true }) ss true false (length params) 0 [] [] false h.0 g)
+            (λ is. none_counted (made_in_stats ss) is),
+        h.1,
+      )
       raised (Returns ss es tokens end) h g = (
-        stats_up source p N (cond vararg (drop (length params) arguments) []) fits.0.small fits.0.short below (record { integers = []; free_from = [] }) ss false false (length params) 0 [] [] false h.0 g.0,
-        return_up source p N (cond vararg (drop (length params) arguments) []) fits.0.small fits.0.short below (record { integers = []; free_from = [] }) es (closings_after ss false) (levels_after ss (length params)) (0 + made_in_stats ss) h.1 g.1,
+        stats_scoped (nat_lt 0 (made_in_stats ss + made_in es)) 0 true (setting source p N (cond vararg (drop (length params) arguments) []) fits.0.small fits.0.short) ss false false (length params) 0 [] [] false
+            (stats_up source p N (cond vararg (drop (length params) arguments) []) fits.0.small fits.0.short below (record { integers = []; free_from = []; celled = true }) ss false false (length params) 0 [] [] false h.0 g.0)
+            (λ is. let none = none_counted (made_in_stats ss + made_in es) is in omega (arith, none)),
+        return_scoped (nat_lt 0 (made_in_stats ss + made_in es)) 0 true (setting source p N (cond vararg (drop (length params) arguments) []) fits.0.small fits.0.short) es (closings_after ss false) (levels_after ss (length params)) (0 + made_in_stats ss)
+            (return_up source p N (cond vararg (drop (length params) arguments) []) fits.0.small fits.0.short below (record { integers = []; free_from = []; celled = true }) es (closings_after ss false) (levels_after ss (length params)) (0 + made_in_stats ss) h.1 g.1)
+            (λ is. let none = none_counted (made_in_stats ss + made_in es) is in omega (arith, none)),
       )
 
   -- the code of a body means it

@@ -23,7 +23,7 @@ BlockFits S params (Returns ss es tokens line) = StatsArePlaced S ss false false
 module _ (source : Option (List ℕ)) where
   -- a function under way whose inner functions are alike through fewer than `bound` asks
   abbrev pub setting : (p : Prototype) (bound : ℕ) (varargs : List Value) → p.own.stack < 2 ^ 8 → length p.own.code ≤ 2 ^ 24 → Setting
-  setting p bound varargs small short = record { lines = is_known source; code = p; varargs = varargs; bound = bound; hidden = record { integers = []; free_from = [] }; small = small; short = short }
+  setting p bound varargs small short = record { lines = is_known source; code = p; varargs = varargs; bound = bound; hidden = record { integers = []; free_from = []; celled = true }; small = small; short = short }
 
   -- the function alone; nothing is asked of the functions in it
   pub record Alone (p : Prototype) (params : ℕ) (inner : Block) : Type 0 where

@@ -11,16 +11,17 @@ use Rattle.code_core.specs.declared.proto.Const.TheVariants.{Str as StrConst}
 use Rattle.code_of.specs.Expressions.{made_by, made_in, count, is_open}
 use Rattle.code_of.specs.Levels.{made_by_stat, made_in_arms, made_in_stats, made_in_block, closing_after, closings_after}
 use Rattle.tree_terms.specs.Levels.{level_after, levels_after, levels_in}
+use Rattle.code_of.specs.declared.leaving.Leaving.{Leaving}
 use Rattle.code_of.specs.Sizes.{block_size}
 use Rattle.exp_laws.specs.Setting.{Hidden, Setting, hiding}
 use Rattle.code_of.specs.Constants.{Found}
 use Rattle.exp_laws.specs.Placed.{Inner, Captures, IsPlaced, ArePlaced}
 use Rattle.tree_terms.specs.Hidden.{IsNoneOf}
 use Rattle.code_of.specs.Coded.{Coded}
-use Rattle.code_of.specs.Operands.{assigned}
+use Rattle.code_of.specs.Operands.{assigned, second_assigned}
 use Rattle.code_of.specs.Stores.{stores_field}
 use Rattle.code_of.specs.Targets.{single_store}
-use Rattle.code_of.specs.Rooms.{room_of, room_of_target, room_of_assigned, room_of_first, room_of_test, room_of_list, room_of_self}
+use Rattle.code_of.specs.Rooms.{room_of, room_of_target, room_of_assigned, room_of_first, room_of_last, room_of_test, room_of_list, room_of_self, room_of_two}
 
 -- what can be assigned: a name, though no hidden local has one, or an index
 abbrev pub MayAssign : (hidden : Hidden) → Place → Type 0
@@ -34,7 +35,7 @@ IsTarget hidden _ = ⊥
 
 -- the block of a loop is short enough for the loop's instructions to name its length
 abbrev pub IsNear : List Const → Block → (closing : Bool) → (outer t j : ℕ) → Type 0
-IsNear constants block closing outer t j = (back : ℕ) → block_size constants back block closing outer t j + 2 < 2 ^ 17
+IsNear constants block closing outer t j = (back : Leaving) → block_size constants back block closing outer t j + 2 < 2 ^ 17
 
 module _ (S : Setting) where
   -- targets whose tables and keys go to the registers from r on, two for each
@@ -56,14 +57,20 @@ module _ (S : Setting) where
       ArePlaced S targets t j × (ArePlaced S es t (j + made_in targets) × (t + room_of_first S.code.own.constants targets es ≤ S.code.own.stack))
   StoreIsPlaced false targets es t j = KeptIsPlaced (single_store S.code.own.constants targets es) targets es t j
 
+  -- two values, of which the second one goes straight to the register of a local, or other stores
+  abbrev pub TwoIsPlaced : Option ℕ → (targets es : Exps) → (t j : ℕ) → Type 0
+  TwoIsPlaced None targets es t j = StoreIsPlaced (stores_field targets es) targets es t j
+  TwoIsPlaced (Some r) targets es t j =
+      TargetsArePlaced targets t t j × ((r < t) × (IsNoneOf r S.hidden.integers × (ArePlaced S es t (j + made_in targets) × (t + room_of_two S.code.own.constants targets es ≤ S.code.own.stack))))
+
   -- a local that gets a value straight into its register is in scope, and not a hidden one
   abbrev pub AssignIsPlaced : Option ℕ → (targets es : Exps) → (t j : ℕ) → Type 0
-  AssignIsPlaced None targets es t j = StoreIsPlaced (stores_field targets es) targets es t j
+  AssignIsPlaced None targets es t j = TwoIsPlaced (second_assigned targets es) targets es t j
   AssignIsPlaced (Some r) targets es t j =
       (r < t) × (IsNoneOf r S.hidden.integers × (ArePlaced S es t (j + made_in targets) × (t + room_of_assigned S.code.own.constants es ≤ S.code.own.stack)))
 
   abbrev pub ListIsPlaced : Exps → (t j : ℕ) → Type 0
-  ListIsPlaced es t j = ArePlaced S es t j × ((t + room_of_list S.code.own.constants 0 es None ≤ S.code.own.stack) × (count es + 1 < 2 ^ 8))
+  ListIsPlaced es t j = ArePlaced S es t j × ((t + room_of_last S.code.own.constants es ≤ S.code.own.stack) × (count es + 1 < 2 ^ 8))
 
   -- what `return` gives: a call in the function's place, or a list
   abbrev pub LastIsPlaced : Exps → (t j : ℕ) → Type 0

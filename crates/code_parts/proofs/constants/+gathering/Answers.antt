@@ -3,7 +3,8 @@ use Rattle.std.proofs.lemmas.Result.{on_ok_weaker}
 use Rattle.tree_core.specs.Tree as tree
 use Rattle.tree_core.specs.Plain.{plain_exps, plain_stat, plain_stat_node, plain_block}
 use Rattle.tree_core.proofs.Rows.{plain-local, plain-assign, plain-gen_for, with_result, without_result}
-use Rattle.code_of.specs.Constants.{of_exps, of_stat, of_block}
+use Rattle.code_of.specs.ConstantOperands.{stored_constant}
+use Rattle.code_of.specs.Constants.{with_any, of_exps, of_stat, of_block}
 use Rattle.code_parts.proofs.constants.+gathering.Goals as goal
 
 pub add_block-returns-in_ok-add_stats-in-Some : goal.add_block-returns-in_ok-add_stats-in-Some
@@ -21,12 +22,15 @@ add_stat-returns-in-Local t c =
     ap (λ node. plain_stat_node node c.args.stat.now.line) c.in-Local.is ∙ plain-local c.args.stat.now.line c.in-Local.field-0 c.in-Local.values in
     on_ok_weaker c.add_exps.result (λ h. h ∙ sym (ap (λ s. of_stat s c.args.constants.now) is)) c.add_exps.ensures
 
-pub add_stat-returns-in_ok-add_exps-in-Assign : goal.add_stat-returns-in_ok-add_exps-in-Assign
-add_stat-returns-in_ok-add_exps-in-Assign t c =
+pub add_stat-returns-in_ok-add_stored-in-Assign : goal.add_stat-returns-in_ok-add_stored-in-Assign
+add_stat-returns-in_ok-add_stored-in-Assign t c =
+    let ts = tree.exps (plain_exps c.in-Assign.targets.items) in
     let es = tree.exps (plain_exps c.in-Assign.values.items) in
-    let is : plain_stat c.args.stat.now ≡ tree.Assign c.args.stat.now.line (tree.exps (plain_exps c.in-Assign.targets.items)) es =
+    let is : plain_stat c.args.stat.now ≡ tree.Assign c.args.stat.now.line ts es =
     ap (λ node. plain_stat_node node c.args.stat.now.line) c.in-Assign.is ∙ plain-assign c.args.stat.now.line c.in-Assign.targets c.in-Assign.values in
-    on_ok_weaker c.add_exps-in-Assign-2.result (λ h. h ∙ ap (of_exps es) c.in_ok-add_exps-in-Assign.ensures ∙ sym (ap (λ s. of_stat s c.args.constants.now) is)) c.add_exps-in-Assign-2.ensures
+    let stored : c.add_stored.new.self ≡ with_any (stored_constant ts es) (of_exps ts c.args.constants.now) =
+    c.in_ok-add_stored-in-Assign.ensures ∙ ap (with_any (stored_constant ts es)) c.in_ok-add_exps-in-Assign.ensures in
+    on_ok_weaker c.add_exps-in-Assign-2.result (λ h. h ∙ ap (of_exps es) stored ∙ sym (ap (λ s. of_stat s c.args.constants.now) is)) c.add_exps-in-Assign-2.ensures
 
 pub add_stat-returns-in_ok-add_exps-in-GenFor : goal.add_stat-returns-in_ok-add_exps-in-GenFor
 add_stat-returns-in_ok-add_exps-in-GenFor t c =

@@ -13,7 +13,7 @@ loop-i-preserved c =
     let is : c.index_mut.result.now ≡ slice_index_or c.loop-i.jumps.items c.loop-i.i c.index_mut.result.now = search rules in (
       omega (arith, c.loop-i.invariant.0),
       front_kept c.loop-i.jumps.items c.args.from c.loop-i.i c.meet.new.self c.loop-i.invariant.0 ∙ c.loop-i.invariant.1,
-      λ ahead reach xs. one_more (leads_to ahead reach) (leads_to (record { name = c.args.name.now; landing = landing c.args.to } ∷ ahead) reach) c.loop-i.jumps.items c.args.from c.loop-i.i c.index_mut.result.now c.meet.new.self xs c.loop-i.invariant.0 inside is c.meet.ensures.place c.meet.ensures.line (c.meet.ensures.leads ahead reach) ∙ c.loop-i.invariant.2 ahead reach xs,
+      λ ahead reach xs. one_more (leads_to ahead reach) (leads_to (record { name = c.args.name.now; landing = landing c.args.to } ∷ ahead) reach) c.loop-i.jumps.items c.args.from c.loop-i.i c.index_mut.result.now c.meet.new.self xs c.loop-i.invariant.0 inside is c.meet.ensures.place c.meet.ensures.line c.meet.ensures.closes (c.meet.ensures.leads ahead reach) ∙ c.loop-i.invariant.2 ahead reach xs,
     )
 
 pub returns-clause-leads : goal.returns-clause-leads

@@ -13,7 +13,7 @@ loop-i-preserved c =
     let is : c.index_mut.result.now ≡ slice_index_or c.loop-i.jumps.items c.loop-i.i c.index_mut.result.now = search rules in (
       omega (arith, c.loop-i.invariant.0),
       front_kept c.loop-i.jumps.items c.args.from c.loop-i.i c.settle.new.self c.loop-i.invariant.0 ∙ c.loop-i.invariant.1,
-      λ ahead reach xs. one_more (leads_to ahead reach) (arrives (within ahead (newest_first c.args.passed.now.items []) reach)) c.loop-i.jumps.items c.args.from c.loop-i.i c.index_mut.result.now c.settle.new.self xs c.loop-i.invariant.0 inside is c.settle.ensures.place c.settle.ensures.line (c.settle.ensures.leads ahead reach) ∙ c.loop-i.invariant.2 ahead reach xs,
+      λ ahead reach xs. one_more (leads_to ahead reach) (arrives (within ahead (newest_first c.args.passed.now.items []) reach)) c.loop-i.jumps.items c.args.from c.loop-i.i c.index_mut.result.now c.settle.new.self xs c.loop-i.invariant.0 inside is c.settle.ensures.place c.settle.ensures.line c.settle.ensures.closes (c.settle.ensures.leads ahead reach) ∙ c.loop-i.invariant.2 ahead reach xs,
     )
 
 pub returns-clause-leads : goal.returns-clause-leads

@@ -3,7 +3,7 @@ use Rattle.std.specs.Prelude.{slice_index_or}
 use Rattle.std.proofs.lemmas.Result.{on_ok_weaker}
 use Rattle.tree_core.specs.Tree as tree
 use Rattle.tree_core.specs.Plain.{plain_exp, plain_exps}
-use Rattle.code_stat.proofs.Returning.{single}
+use Rattle.code_expr.proofs.Rows.{single}
 use Rattle.code_stat.proofs.Assigning.{one_target, one_value, none_by, direct_follows, stored_follows}
 use Rattle.code_stat.proofs.simple.write_assign.Goals as goal
 
@@ -12,16 +12,16 @@ returns-then-len-ne1 c =
     let ts = c.args.targets.now.items in
     let es = tree.exps (plain_exps c.args.values.now.items) in
     let size : c.len.result ≡ length ts = search rules in
-    on_ok_weaker c.write_single.result
-    (stored_follows c.args.emitter.now c.write_single.new.emitter (tree.exps (plain_exps ts)) es c.args.register c.args.line (one_target ts es (λ h. c.if-len-ne1.true (size ∙ h)))) c.write_single.ensures
+    on_ok_weaker c.write_several.result
+    (stored_follows c.args.emitter.now c.write_several.new.emitter (tree.exps (plain_exps ts)) es c.args.register c.args.line (one_target ts es (λ h. c.if-len-ne1.true (size ∙ h)))) c.write_several.ensures
 
 pub returns-then-len-ne1-2 : goal.returns-then-len-ne1-2
 returns-then-len-ne1-2 c =
     let es = c.args.values.now.items in
     let ts = tree.exps (plain_exps c.args.targets.now.items) in
     let size : c.len-2.result ≡ length es = search rules in
-    on_ok_weaker c.write_single-then-len-ne1-2.result
-    (stored_follows c.args.emitter.now c.write_single-then-len-ne1-2.new.emitter ts (tree.exps (plain_exps es)) c.args.register c.args.line (one_value ts es (λ h. c.if-len-ne1-2.true (size ∙ h)))) c.write_single-then-len-ne1-2.ensures
+    on_ok_weaker c.write_several-then-len-ne1-2.result
+    (stored_follows c.args.emitter.now c.write_several-then-len-ne1-2.new.emitter ts (tree.exps (plain_exps es)) c.args.register c.args.line (one_value ts es (λ h. c.if-len-ne1-2.true (size ∙ h)))) c.write_several-then-len-ne1-2.ensures
 
 pub returns-in-Some : goal.returns-in-Some
 returns-in-Some c =
@@ -43,6 +43,6 @@ returns-in-None c =
     let alone : length c.args.values.now.items ≡ 1 = search rules in
     let first : target ≡ slice_index_or c.args.targets.now.items 0 target = search rules in
     let only : value ≡ slice_index_or c.args.values.now.items 0 value = search rules in
-    on_ok_weaker c.write_single-in-None.result
-    (stored_follows c.args.emitter.now c.write_single-in-None.new.emitter (tree.exps (plain_exps c.args.targets.now.items)) (tree.exps (plain_exps c.args.values.now.items)) c.args.register c.args.line
-    (none_by (single c.args.targets.now.items target one first) (single c.args.values.now.items value alone only) (sym c.direct_local.ensures ∙ c.in-None.is))) c.write_single-in-None.ensures
+    on_ok_weaker c.write_several-in-None.result
+    (stored_follows c.args.emitter.now c.write_several-in-None.new.emitter (tree.exps (plain_exps c.args.targets.now.items)) (tree.exps (plain_exps c.args.values.now.items)) c.args.register c.args.line
+    (none_by (single c.args.targets.now.items target one first) (single c.args.values.now.items value alone only) (sym c.direct_local.ensures ∙ c.in-None.is))) c.write_several-in-None.ensures

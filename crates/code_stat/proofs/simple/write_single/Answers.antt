@@ -3,7 +3,7 @@ use Rattle.std.specs.Prelude.{slice_index_or}
 use Rattle.std.proofs.lemmas.Result.{on_ok_weaker}
 use Rattle.tree_core.specs.Tree as tree
 use Rattle.tree_core.specs.Plain.{plain_exp, plain_exps}
-use Rattle.code_stat.proofs.Returning.{single}
+use Rattle.code_expr.proofs.Rows.{single}
 use Rattle.code_stat.proofs.Assigning.{one_field, one_stored, one_name, one_local, no_store_by, kept_by, kept_follows, local_follows, field_follows}
 use Rattle.code_stat.proofs.simple.write_single.Goals as goal
 

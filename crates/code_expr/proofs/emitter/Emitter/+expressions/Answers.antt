@@ -1,28 +1,40 @@
-use Rattle.std.proofs.Common.{arith, rules, ◌≡◌, ℕ, ◌+◌, ◌-◌, ◌<◌, [], ◌∷◌, ◌++◌, cond, sym, ap, ◌∙◌, Some, None, length, map}
+use Rattle.std.proofs.Common.{arith, rules, ◌≡◌, ℕ, suc, ◌+◌, ◌-◌, ◌<◌, ◌&&◌, true, false, [], ◌∷◌, ◌++◌, cond, refl, sym, ap, ◌∙◌, subst, Some, None, length, map}
+use Rattle.std.specs.Prelude.{nat_eq, IfOk}
 use Rattle.tree_core.specs.Tree as tree
+use Rattle.tree_core.specs.declared.operator.UnOp.TheVariants.{Not as Negation}
 use Rattle.tree_core.specs.Plain.{plain_exp, plain_exps, plain_field}
-use Rattle.code_core.specs.declared.opcode.Opcode.TheVariants.{Test, GetTable, GetI, GetField, ExtraArg}
+use Rattle.code_core.specs.declared.opcode.Opcode.TheVariants.{GetTable, GetI, GetField, Concat, ExtraArg}
 use Rattle.code_core.specs.declared.opcode.Opcode.TheVariants.{Call as CallCode}
-use Rattle.code_core.specs.Instruction.{abc, op_ax}
+use Rattle.code_core.specs.Instruction.{op_ax}
 use Rattle.code_of.specs.Coded.{with_abc}
-use Rattle.code_of.specs.Operands.{local_of, second_of, key_operand, seat, unless}
+use Rattle.code_of.specs.Operands.{local_of, joins, second_of, key_operand, seat, unless}
 use Rattle.code_of.specs.Stores.{name_in, is_quiet, field_key}
 use Rattle.code_of.specs.FieldReads.{read_code}
 use Rattle.code_expr.proofs.FieldSeats.{name_makes, keyed_written}
-use Rattle.code_expr.specs.Stores.{key_seat, seat_code, seat_made, seat_store}
+use Rattle.code_of.specs.StoredValues.{stored_value}
+use Rattle.code_expr.specs.Stores.{key_seat, seat_code, seat_made, value_place, place_code, place_made, place_store}
 use Rattle.code_of.proofs.Operands.{operator_stands, key_stands}
-use Rattle.code_of.specs.Operations.{constant_code}
+use Rattle.code_of.specs.Operations.{constant_in, constant_code, operation_code}
+use Rattle.code_of.specs.Chains.{continues, links, unjoined, chain_code}
 use Rattle.code_expr.proofs.ConstantSeats.{operation_written}
 use Rattle.code_of.specs.Operators.{self_code, prefix_code, operator_code, number_code}
 use Rattle.code_expr.proofs.Seats.{local_written, seated_written, seated_stand, done_written}
 use Rattle.code_of.specs.Expressions.{exp_code, exps_code, set_list, list_field, made_by, made_in}
 use Rattle.code_expr.specs.Listing.{listed, followed}
-use Rattle.code_expr.proofs.Joining.{then_made, then_listed, listed_then, jumped}
+use Rattle.code_expr.proofs.Joining.{then_made, then_listed, listed_then}
 use Rattle.code_expr.proofs.Going.{fields_from, next_exp, next_field}
-use Rattle.std.proofs.lemmas.Result.{on_ok_weaker}
+use Rattle.code_expr.proofs.Links.{whole_written, chain_is_binary, link_written, link_counted, last_written, last_counted, apart_ends, joined_written}
+use Rattle.std.proofs.lemmas.Result.{on_ok_weaker, IfOk-weaker}
 use Rattle.std.proofs.Common.{ap₂}
 use Rattle.tree_core.specs.Plain.{plain_exp_node}
 use Rattle.tree_core.proofs.Rows.{plain-call, plain-method}
+use Rattle.code_of.specs.Conditions.{value_test}
+use Rattle.code_expr.specs.Leading.{led_on, Opened}
+use Rattle.code_expr.specs.Testing.{Tests, either_test, is_valued, is_plain, is_truth, either_keep}
+use Rattle.code_expr.proofs.Leading.{opened_at}
+use Rattle.code_expr.proofs.Testing.{paren_tests, and_tests, or_tests, not_tests, by_value_tests, valued_is, operator_is, comparison_tests, other_tests, value_opened, compared_opened, either_here, either_away}
+use Rattle.code_expr.proofs.Kept.{paren_keeps, and_keeps, or_keeps, leaf_keeps, truth_keeps, loaded_keeps, local_keeps, made_keeps, both_keep, one_keeps, either_written}
+use Rattle.code_expr.proofs.Rows.{line_is}
 use Rattle.code_expr.proofs.emitter.Emitter.+expressions.Goals as goal
 
 pub expression-returns-in-Call : goal.expression-returns-in-Call
@@ -30,18 +42,20 @@ expression-returns-in-Call t c =
     let es = tree.exps (plain_exps c.in-Call.arguments.items) in
     let is : plain_exp c.args.exp.now ≡ tree.Call c.args.exp.now.line (plain_exp c.in-Call.called.value) es =
     ap (λ node. plain_exp_node node c.args.exp.now.line) c.in-Call.is ∙ plain-call c.args.exp.now.line c.in-Call.called c.in-Call.arguments in
-    on_ok_weaker c.call.result (λ h. h
-    ∙ ap (λ e. followed c.args.self.now (exp_code c.args.self.now.constants e c.args.target c.args.self.now.made c.args.results) (made_by e))
-    (ap (λ e. tree.Call c.args.exp.now.line (plain_exp e) es) c.deref-in-Call.ensures ∙ sym is)) c.call.ensures
+    let called = plain_exp c.deref-in-Call.result.now in
+    let same : tree.Call c.args.exp.now.line called es ≡ plain_exp c.args.exp.now = ap (λ e. tree.Call c.args.exp.now.line (plain_exp e) es) c.deref-in-Call.ensures ∙ sym is in
+    on_ok_weaker c.call.result (whole_written c.args.self.now c.call.new.self (tree.Call c.args.exp.now.line called es) (plain_exp c.args.exp.now) c.args.target c.args.results same) c.call.ensures
 
 pub expression-returns-in-Method : goal.expression-returns-in-Method
 expression-returns-in-Method t c =
     let es = tree.exps (plain_exps c.in-Method.arguments.items) in
     let is : plain_exp c.args.exp.now ≡ tree.Method c.args.exp.now.line (plain_exp c.in-Method.object.value) c.in-Method.name es =
     ap (λ node. plain_exp_node node c.args.exp.now.line) c.in-Method.is ∙ plain-method c.args.exp.now.line c.in-Method.object c.in-Method.name c.in-Method.arguments in
-    on_ok_weaker c.method.result (λ h. h
-    ∙ ap (λ e. followed c.args.self.now (exp_code c.args.self.now.constants e c.args.target c.args.self.now.made c.args.results) (made_by e))
-    (ap (λ e. tree.Method c.args.exp.now.line (plain_exp e) c.in-Method.name es) c.deref-in-Method.ensures ∙ sym is)) c.method.ensures
+    let object = plain_exp c.deref-in-Method.result.now in
+    let same : tree.Method c.args.exp.now.line object c.in-Method.name es ≡ plain_exp c.args.exp.now =
+    ap (λ e. tree.Method c.args.exp.now.line (plain_exp e) c.in-Method.name es) c.deref-in-Method.ensures ∙ sym is in
+    on_ok_weaker c.method.result
+    (whole_written c.args.self.now c.method.new.self (tree.Method c.args.exp.now.line object c.in-Method.name es) (plain_exp c.args.exp.now) c.args.target c.args.results same) c.method.ensures
 
 pub unary-returns : goal.unary-returns
 unary-returns t c =
@@ -50,6 +64,11 @@ unary-returns t c =
     then_listed c.args.self.now c.operand.new.self c.prefix.new.self (unless (local_of e) (exp_code c.args.self.now.constants e c.args.free c.args.self.now.made 2)) (made_by e)
     (λ k. prefix_code c.args.op (seat (local_of e) c.args.free) c.args.target c.args.line) c.in_ok-register.ensures.code prefixed
 
+pub binary-returns-then-joins : goal.binary-returns-then-joins
+binary-returns-then-joins t c =
+    let joined : joins c.args.op ≡ true = sym c.joins.ensures ∙ c.if-joins.true in
+    on_ok_weaker c.join.result (chain_is_binary c.args.self.now c.join.new.self c.args.line c.args.op (plain_exp c.args.left.now) (plain_exp c.args.right.now) c.args.target joined) c.join.ensures
+
 pub binary-returns : goal.binary-returns
 binary-returns t c =
     let k = c.args.self.now.constants in
@@ -57,11 +76,83 @@ binary-returns t c =
     let d = plain_exp c.args.right.now in
     let left = exp_code k e c.args.target c.args.self.now.made 2 in
     let right = exp_code k d (c.args.target + 1) (c.args.self.now.made + made_by e) 2 in
+    let apart : joins c.args.op ≡ false = sym c.joins.ensures ∙ c.if-joins.false in
     let code = rw c.standing-stays.ensures at c.in_ok-operands.ensures.code in
     let places = rw c.standing-stays.ensures at c.in_ok-operands.ensures.places in
     operation_written c.args.self.now c.operands.new.self c.apply.new.self k c.args.op e d left right c.args.target c.in_ok-operands.operands
     (λ x n. constant_code c.args.op x n c.args.target c.args.line) (λ x y. operator_code c.args.op x y c.args.target c.args.line) (λ x n. number_code c.args.op x n c.args.target c.args.line)
     code places c.in_ok-apply.ensures
+    ∙ ap (λ b. followed c.args.self.now (cond b (chain_code c.args.line d left right c.args.target) (operation_code (constant_in k c.args.op d) c.args.op e d left right c.args.target c.args.target c.args.line)) (made_by e + made_by d)) (sym apart)
+
+pub join-returns : goal.join-returns
+join-returns t c =
+    let e = plain_exp c.args.left.now in
+    let d = plain_exp c.args.right.now in
+    let put : c.put_abc.new.self ≡ listed c.link.new.self (with_abc Concat c.args.target (suc (links c.args.line d)) 0 c.args.line ∷ []) = rw c.in_ok-count.ensures.count at c.in_ok-put_abc.ensures in
+    joined_written c.args.self.now c.link.new.self c.put_abc.new.self c.args.line e d c.args.target (made_by e + made_by d) c.in_ok-count.ensures.code put
+
+pub link-returns-clause-code : goal.link-returns-clause-code
+link-returns-clause-code t c =
+    let k = c.args.self.now.constants in
+    let e = plain_exp c.args.left.now in
+    let d = plain_exp c.args.right.now in
+    let right : c.link_right.new.self ≡ followed c.expression.new.self (unjoined (continues c.args.line d) (exp_code c.expression.new.self.constants d (c.args.target + 1) c.expression.new.self.made 2)) (made_by d) =
+    rw c.in_ok-above.ensures at c.in_ok-behind.ensures.code in
+    then_made c.args.self.now c.expression.new.self c.link_right.new.self (exp_code k e c.args.target c.args.self.now.made 2) (made_by e) (λ k j. unjoined (continues c.args.line d) (exp_code k d (c.args.target + 1) j 2)) (made_by d)
+    c.in_ok-expression.ensures right
+
+pub link-returns-clause-count : goal.link-returns-clause-count
+link-returns-clause-count t c = omega (arith, c.in_ok-count.ensures, c.in_ok-behind.ensures.count)
+
+pub link_right-returns-then-continues-clause-code : goal.link_right-returns-then-continues-clause-code
+link_right-returns-then-continues-clause-code t c =
+    let own = c.args.exp.now.line in
+    let e = plain_exp c.deref.result.now in
+    let d = plain_exp c.deref-then-continues.result.now in
+    let is : plain_exp c.args.exp.now ≡ tree.Binary own c.in-Binary.op e d =
+    ap (λ node. plain_exp_node node own) c.in-Binary.is ∙ ap₂ (λ x y. tree.Binary own c.in-Binary.op (plain_exp x) (plain_exp y)) (sym c.deref.ensures) (sym c.deref-then-continues.ensures) in
+    let more : (joins c.in-Binary.op && nat_eq own c.args.line) ≡ true = sym c.continues.ensures ∙ c.if-continues.true in
+    on_ok_weaker c.link.result (link_written c.args.line own c.in-Binary.op e d (plain_exp c.args.exp.now) is more c.args.self.now c.link.new.self c.args.target) c.link.ensures.code
+
+pub link_right-returns-then-continues-clause-count : goal.link_right-returns-then-continues-clause-count
+link_right-returns-then-continues-clause-count t c =
+    let own = c.args.exp.now.line in
+    let e = plain_exp c.deref.result.now in
+    let d = plain_exp c.deref-then-continues.result.now in
+    let is : plain_exp c.args.exp.now ≡ tree.Binary own c.in-Binary.op e d =
+    ap (λ node. plain_exp_node node own) c.in-Binary.is ∙ ap₂ (λ x y. tree.Binary own c.in-Binary.op (plain_exp x) (plain_exp y)) (sym c.deref.ensures) (sym c.deref-then-continues.ensures) in
+    let more : (joins c.in-Binary.op && nat_eq own c.args.line) ≡ true = sym c.continues.ensures ∙ c.if-continues.true in
+    IfOk-weaker c.link.result (λ n. n ≡ suc (links c.args.line d)) (λ n. n ≡ links c.args.line (plain_exp c.args.exp.now)) (link_counted c.args.line own c.in-Binary.op e d (plain_exp c.args.exp.now) is more) c.link.ensures.count
+
+pub link_right-returns-else-continues-clause-code : goal.link_right-returns-else-continues-clause-code
+link_right-returns-else-continues-clause-code t c =
+    let own = c.args.exp.now.line in
+    let e = plain_exp c.in-Binary.left.value in
+    let d = plain_exp c.in-Binary.right.value in
+    let is : plain_exp c.args.exp.now ≡ tree.Binary own c.in-Binary.op e d = ap (λ node. plain_exp_node node own) c.in-Binary.is in
+    let ends = apart_ends c.args.line own c.in-Binary.op e d (plain_exp c.args.exp.now) is (sym c.continues.ensures ∙ c.if-continues.false) in
+    on_ok_weaker c.last_link.result (last_written c.args.line (plain_exp c.args.exp.now) ends c.args.self.now c.last_link.new.self c.args.target) c.last_link.ensures.code
+
+pub link_right-returns-else-continues-clause-count : goal.link_right-returns-else-continues-clause-count
+link_right-returns-else-continues-clause-count t c =
+    let own = c.args.exp.now.line in
+    let e = plain_exp c.in-Binary.left.value in
+    let d = plain_exp c.in-Binary.right.value in
+    let is : plain_exp c.args.exp.now ≡ tree.Binary own c.in-Binary.op e d = ap (λ node. plain_exp_node node own) c.in-Binary.is in
+    let ends = apart_ends c.args.line own c.in-Binary.op e d (plain_exp c.args.exp.now) is (sym c.continues.ensures ∙ c.if-continues.false) in
+    IfOk-weaker c.last_link.result (λ n. n ≡ 1) (λ n. n ≡ links c.args.line (plain_exp c.args.exp.now)) (last_counted c.args.line (plain_exp c.args.exp.now) ends) c.last_link.ensures.count
+
+pub link_right-returns-in-Nil-clause-code : goal.link_right-returns-in-Nil-clause-code
+link_right-returns-in-Nil-clause-code t c =
+    let x = plain_exp c.args.exp.now in
+    let ends : continues c.args.line x ≡ false = search rules in
+    on_ok_weaker c.last_link-in-Nil.result (last_written c.args.line x ends c.args.self.now c.last_link-in-Nil.new.self c.args.target) c.last_link-in-Nil.ensures.code
+
+pub link_right-returns-in-Nil-clause-count : goal.link_right-returns-in-Nil-clause-count
+link_right-returns-in-Nil-clause-count t c =
+    let x = plain_exp c.args.exp.now in
+    let ends : continues c.args.line x ≡ false = search rules in
+    IfOk-weaker c.last_link-in-Nil.result (λ n. n ≡ 1) (λ n. n ≡ links c.args.line x) (last_counted c.args.line x ends) c.last_link-in-Nil.ensures.count
 
 pub operand-returns-in-Some-clause-code : goal.operand-returns-in-Some-clause-code
 operand-returns-in-Some-clause-code t c =
@@ -109,10 +200,10 @@ index-returns-in_ok-operands-in-None t c =
 
 pub either-returns : goal.either-returns
 either-returns t c =
-    jumped c.args.self.now c.expression.new.self c.put_flagged.new.self c.put_open_jump.new.self c.expression-2.new.self c.land.new.self
-    (exp_code c.args.self.now.constants (plain_exp c.args.first.now) c.args.target c.args.self.now.made 2) (made_by (plain_exp c.args.first.now))
-    (abc Test c.args.target 0 0 c.args.decides, c.args.line) c.args.line (λ k j. exp_code k (plain_exp c.args.second.now) c.args.target j 2) (made_by (plain_exp c.args.second.now)) c.in_ok-jump.jump
-    c.in_ok-expression.ensures c.in_ok-put_flagged.ensures c.in_ok-jump.ensures.jump c.in_ok-jump.ensures.place c.in_ok-expression-2.ensures c.land.ensures
+    let end : c.len-end.result ≡ length c.expression.new.self.steps = search rules in
+    let led : c.lead.new.self ≡ led_on c.expression.new.self c.in_ok-decided.decided.items c.len-end.result = search rules in
+    either_written c.args.self.now c.keep.new.self c.expression.new.self c.lead.new.self c.args.decides c.args.target c.len-end.result (plain_exp c.args.first.now) (plain_exp c.args.second.now) c.in_ok-decided.decided.items
+    c.in_ok-decided.ensures c.in_ok-expression.ensures end led
 
 pub call-returns : goal.call-returns
 call-returns t c =
@@ -196,12 +287,195 @@ keyed-returns t c =
     let stands : c.key_seat-stands.result ≡ s = rw c.is_quiet-quiet.ensures at c.key_seat-stands.ensures in
     let made : c.write_key.new.self ≡ followed c.args.self.now (seat_code s (exp_code c.args.self.now.constants key (c.args.target + 1) c.args.self.now.made 2)) (seat_made s (made_by key)) =
     rw one at rw stands at c.in_ok-write_key.ensures in
-    let value : c.operand.new.self ≡ followed c.write_key.new.self (unless (local_of e) (exp_code c.write_key.new.self.constants e (c.args.target + 2) c.write_key.new.self.made 2)) (made_by e) =
-    rw two at c.in_ok-register.ensures.code in
-    let register : c.in_ok-register.register ≡ seat (local_of e) (c.args.target + 2) = rw two at c.in_ok-register.ensures.place in
-    let store : c.put_store.new.self ≡ listed c.operand.new.self (seat_store s c.args.target (c.args.target + 1) (seat (local_of e) (c.args.target + 2)) c.args.line ∷ []) =
-    rw register at rw one at rw stands at c.in_ok-put_store.ensures in
-    keyed_written c.args.self.now c.write_key.new.self c.operand.new.self c.put_store.new.self c.args.line key e c.args.target made value store
+    let v = value_place (stored_value c.args.self.now.constants e) in
+    let held : c.value_seat-seat.result ≡ v = c.value_seat-seat.ensures in
+    let value : c.write_value.new.self ≡ followed c.write_key.new.self (place_code v (exp_code c.write_key.new.self.constants e (c.args.target + 2) c.write_key.new.self.made 2)) (place_made v (made_by e)) =
+    rw two at rw held at c.in_ok-write_value.ensures in
+    let store : c.put_value.new.self ≡ listed c.write_value.new.self (place_store s v c.args.target (c.args.target + 1) (c.args.target + 2) c.args.line ∷ []) =
+    rw two at rw one at rw held at rw stands at c.in_ok-put_value.ensures in
+    keyed_written c.args.self.now c.write_key.new.self c.write_value.new.self c.put_value.new.self c.args.line key e c.args.target made value store
+
+-- conditions
+
+pub condition-returns-in-Paren : goal.condition-returns-in-Paren
+condition-returns-in-Paren t c =
+    let line = c.args.exp.now.line in
+    let e = plain_exp c.deref.result.now in
+    let is : plain_exp c.args.exp.now ≡ tree.Paren line e = ap (λ node. plain_exp_node node line) c.in-Paren.is ∙ ap (λ x. tree.Paren line (plain_exp x)) (sym c.deref.ensures) in
+    paren_tests c.args.self.now c.condition.new.self c.args.wanted c.args.free c.condition.result (plain_exp c.args.exp.now) line e is c.condition.ensures
+
+pub condition-returns-in-And : goal.condition-returns-in-And
+condition-returns-in-And t c =
+    let line = c.args.exp.now.line in
+    let e = plain_exp c.deref-in-And.result.now in
+    let d = plain_exp c.deref-in-And-2.result.now in
+    let is : plain_exp c.args.exp.now ≡ tree.And line e d =
+    ap (λ node. plain_exp_node node line) c.in-And.is ∙ ap₂ (λ x y. tree.And line (plain_exp x) (plain_exp y)) (sym c.deref-in-And.ensures) (sym c.deref-in-And-2.ensures) in
+    and_tests c.args.self.now c.either_of.new.self c.args.wanted c.args.free c.either_of.result (plain_exp c.args.exp.now) line e d is c.either_of.ensures
+
+pub condition-returns-in-Or : goal.condition-returns-in-Or
+condition-returns-in-Or t c =
+    let line = c.args.exp.now.line in
+    let e = plain_exp c.deref-in-Or.result.now in
+    let d = plain_exp c.deref-in-Or-2.result.now in
+    let is : plain_exp c.args.exp.now ≡ tree.Or line e d =
+    ap (λ node. plain_exp_node node line) c.in-Or.is ∙ ap₂ (λ x y. tree.Or line (plain_exp x) (plain_exp y)) (sym c.deref-in-Or.ensures) (sym c.deref-in-Or-2.ensures) in
+    or_tests c.args.self.now c.either_of-in-Or.new.self c.args.wanted c.args.free c.either_of-in-Or.result (plain_exp c.args.exp.now) line e d is c.either_of-in-Or.ensures
+
+pub condition-returns-in-Not : goal.condition-returns-in-Not
+condition-returns-in-Not t c =
+    let line = c.args.exp.now.line in
+    let e = plain_exp c.deref-in-Not.result.now in
+    let is : plain_exp c.args.exp.now ≡ tree.Unary line Negation e =
+    ap (λ node. plain_exp_node node line) c.in-Unary.is ∙ ap₂ (λ o x. tree.Unary line o (plain_exp x)) c.in-Not.is (sym c.deref-in-Not.ensures) in
+    not_tests c.args.self.now c.condition-in-Not.new.self c.args.wanted c.args.free c.condition-in-Not.result (plain_exp c.args.exp.now) line e is c.condition-in-Not.ensures
+
+pub condition-returns-in-Some : goal.condition-returns-in-Some
+condition-returns-in-Some t c =
+    let line = c.args.exp.now.line in
+    let e = plain_exp c.deref-in-Some.result.now in
+    let d = plain_exp c.deref-in-Some-2.result.now in
+    let is : plain_exp c.args.exp.now ≡ tree.Binary line c.in-Binary.op e d =
+    ap (λ node. plain_exp_node node line) c.in-Binary.is ∙ ap₂ (λ x y. tree.Binary line c.in-Binary.op (plain_exp x) (plain_exp y)) (sym c.deref-in-Some.ensures) (sym c.deref-in-Some-2.ensures) in
+    subst (λ x. IfOk c.compare.result (λ places. Tests c.args.self.now c.compare.new.self x c.args.wanted c.args.free places.items)) (sym is)
+    (comparison_tests c.args.self.now c.compare.new.self c.args.wanted c.args.free c.compare.result c.in-Binary.op c.comparing.result c.in-Some.comparison line e d c.comparing.ensures.code c.in-Some.is (operator_is c.comparing.result c.in-Some.comparison c.in-Binary.op c.in-Some.is c.comparing.ensures.operator) c.compare.ensures)
+
+pub condition-returns-in-None : goal.condition-returns-in-None
+condition-returns-in-None t c =
+    let line = c.args.exp.now.line in
+    let e = plain_exp c.in-Binary.left.value in
+    let d = plain_exp c.in-Binary.right.value in
+    let is : plain_exp c.args.exp.now ≡ tree.Binary line c.in-Binary.op e d = ap (λ node. plain_exp_node node line) c.in-Binary.is in
+    subst (λ x. IfOk c.by_value.result (λ places. Tests c.args.self.now c.by_value.new.self x c.args.wanted c.args.free places.items)) (sym is)
+    (other_tests c.args.self.now c.by_value.new.self c.args.wanted c.args.free c.by_value.result c.in-Binary.op c.comparing.result line e d c.comparing.ensures.code c.in-None.is
+    (subst (λ x. IfOk c.by_value.result (λ places. Opened c.args.self.now c.by_value.new.self (λ ahead. value_test c.args.self.now.constants x c.args.wanted ahead c.args.free c.args.self.now.made) (made_by x) places.items)) is c.by_value.ensures))
+
+pub condition-returns-in-Neg : goal.condition-returns-in-Neg
+condition-returns-in-Neg t c =
+    let e = plain_exp c.args.exp.now in
+    let valued : is_valued e ≡ true = search rules in
+    by_value_tests c.args.self.now c.by_value-in-Neg.new.self c.args.wanted c.args.free c.by_value-in-Neg.result e (valued_is c.args.self.now.constants e c.args.wanted c.args.free c.args.self.now.made valued)
+    c.by_value-in-Neg.ensures
+
+pub condition-returns-in-Nil : goal.condition-returns-in-Nil
+condition-returns-in-Nil t c =
+    let e = plain_exp c.args.exp.now in
+    let valued : is_valued e ≡ true = search rules in
+    by_value_tests c.args.self.now c.by_value-in-Nil.new.self c.args.wanted c.args.free c.by_value-in-Nil.result e (valued_is c.args.self.now.constants e c.args.wanted c.args.free c.args.self.now.made valued)
+    c.by_value-in-Nil.ensures
+
+pub either_of-returns-then-decides-wanted : goal.either_of-returns-then-decides-wanted
+either_of-returns-then-decides-wanted t c =
+    let same : c.args.decides ≡ c.args.wanted = search rules in
+    let led : c.lead.new.self ≡ led_on c.condition-2.new.self c.in_ok-decided.decided.items c.len-end.result = search rules in
+    either_here c.args.self.now c.condition.new.self c.condition-2.new.self c.lead.new.self c.args.decides c.args.wanted c.args.free c.len-end.result (plain_exp c.args.first.now) (plain_exp c.args.second.now)
+    c.in_ok-decided.decided.items c.in_ok-away.away.items same c.in_ok-decided.ensures c.in_ok-away.ensures (search rules) led
+
+pub either_of-returns : goal.either_of-returns
+either_of-returns t c =
+    let differ : c.args.decides ≡ c.args.wanted → ⊥ = search rules in
+    let items : c.append.new.self.items ≡ c.in_ok-away.away.items ++ c.in_ok-decided.decided.items = search rules in
+    opened_at c.args.self.now c.condition-2.new.self (λ ahead. either_test c.args.self.now.constants c.args.decides (plain_exp c.args.first.now) (plain_exp c.args.second.now) c.args.wanted ahead c.args.free c.args.self.now.made)
+    (made_by (plain_exp c.args.first.now) + made_by (plain_exp c.args.second.now)) (c.in_ok-away.away.items ++ c.in_ok-decided.decided.items) c.append.new.self.items items
+    (either_away c.args.self.now c.condition.new.self c.condition-2.new.self c.args.decides c.args.wanted c.args.free (plain_exp c.args.first.now) (plain_exp c.args.second.now) c.in_ok-decided.decided.items c.in_ok-away.away.items differ
+    c.in_ok-decided.ensures c.in_ok-away.ensures)
+
+pub by_value-returns : goal.by_value-returns
+by_value-returns t c =
+    value_opened c.args.self.now c.operand.new.self c.test.new.self (plain_exp c.args.exp.now) c.args.wanted c.args.free c.in_ok-register.register c.args.exp.now.line c.in_ok-away.away.items
+    (sym (line_is c.args.exp.now.node c.args.exp.now.line)) c.in_ok-register.ensures.place c.in_ok-register.ensures.code c.in_ok-away.ensures
+
+pub compare-returns : goal.compare-returns
+compare-returns t c =
+    let e = plain_exp c.args.left.now in
+    let d = plain_exp c.args.right.now in
+    let code = rw c.standing-stays.ensures at c.in_ok-operands.ensures.code in
+    let places = rw c.standing-stays.ensures at c.in_ok-operands.ensures.places in
+    compared_opened c.args.self.now c.operands.new.self c.test_operands.new.self c.args.comparison.now c.args.wanted c.flag-k.result c.args.free c.args.line e d
+    c.in_ok-operands.operands c.in_ok-away.away.items code places c.flag-k.ensures c.in_ok-away.ensures
+
+-- first operands
+
+pub keep-returns-then-is_truth : goal.keep-returns-then-is_truth
+keep-returns-then-is_truth t c =
+    let e = plain_exp c.args.exp.now in
+    let is : is_truth e ≡ true = search rules in
+    truth_keeps c.args.self.now c.keep_truth.new.self e c.args.k c.args.target c.keep_truth.result is c.keep_truth.ensures
+
+pub keep-returns-in-Paren : goal.keep-returns-in-Paren
+keep-returns-in-Paren t c =
+    let line = c.args.exp.now.line in
+    let e = plain_exp c.deref.result.now in
+    let is : plain_exp c.args.exp.now ≡ tree.Paren line e = ap (λ node. plain_exp_node node line) c.in-Paren.is ∙ ap (λ x. tree.Paren line (plain_exp x)) (sym c.deref.ensures) in
+    paren_keeps c.args.self.now c.keep.new.self (plain_exp c.args.exp.now) c.args.k c.args.target c.keep.result line e is c.keep.ensures
+
+pub keep-returns-in-And : goal.keep-returns-in-And
+keep-returns-in-And t c =
+    let line = c.args.exp.now.line in
+    let e = plain_exp c.deref-in-And.result.now in
+    let d = plain_exp c.deref-in-And-2.result.now in
+    let is : plain_exp c.args.exp.now ≡ tree.And line e d =
+    ap (λ node. plain_exp_node node line) c.in-And.is ∙ ap₂ (λ x y. tree.And line (plain_exp x) (plain_exp y)) (sym c.deref-in-And.ensures) (sym c.deref-in-And-2.ensures) in
+    and_keeps c.args.self.now c.keep_either.new.self (plain_exp c.args.exp.now) c.args.k c.args.target c.keep_either.result line e d is c.keep_either.ensures
+
+pub keep-returns-in-Or : goal.keep-returns-in-Or
+keep-returns-in-Or t c =
+    let line = c.args.exp.now.line in
+    let e = plain_exp c.deref-in-Or.result.now in
+    let d = plain_exp c.deref-in-Or-2.result.now in
+    let is : plain_exp c.args.exp.now ≡ tree.Or line e d =
+    ap (λ node. plain_exp_node node line) c.in-Or.is ∙ ap₂ (λ x y. tree.Or line (plain_exp x) (plain_exp y)) (sym c.deref-in-Or.ensures) (sym c.deref-in-Or-2.ensures) in
+    or_keeps c.args.self.now c.keep_either-in-Or.new.self (plain_exp c.args.exp.now) c.args.k c.args.target c.keep_either-in-Or.result line e d is c.keep_either-in-Or.ensures
+
+pub keep-returns-in-Nil : goal.keep-returns-in-Nil
+keep-returns-in-Nil t c =
+    let e = plain_exp c.args.exp.now in
+    let plain : is_plain e ≡ true = search rules in
+    let other : is_truth e ≡ false = search rules in
+    leaf_keeps c.args.self.now c.keep_value.new.self e c.args.k c.args.target c.keep_value.result plain other c.keep_value.ensures
+
+pub keep_truth-returns : goal.keep_truth-returns
+keep_truth-returns t c =
+    let end : c.len-end.result ≡ length c.load_truth.new.self.steps = search rules in
+    let led : c.lead.new.self ≡ led_on c.load_truth.new.self c.in_ok-passed.passed.items c.len-end.result = search rules in
+    loaded_keeps c.args.self.now c.condition.new.self c.load_truth.new.self c.lead.new.self (plain_exp c.args.exp.now) c.args.k c.args.target c.len-end.result c.args.exp.now.line c.in_ok-passed.passed.items c.in_ok-away.away.items
+    (sym (line_is c.args.exp.now.node c.args.exp.now.line)) c.in_ok-passed.ensures c.in_ok-away.ensures end led
+
+pub keep_either-returns-then-decides-k : goal.keep_either-returns-then-decides-k
+keep_either-returns-then-decides-k t c =
+    let same : c.args.decides ≡ c.args.k = search rules in
+    let e = plain_exp c.args.first.now in
+    let d = plain_exp c.args.second.now in
+    subst (λ b. IfOk c.keep_both.result (λ places. Opened c.args.self.now c.keep_both.new.self (λ ahead. either_keep c.args.self.now.constants b e d c.args.k ahead c.args.target c.args.self.now.made) (made_by e + made_by d) places.items)) (sym same)
+    c.keep_both.ensures
+
+pub keep_either-returns : goal.keep_either-returns
+keep_either-returns t c =
+    let differ : c.args.decides ≡ c.args.k → ⊥ = search rules in
+    let end : c.len-end.result ≡ length c.keep.new.self.steps = search rules in
+    let led : c.lead.new.self ≡ led_on c.keep.new.self c.in_ok-passed.passed.items c.len-end.result = search rules in
+    one_keeps c.args.self.now c.condition.new.self c.keep.new.self c.lead.new.self c.args.decides c.args.k c.args.target c.len-end.result (plain_exp c.args.first.now) (plain_exp c.args.second.now)
+    c.in_ok-passed.passed.items c.in_ok-away.away.items differ c.in_ok-passed.ensures c.in_ok-away.ensures end led
+
+pub keep_both-returns : goal.keep_both-returns
+keep_both-returns t c =
+    let e = plain_exp c.args.first.now in
+    let d = plain_exp c.args.second.now in
+    let items : c.append.new.self.items ≡ c.in_ok-away.away.items ++ c.in_ok-decided.decided.items = search rules in
+    opened_at c.args.self.now c.keep-2.new.self (λ ahead. either_keep c.args.self.now.constants c.args.k e d c.args.k ahead c.args.target c.args.self.now.made)
+    (made_by e + made_by d) (c.in_ok-away.away.items ++ c.in_ok-decided.decided.items) c.append.new.self.items items
+    (both_keep c.args.self.now c.keep.new.self c.keep-2.new.self c.args.k c.args.k c.args.target e d c.in_ok-decided.decided.items c.in_ok-away.away.items refl c.in_ok-decided.ensures c.in_ok-away.ensures)
+
+pub keep_value-returns-in-Some : goal.keep_value-returns-in-Some
+keep_value-returns-in-Some t c =
+    local_keeps c.args.self.now c.test.new.self (plain_exp c.args.exp.now) c.args.k c.args.target c.test.result c.in-Some.register c.args.exp.now.line (sym c.local_of.ensures ∙ c.in-Some.is)
+    (sym (line_is c.args.exp.now.node c.args.exp.now.line)) c.test.ensures
+
+pub keep_value-returns : goal.keep_value-returns
+keep_value-returns t c =
+    let none : local_of (plain_exp c.args.exp.now) ≡ None = search rules in
+    made_keeps c.args.self.now c.expression.new.self c.test-2.new.self (plain_exp c.args.exp.now) c.args.k c.args.target c.args.exp.now.line c.in_ok-away.away.items none
+    (sym (line_is c.args.exp.now.node c.args.exp.now.line)) c.in_ok-expression.ensures c.in_ok-away.ensures
 
 -- the second part of a tree is no greater than the greater one
 
@@ -211,14 +485,26 @@ operands-beside-requires t c = (omega (arith, c.decreases), tt)
 pub both-expression-requires-2 : goal.both-expression-requires-2
 both-expression-requires-2 t c = (omega (arith, c.decreases), tt)
 
-pub either-expression-requires-2 : goal.either-expression-requires-2
-either-expression-requires-2 t c = (omega (arith, c.decreases), tt)
+pub either-expression-requires : goal.either-expression-requires
+either-expression-requires t c = (omega (arith, c.decreases), tt)
 
-pub keyed-operand-requires : goal.keyed-operand-requires
-keyed-operand-requires t c = (omega (arith, c.decreases), tt)
+pub keyed-write_value-requires : goal.keyed-write_value-requires
+keyed-write_value-requires t c = (omega (arith, c.decreases), tt)
 
 pub call-list-requires : goal.call-list-requires
 call-list-requires t c = (omega (arith, c.decreases), tt)
 
 pub method-list-requires : goal.method-list-requires
 method-list-requires t c = (omega (arith, c.decreases), tt)
+
+pub either_of-condition-requires-2 : goal.either_of-condition-requires-2
+either_of-condition-requires-2 t c = (omega (arith, c.decreases), tt)
+
+pub keep_either-keep-requires : goal.keep_either-keep-requires
+keep_either-keep-requires t c = (omega (arith, c.decreases), tt)
+
+pub keep_both-keep-requires-2 : goal.keep_both-keep-requires-2
+keep_both-keep-requires-2 t c = (omega (arith, c.decreases), tt)
+
+pub link-link_right-requires : goal.link-link_right-requires
+link-link_right-requires t c = (omega (arith, c.decreases), tt)

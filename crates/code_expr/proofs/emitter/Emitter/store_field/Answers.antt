@@ -1,10 +1,11 @@
 use Rattle.std.proofs.Common.{◌≡◌, ◌+◌, [], ◌∷◌, arith}
 use Rattle.tree_core.specs.Plain.{plain_exp}
 use Rattle.code_of.specs.Expressions.{made_by, exp_code}
-use Rattle.code_of.specs.Operands.{local_of, seat, unless}
+use Rattle.code_of.specs.Operands.{seat}
 use Rattle.code_of.specs.Stores.{is_quiet, field_key}
+use Rattle.code_of.specs.StoredValues.{stored_value}
 use Rattle.code_expr.specs.Listing.{listed, followed}
-use Rattle.code_expr.specs.Stores.{key_seat, object_at, made_unless, seat_code, seat_made, seat_store}
+use Rattle.code_expr.specs.Stores.{key_seat, object_at, seat_code, seat_made, value_place, place_code, place_made, place_store}
 use Rattle.code_expr.proofs.FieldSeats.{field_written}
 use Rattle.code_expr.proofs.emitter.Emitter.store_field.Goals as goal
 
@@ -20,10 +21,11 @@ returns c =
     let at : c.object_at.result ≡ object_at s (is_quiet e) o = rw c.is_quiet-quiet.ensures at rw stands at c.object_at.ensures in
     let key : c.write_key.new.self ≡ followed c.stand.new.self (seat_code s (exp_code c.stand.new.self.constants d (c.args.free + 1) c.stand.new.self.made 2)) (seat_made s (made_by d)) =
     rw one at rw stands at c.in_ok-write_key.ensures in
-    let value : c.stand-2.new.self ≡ followed c.write_key.new.self (unless (local_of e) (exp_code c.write_key.new.self.constants e (c.args.free + 2) c.write_key.new.self.made 2)) (made_unless (local_of e) (made_by e)) =
-    rw two at rw c.local_of-local.ensures at c.in_ok-third.ensures.code in
+    let v = value_place (stored_value c.args.self.now.constants e) in
+    let held : c.value_seat-seat.result ≡ v = c.value_seat-seat.ensures in
+    let value : c.write_value.new.self ≡ followed c.write_key.new.self (place_code v (exp_code c.write_key.new.self.constants e (c.args.free + 2) c.write_key.new.self.made 2)) (place_made v (made_by e)) =
+    rw two at rw held at c.in_ok-write_value.ensures in
     let first = c.in_ok-first.ensures.place in
-    let third : c.in_ok-third.third ≡ seat (local_of e) (c.args.free + 2) = rw two at rw c.local_of-local.ensures at c.in_ok-third.ensures.place in
-    let store : c.put_store.new.self ≡ listed c.stand-2.new.self (seat_store s (seat c.object_at.result c.args.free) (c.args.free + 1) (seat (local_of e) (c.args.free + 2)) c.args.line ∷ []) =
-    rw first at rw third at rw one at rw stands at c.in_ok-put_store.ensures in
-    field_written c.args.self.now c.stand.new.self c.write_key.new.self c.stand-2.new.self c.put_store.new.self c.args.line o d e c.args.free c.object_at.result at c.in_ok-first.ensures.code key value store
+    let store : c.put_value.new.self ≡ listed c.write_value.new.self (place_store s v (seat c.object_at.result c.args.free) (c.args.free + 1) (c.args.free + 2) c.args.line ∷ []) =
+    rw first at rw two at rw one at rw held at rw stands at c.in_ok-put_value.ensures in
+    field_written c.args.self.now c.stand.new.self c.write_key.new.self c.write_value.new.self c.put_value.new.self c.args.line o d e c.args.free c.object_at.result at c.in_ok-first.ensures.code key value store

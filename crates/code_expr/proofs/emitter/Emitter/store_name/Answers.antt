@@ -1,8 +1,8 @@
-use Rattle.std.proofs.Common.{◌≡◌, ◌+◌, [], ◌∷◌, ap, ◌∙◌}
+use Rattle.std.proofs.Common.{◌≡◌, ◌+◌, false, [], ◌∷◌, ap, ◌∙◌}
 use Rattle.code_of.specs.Targets.{text_key}
 use Rattle.code_expr.specs.Listing.{listed}
 use Rattle.code_expr.specs.Stores.{key_seat, seat_store}
-use Rattle.code_expr.proofs.FieldSeats.{seat_store_is}
+use Rattle.code_expr.proofs.ValueSeats.{seat_store_is}
 use Rattle.code_expr.proofs.emitter.Emitter.store_name.Goals as goal
 
 pub returns : goal.returns
@@ -10,5 +10,5 @@ returns c =
     let s = text_key c.args.self.now.constants c.args.text.now in
     let one = c.in_ok-above.ensures in
     let stands : c.text_seat-stands.result ≡ key_seat s = c.text_seat-stands.ensures in
-    let store : c.put_store.new.self ≡ listed c.args.self.now (seat_store (key_seat s) c.args.register (c.args.register + 1) c.args.value c.args.line ∷ []) = rw one at rw stands at c.in_ok-put_store.ensures in
-    store ∙ ap (λ x. listed c.args.self.now (x ∷ [])) (seat_store_is s c.args.register c.args.register c.args.value c.args.line)
+    let store : c.put_store.new.self ≡ listed c.args.self.now (seat_store (key_seat s) c.args.register (c.args.register + 1) false c.args.value c.args.line ∷ []) = rw one at rw stands at c.in_ok-put_store.ensures in
+    store ∙ ap (λ x. listed c.args.self.now (x ∷ [])) (seat_store_is s false c.args.register c.args.register c.args.value c.args.line)

@@ -1,9 +1,9 @@
-use Rattle.std.proofs.Common.{◌≡◌, ◌+◌, [], ◌∷◌, ap, ◌∙◌}
+use Rattle.std.proofs.Common.{◌≡◌, ◌+◌, false, [], ◌∷◌, ap, ◌∙◌}
 use Rattle.tree_core.specs.Plain.{plain_exp}
 use Rattle.code_of.specs.Targets.{waiting_key}
 use Rattle.code_expr.specs.Listing.{listed}
 use Rattle.code_expr.specs.Stores.{key_seat, seat_store}
-use Rattle.code_expr.proofs.FieldSeats.{seat_store_is}
+use Rattle.code_expr.proofs.ValueSeats.{seat_store_is}
 use Rattle.code_expr.proofs.emitter.Emitter.store_waiting.Goals as goal
 
 pub returns : goal.returns
@@ -11,5 +11,5 @@ returns c =
     let s = waiting_key c.args.self.now.constants (plain_exp c.args.key.now) in
     let one = c.in_ok-above.ensures in
     let stands : c.waiting_seat-stands.result ≡ key_seat s = c.waiting_seat-stands.ensures in
-    let store : c.put_store.new.self ≡ listed c.args.self.now (seat_store (key_seat s) c.args.register (c.args.register + 1) c.args.value c.args.line ∷ []) = rw one at rw stands at c.in_ok-put_store.ensures in
-    store ∙ ap (λ x. listed c.args.self.now (x ∷ [])) (seat_store_is s c.args.register c.args.register c.args.value c.args.line)
+    let store : c.put_store.new.self ≡ listed c.args.self.now (seat_store (key_seat s) c.args.register (c.args.register + 1) false c.args.value c.args.line ∷ []) = rw one at rw stands at c.in_ok-put_store.ensures in
+    store ∙ ap (λ x. listed c.args.self.now (x ∷ [])) (seat_store_is s false c.args.register c.args.register c.args.value c.args.line)

@@ -1,6 +1,6 @@
 use Rattle.std.proofs.Common.{[], ◌∷◌, length, refl}
 use Rattle.code_core.specs.Instruction.{abc}
-use Rattle.code_of.specs.Conditions.{jump_if}
+use Rattle.code_of.specs.Truths.{jump_if}
 use Rattle.code_expr.proofs.Leading.{opened_at, opened_test}
 use Rattle.code_expr.proofs.emitter.Emitter.test.Goals as goal
 

@@ -1,5 +1,5 @@
 use Rattle.std.proofs.Common.{ap₂}
-use Rattle.code_of.specs.Conditions.{jump_if}
+use Rattle.code_of.specs.Truths.{jump_if}
 use Rattle.code_expr.specs.Testing.{registers_test}
 use Rattle.code_expr.proofs.Leading.{opened_coded}
 use Rattle.code_expr.proofs.emitter.Emitter.test_registers.Goals as goal

@@ -31,7 +31,7 @@ use Rattle.code_stat.proofs.Looping.{while_wrote, repeat_wrote, counted_wrote, i
 use Rattle.code_stat.proofs.Jumping.{until_wrote}
 use Rattle.code_stat.proofs.Ends.{top_is, until_top, falls_wrote, returns_wrote, open_returns, nothing_wrote}
 use Rattle.code_stat.specs.Declares.{DeclaresStat, DeclaresBlock, DeclaresOpen}
-use Rattle.code_stat.proofs.Declaring.{begun_from, nothing_declared, next_declared, all_declared, scopes_end, block_ends, repeat_declares, rounds_declare, counted_long, iterated_long, num_for_declares, gen_for_declares, arm_declares}
+use Rattle.code_stat.proofs.Declaring.{begun_from, nothing_declared, next_declared, all_declared, scopes_end, block_ends, while_declares, repeat_declares, rounds_declare, counted_long, iterated_long, num_for_declares, gen_for_declares, arm_declares}
 use Rattle.code_stat.proofs.writer.Writer.+statements.Goals as goal
 
 -- statements by their forms
@@ -201,7 +201,7 @@ block-returns-in_ok-end_scopes-in-Some-clause-code t c =
     let after : Writer = record c.statements-in-Some.new.self { emitter = c.write_return.new.emitter; variables = c.end_scopes-in-Some.new.self } in
     subst (λ p. WroteBlock c.args.self.now after p c.args.closing c.args.outer c.args.level) (sym (returns_of c.args.block.now c.in-Some.values c.in-Some.is))
     (returns_wrote c.args.self.now c.statements-in-Some.new.self after (tree.stats (map plain_stat b.stats.items)) (tree.exps (plain_exps c.in-Some.values.items)) b.tokens b.line c.args.closing c.in_ok-end-in-Some.end.closing c.args.outer c.args.level
-    c.in_ok-end-in-Some.end.level c.statements-in-Some.new.self.back c.in_ok-end-in-Some.ensures.code c.in_ok-end-in-Some.ensures.level c.in_ok-end-in-Some.ensures.closing refl c.in_ok-write_return-in-Some.ensures refl refl)
+    c.in_ok-end-in-Some.end.level c.statements-in-Some.new.self.back.back c.in_ok-end-in-Some.ensures.code c.in_ok-end-in-Some.ensures.level c.in_ok-end-in-Some.ensures.closing refl c.in_ok-write_return-in-Some.ensures refl refl)
 
 pub open_block-returns-in-None-clause-code : goal.open_block-returns-in-None-clause-code
 open_block-returns-in-None-clause-code t c = subst (λ p. WroteOpen c.args.self.now c.statements.new.self p c.args.closing c.args.level) (sym (falls_of c.args.block.now c.in-None.is)) c.in_ok-end.ensures.code
@@ -215,7 +215,7 @@ open_block-returns-in_ok-write_return-in-Some-clause-code t c =
     let after : Writer = record c.statements.new.self { emitter = c.write_return.new.emitter } in
     subst (λ p. WroteOpen c.args.self.now after p c.args.closing c.args.level) (sym (returns_of c.args.block.now c.in-Some.values c.in-Some.is))
     (open_returns c.args.self.now c.statements.new.self after (tree.stats (map plain_stat b.stats.items)) (tree.exps (plain_exps c.in-Some.values.items)) b.tokens b.line c.args.closing c.in_ok-end.end.closing c.args.level
-    c.in_ok-end.end.level c.statements.new.self.back c.in_ok-end.ensures.code c.in_ok-end.ensures.level c.in_ok-end.ensures.closing refl c.in_ok-write_return-in-Some.ensures refl refl)
+    c.in_ok-end.end.level c.statements.new.self.back.back c.in_ok-end.ensures.code c.in_ok-end.ensures.level c.in_ok-end.ensures.closing refl c.in_ok-write_return-in-Some.ensures refl refl)
 
 pub open_block-returns-in_ok-write_return-in-Some-clause-level : goal.open_block-returns-in_ok-write_return-in-Some-clause-level
 open_block-returns-in_ok-write_return-in-Some-clause-level t c = c.in_ok-end.ensures.level ∙ sym (ap (λ p. levels_in p c.args.level) (returns_of c.args.block.now c.in-Some.values c.in-Some.is))
@@ -346,6 +346,11 @@ statements-returns-clause-variables t c =
     all_declared c.deref-stat-items.result.now c.args.list.now.items c.loop-stat.stat-index c.args.self.now c.loop-stat.self c.loop-stat.scope.closing c.args.closing c.loop-stat.scope.level c.args.level most c.loop-stat.invariant.4
 
 -- those of loops
+
+pub while_loop-returns-clause-variables : goal.while_loop-returns-clause-variables
+while_loop-returns-clause-variables t c =
+    while_declares c.args.self.now (record c.args.self.now { emitter = c.condition.new.self }) c.block.new.self c.end_loop.new.self (plain_exp c.args.test.now) (plain_block c.args.block.now) c.args.closing c.args.level c.args.line
+    c.in_ok-away.away.items c.in_ok-away.ensures refl refl c.in_ok-block.ensures.variables c.end_loop.ensures.variables
 
 pub repeat_loop-returns-clause-variables : goal.repeat_loop-returns-clause-variables
 repeat_loop-returns-clause-variables t c =

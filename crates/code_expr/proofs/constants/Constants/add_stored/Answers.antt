@@ -1,0 +1,33 @@
+use Rattle.std.proofs.Common.{rules, ◌≡◌, length, sym, ap₂, ◌∙◌}
+use Rattle.std.specs.Prelude.{slice_index_or}
+use Rattle.std.proofs.lemmas.Result.{on_ok_weaker}
+use Rattle.tree_core.specs.Tree as tree
+use Rattle.tree_core.specs.Plain.{plain_exps}
+use Rattle.code_of.specs.ConstantOperands.{stored_constant}
+use Rattle.code_of.specs.Constants.{with_any}
+use Rattle.code_expr.proofs.Rows.{single}
+use Rattle.code_expr.proofs.ValueSeats.{several_targets, several_values}
+use Rattle.code_expr.proofs.constants.Constants.add_stored.Goals as goal
+
+pub returns-then-len-ne1 : goal.returns-then-len-ne1
+returns-then-len-ne1 c =
+    let ts = c.args.targets.now.items in
+    let size : c.len.result ≡ length ts = search rules in
+    several_targets ts (tree.exps (plain_exps c.args.values.now.items)) c.args.self.now (λ h. c.if-len-ne1.true (size ∙ h))
+
+pub returns-then-len-ne1-2 : goal.returns-then-len-ne1-2
+returns-then-len-ne1-2 c =
+    let es = c.args.values.now.items in
+    let size : c.len-2.result ≡ length es = search rules in
+    several_values (tree.exps (plain_exps c.args.targets.now.items)) es c.args.self.now (λ h. c.if-len-ne1-2.true (size ∙ h))
+
+pub returns : goal.returns
+returns c =
+    let target = c.index-target.result.now in
+    let value = c.index-value.result.now in
+    let one : length c.args.targets.now.items ≡ 1 = search rules in
+    let alone : length c.args.values.now.items ≡ 1 = search rules in
+    let first : target ≡ slice_index_or c.args.targets.now.items 0 target = search rules in
+    let only : value ≡ slice_index_or c.args.values.now.items 0 value = search rules in
+    on_ok_weaker c.add_target.result
+    (λ h. h ∙ ap₂ (λ x y. with_any (stored_constant x y) c.args.self.now) (sym (single c.args.targets.now.items target one first)) (sym (single c.args.values.now.items value alone only))) c.add_target.ensures
