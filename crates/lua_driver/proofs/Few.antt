@@ -1,5 +1,5 @@
 -- Where a frame that runs at a return of one value or of none returns.
-use Rattle.std.proofs.Common.{◌≡◌, ℕ, suc, ◌-◌, ◌≤◌, List, [], ◌++◌, length, Option, None, Bool, true, false, refl, ap, sym, subst, ◌∙◌, arith}
+use Rattle.std.proofs.Common.{◌≡◌, ℕ, suc, ◌-◌, ◌≤◌, List, [], length, Option, None, Bool, true, false, refl, ap, sym, subst, ◌∙◌, arith}
 use Rattle.std.specs.Prelude.{cond, map, not, ◌==◌}
 use Rattle.code_core.specs.Instruction.{a_of}
 use Rattle.code_core.specs.Prototype.{Prototype}

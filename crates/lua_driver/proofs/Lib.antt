@@ -4,3 +4,4 @@ mod AnyRows
 mod Turned
 mod Few
 mod Handing
+mod CallForm

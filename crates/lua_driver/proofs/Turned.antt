@@ -2,13 +2,13 @@
 use Rattle.std.proofs.Common.{ℕ, ◌≡◌, [], ap, sym, subst, ◌∙◌, length}
 use Rattle.library_rows.specs.Library.{all_entries}
 use Rattle.machine_core.specs.World.{World}
-use Rattle.machine_core.specs.Moves.{main_yielded, Ending, Row, Outcome, trapped, ends}
+use Rattle.machine_core.specs.Moves.{main_yielded, Ending, Row, Outcome, ends}
 use Rattle.machine_core.specs.MachineStep.{steps, and_then}
 use Rattle.machine_core.specs.PrimitiveRows.{row_numbered}
 use Rattle.machine_sound.specs.Sound.{Sound, idle}
 use Rattle.machine_sound.specs.Laws.{SoundAfter, StepGood, PrimitivesSafe}
 use Rattle.machine_runs.specs.Laws.{MayTurn, NeverYields, WakesSoundly, YieldsLeaveMainWaiting}
-use Rattle.machine_runs.specs.Runs.{turn, wakes}
+use Rattle.machine_runs.specs.Runs.{wakes}
 use Rattle.machine_runs.proofs.Waking.{budget_solid, budget_turn}
 use Rattle.lua_heap.specs.declared.world.World.{World as Memory}
 use Rattle.lua_heap.specs.Plain.{plain}

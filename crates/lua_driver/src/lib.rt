@@ -2,6 +2,7 @@
 //! (`lua_resume` of Lua's ldo.c).
 #![tactic(auto)]
 
+mod calling;
 mod returning;
 mod running;
 mod turning;

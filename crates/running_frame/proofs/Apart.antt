@@ -191,7 +191,7 @@ ready_there primitives rows old new fuel left safe k o x = record {
 
 -- the functions of a world in memory
 
-module _ (g : Running) (W : Memory) (h : IsApart g W) (law : CheckedCodeIsThere) where
+module _ (primitives : ℕ) (W : Memory) (after : SoundAfter primitives go (plain W 0)) (order : InOrder W) (law : CheckedCodeIsThere) where
   abbrev machine_function : Func → Function
   machine_function f = function (functions W.codes) f
 
@@ -199,13 +199,13 @@ module _ (g : Running) (W : Memory) (h : IsApart g W) (law : CheckedCodeIsThere)
   function_at n f e = get_map machine_function W.funcs.objects n f e
 
   code_within : (n : ℕ) (f : Func) → slice_get W.funcs.objects n ≡ Some f → f.code.0 < length (functions W.codes)
-  code_within n f e = law (functions W.codes) f.code.0 (h.after.sound.solid.functions n (machine_function f) (function_at n f e)).code
+  code_within n f e = law (functions W.codes) f.code.0 (after.sound.solid.functions n (machine_function f) (function_at n f e)).code
 
   pub are_functions : AreFunctions (plain W 0).functions W.funcs.objects W.codes
   are_functions = record {
-    have = record { code_there = λ n f e. let l = code_within n f e in let k = h.order.codes.count in omega (arith, l, k) };
+    have = record { code_there = λ n f e. let l = code_within n f e in let k = order.codes.count in omega (arith, l, k) };
     known = λ n f code e c.
         let ps = functions W.codes in
-        let says = h.order.codes.each f.code.0 (prototype_at ps f.code.0) code (prototype_there ps f.code.0 (code_within n f e)) c in
+        let says = order.codes.each f.code.0 (prototype_at ps f.code.0) code (prototype_there ps f.code.0 (code_within n f e)) c in
         record { function = machine_function f; is = function_at n f e; words = says.words; params = says.params; vararg = says.vararg; stack = says.stack };
   }

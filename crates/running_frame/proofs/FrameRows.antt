@@ -128,10 +128,10 @@ module _ (c : Context) (s : Stands c) (h : Held) (w : Instruction) (at_pc : at c
 
 -- what is left of the instruction of the frame below: the values go to its registers
 module _ (d : Context) (v : Instruction) (wanted : ℕ) (H : Held) where
-  abbrev handed : List Value → Held
+  abbrev pub handed : List Value → Held
   handed vs = record H { own = record H.own { registers = write_all (a_of v) (range 0 wanted vs) H.own.registers; pc = H.own.pc + 1 } }
 
-  takes : (vs : List Value) (u : Instruction) → at d.closure.code H.own.pc ≡ Some v → opcode_of v ≡ Some Call → c_of v ≡ suc wanted → nat_le (behind (a_of v) wanted) (length H.own.registers) ≡ true
+  pub takes : (vs : List Value) (u : Instruction) → at d.closure.code H.own.pc ≡ Some v → opcode_of v ≡ Some Call → c_of v ≡ suc wanted → nat_le (behind (a_of v) wanted) (length H.own.registers) ≡ true
       → at d.closure.code (H.own.pc + 1) ≡ Some u → local d (rest_at {V = Value} for_call d.closure.code H.own.pc) vs H ≡ Some (handed vs)
   takes vs u at_pc is_call wants there behind_is =
       let p = d.closure.code in

@@ -59,6 +59,13 @@ module _ (W : World) (at : Place) (e : place_of W ≡ Some at) where
       ∙ ap (λ cs. record W { coroutines = cs; moving = []; fuel = fuel }) (set_same W.coroutines at.stack.coroutine (in_progress at.stack.frames) k.there)
       ∙ ap (λ (vs : List Value). record W { moving = vs; fuel = fuel }) (sym m)
 
+  -- whatever moves
+  pub stacked_moving : (fs : List Frame) (fuel : ℕ) → fs ≡ at.stack.frames → stacked W at.stack.coroutine fs W.heap W.cells fuel W.moving ≡ record W { fuel = fuel }
+  stacked_moving fs fuel f =
+      let k = stack_is W at.stack (place_is W at e).stack in
+      ap (λ fs. stacked W at.stack.coroutine fs W.heap W.cells fuel W.moving) f
+      ∙ ap (λ cs. record W { coroutines = cs; fuel = fuel }) (set_same W.coroutines at.stack.coroutine (in_progress at.stack.frames) k.there)
+
   -- and the frame on top in its place, where it runs
   pub world_same : (fuel : ℕ) → W.moving ≡ [] → at.top.wait ≡ running → world (context_at W at) (record { heap = W.heap; cells = W.cells; fuel = fuel; own = at.top.own }) ≡ record W { fuel = fuel }
   world_same fuel m w =

@@ -14,3 +14,4 @@ mod Stored
 mod Takers
 mod Returned
 mod Apart
+mod Taken

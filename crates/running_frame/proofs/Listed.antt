@@ -43,7 +43,7 @@ lua_kept : (f : Kept → Value) (k : KeptFrame) (t : LuaFrame) → frame_of f k 
 lua_kept f (kept_lua u) t e = (u, refl)
 lua_kept f _ t e = absurd (cc)
 
-kept_top : {s : KeptStack} → HasLuaTop s → HasKept s 0
+pub kept_top : {s : KeptStack} → HasLuaTop s → HasKept s 0
 kept_top {s} h =
     let l = frames_there h in
     let z = get_there s.frames (length s.frames - 1) (omega (arith, l)) in

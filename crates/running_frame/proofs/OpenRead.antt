@@ -1,5 +1,5 @@
 -- GETUPVAL of a variable that stands in a register of the same coroutine is a step that changes a register of the frame on top alone.
-use Rattle.std.proofs.Common.{◌≡◌, ℕ, ◌+◌, ◌<◌, List, [], ◌∷◌, ◌++◌, length, map, Option, Some, None, refl, ap, sym, subst, ◌∙◌, arith, Bool, true}
+use Rattle.std.proofs.Common.{◌≡◌, ℕ, ◌+◌, List, [], ◌∷◌, ◌++◌, length, map, Option, Some, None, refl, ap, sym, subst, ◌∙◌, arith, true}
 use Rattle.std.specs.Prelude.{slice_get, slice_set}
 use Rattle.code_core.specs.Check.{at}
 use Rattle.code_core.specs.Instruction.{a_of, b_of, opcode_of}
@@ -7,11 +7,11 @@ use Rattle.code_core.specs.declared.instruction.Instruction.{Instruction}
 use Rattle.code_core.specs.declared.opcode.Opcode.{Opcode}
 use Rattle.code_core.specs.declared.opcode.Opcode.TheVariants.{GetUpval}
 use Rattle.int_core.specs.Value.{Value, bind}
-use Rattle.machine_core.specs.World.{Cell, open_at, running, Activation, Frame, lua, Coroutine, in_progress, frames_of, read_cell, register_at}
+use Rattle.machine_core.specs.World.{Cell, open_at, Frame, lua, Coroutine, in_progress, frames_of, read_cell, register_at}
 use Rattle.machine_core.specs.Text.{read, trap}
 use Rattle.machine_core.specs.InstructionRows.{row_of, text_at, text_by, to_register}
 use Rattle.machine_core.specs.MachineStep.{steps, and_then}
-use Rattle.machine_focus.specs.Focus.{Held, cell_at, frames as held_frames, local, world, Reaches}
+use Rattle.machine_focus.specs.Focus.{Held, cell_at, frames as held_frames, local, world}
 use Rattle.machine_focus.proofs.Here.{held_is_step}
 use Rattle.machine_sound.proofs.Lists.{get_map, get_set_same, get_there}
 use Rattle.machine_view.specs.View.{held, IsAt}
@@ -29,7 +29,7 @@ use Rattle.lua_heap.specs.Reading.{value}
 use Rattle.machine_arms_tables.specs.Frame.{Code, Moment, moment, IsReadyAt, RunsTo}
 use Rattle.machine_arms_tables.proofs.Steps.{at_opcode}
 use Rattle.machine_loop.specs.Running.{Running}
-use Rattle.running_frame.specs.Standing.{RunsAt, standing}
+use Rattle.running_frame.specs.Standing.{RunsAt}
 use Rattle.running_frame.specs.Upvalues.{GoesOver, ListsOpen, StandsOpen, is_read}
 use Rattle.running_frame.proofs.OnStack.{frames_are, loop_reaches, loop_ready, rewritten, runs_at}
 

@@ -82,7 +82,7 @@ caller_kept {s} {t} {c} n x e l = record {
 }
 
 module _ {s : KeptStack} {n : ℕ} (h : HasKept s n) where
-  top_by : (f : Kept → Value) → frames f s ≡ map (frame_of f) h.below ++ lua (lua_of f h.top) ∷ []
+  pub top_by : (f : Kept → Value) → frames f s ≡ map (frame_of f) h.below ++ lua (lua_of f h.top) ∷ []
   top_by f = ap (map (frame_of f)) h.is ∙ map_more (frame_of f) h.below (kept_lua h.top ∷ [])
 
   pub registers_kept : HasRegisters s n

@@ -1,5 +1,6 @@
 pub mod Here
 pub mod Standing
+pub mod Taking
 pub mod Upvalues
 pub mod Inheriting
 pub mod Calling

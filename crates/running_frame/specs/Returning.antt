@@ -4,7 +4,7 @@ use Rattle.code_core.specs.declared.instruction.Instruction.{Instruction}
 use Rattle.code_core.specs.declared.opcode.Opcode.{Opcode}
 use Rattle.code_core.specs.declared.opcode.Opcode.TheVariants.{Call, Return, Return0, Return1}
 use Rattle.code_core.specs.Instruction.{a_of, b_of, c_of, opcode_of}
-use Rattle.int_core.specs.Value.{Value, known, last, nil, range, without_last, write_all}
+use Rattle.int_core.specs.Value.{Value, last, range, without_last, write_all}
 use Rattle.machine_core.specs.World.{running, LuaFrame}
 use Rattle.table_core.specs.declared.value.Value.{Value as Kept}
 use Rattle.table_core.specs.declared.value.Value.TheVariants.{Nil}

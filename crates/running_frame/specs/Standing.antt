@@ -3,7 +3,7 @@ use Rattle.std.specs.Prelude.{◌≡◌, ◌<◌, ◌++◌, ◌∷◌, ℕ, List
 use Rattle.std.specs.Option.{option_map}
 use Rattle.int_core.specs.Value.{without_last}
 use Rattle.machine_core.specs.Text.{last_pending}
-use Rattle.machine_core.specs.World.{running, LuaFrame, Frame, lua, World, Place, place_of}
+use Rattle.machine_core.specs.World.{running, LuaFrame, lua, World, Place, place_of}
 use Rattle.machine_core.specs.Moves.{go, Row}
 use Rattle.machine_sound.specs.Laws.{SoundAfter, PrimitivesSafe}
 use Rattle.machine_focus.specs.Focus.{stacked}

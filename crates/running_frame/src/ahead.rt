@@ -13,6 +13,7 @@ ghost use Rattle.running_frame.specs.Standing.{IsApart};
 
 use crate::frames::run_frame_on_top;
 use crate::place::{Here, find_here};
+use crate::taking::is_taken;
 use lua_heap::law::checked_code_is_there;
 use lua_heap::{Coro, World};
 use machine_arms_tables::Closure;
@@ -28,9 +29,23 @@ pub fn run_ahead(world: &mut World, budget: &mut u64) -> Here
     ensures ready { IsReady (length all_entries) go world.new }
     ensures here { IsHere world.new result }
 {
-    if !world.moving.is_empty() {
+    let still = is_taken(world);
+    if !still {
         return find_here(world);
     }
+    run_frames(world, budget)
+}
+
+/// Runs the frames of a world in which nothing moves.
+fn run_frames(world: &mut World, budget: &mut u64) -> Here
+    ghost rows: { ℕ → Row }
+    requires safe { PrimitivesSafe (length all_entries) rows }
+    requires ready { IsReady (length all_entries) go world.old }
+    requires still { world.old.moving.items ≡ [] }
+    ensures reaches { Reaches rows (plain world.old budget.old) (plain world.new budget.new) }
+    ensures ready { IsReady (length all_entries) go world.new }
+    ensures here { IsHere world.new result }
+{
     for _ in 0..u64::MAX {
         if let Some(here) = run_frame(world, budget) {
             return here;

@@ -12,6 +12,7 @@ mod returning;
 mod stack;
 mod storing;
 mod tail_calling;
+mod taking;
 mod upvalues;
 
 pub use ahead::run_ahead;

@@ -98,7 +98,7 @@ fn caller_of(stack: &Stack) -> Option<LuaState>
 }
 
 /// What its CALL wants.
-fn taker_of(funcs: &Pool<Func>, codes: &Codes, caller: LuaState) -> Option<Taker>
+pub(crate) fn taker_of(funcs: &Pool<Func>, codes: &Codes, caller: LuaState) -> Option<Taker>
     requires { HaveCode funcs.now.objects codes.now }
     ensures { IfSome result (λ t. TakesIn funcs.now.objects codes.now caller t) }
 {
@@ -137,7 +137,7 @@ fn taker_in(words: &[Instruction], caller: LuaState) -> Option<Taker>
 }
 
 /// The Lua frame on top gets a value where it wants one, and runs on.
-fn hand(stack: &mut Stack, taker: Taker, value: Value)
+pub(crate) fn hand(stack: &mut Stack, taker: Taker, value: Value)
     requires few { taker.count ≤ 1 }
     requires room { HasKept stack.old (taker.register + taker.count) }
     ensures { TopBecomes stack.old stack.new (λ f t. taken taker (f value) t) }

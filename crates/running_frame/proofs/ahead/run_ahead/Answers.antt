@@ -1,23 +1,31 @@
-use Rattle.std.proofs.Common.{rules, ◌≡◌, length}
-use Rattle.std.proofs.lemmas.List.{nil_from_length}
-use Rattle.running_frame.proofs.Chained.{reaches_none, reaches_then}
+use Rattle.std.proofs.Common.{length}
+use Rattle.library_rows.specs.Library.{all_entries}
+use Rattle.running_frame.proofs.Apart.{ready_there}
+use Rattle.running_frame.proofs.Chained.{reaches_then}
 use Rattle.running_frame.proofs.ahead.run_ahead.Goals as goal
 
-pub loop-init : goal.loop-init
-loop-init g c =
-    let W = c.args.world.now in
-    let none : length W.moving.items ≡ 0 = search rules in
-    record { reaches = reaches_none g.rows _; ready = c.requires.1; still = nil_from_length W.moving.items none }
+pub find_here-requires : goal.find_here-requires
+find_here-requires g c =
+    let t = c.is_taken-still.ensures in
+    record { ready = ready_there (length all_entries) g.rows c.args.world.now c.is_taken-still.new.world c.args.budget.now c.args.budget.now c.requires.0 c.requires.1 t.order (t.reaches g.rows c.args.budget.now) }
 
-pub run_frame-requires : goal.run_frame-requires
-run_frame-requires g c = (c.requires.0, (c.loop.invariant.ready, c.loop.invariant.still))
+pub returns-then-not-still-clause-reaches : goal.returns-then-not-still-clause-reaches
+returns-then-not-still-clause-reaches g c = c.is_taken-still.ensures.reaches g.rows c.args.budget.now
 
-pub returns-in-Some-clause-reaches : goal.returns-in-Some-clause-reaches
-returns-in-Some-clause-reaches g c = reaches_then g.rows c.loop.invariant.reaches c.run_frame.ensures.reaches
+pub returns-then-not-still-clause-ready : goal.returns-then-not-still-clause-ready
+returns-then-not-still-clause-ready g c =
+    let t = c.is_taken-still.ensures in
+    ready_there (length all_entries) g.rows c.args.world.now c.is_taken-still.new.world c.args.budget.now c.args.budget.now c.requires.0 c.requires.1 t.order (t.reaches g.rows c.args.budget.now)
 
-pub loop-preserved : goal.loop-preserved
-loop-preserved g c = record {
-  reaches = reaches_then g.rows c.loop.invariant.reaches c.run_frame.ensures.reaches;
-  ready = c.run_frame.ensures.ready;
-  still = c.run_frame.ensures.still;
-}
+pub run_frames-requires : goal.run_frames-requires
+run_frames-requires g c =
+    let t = c.is_taken-still.ensures in (
+      c.requires.0,
+      (
+        ready_there (length all_entries) g.rows c.args.world.now c.is_taken-still.new.world c.args.budget.now c.args.budget.now c.requires.0 c.requires.1 t.order (t.reaches g.rows c.args.budget.now),
+        t.still c.if-not-still.false,
+      ),
+    )
+
+pub returns-clause-reaches : goal.returns-clause-reaches
+returns-clause-reaches g c = reaches_then g.rows (c.is_taken-still.ensures.reaches g.rows c.args.budget.now) c.run_frames.ensures.reaches

@@ -60,7 +60,7 @@ run_frame_on_top-requires g c =
         (
           sym (ap (λ (g : Running). g.string_metatable) h.held),
           (
-            subst (λ (g : Running). AreFunctions g.around.context.base.functions W.funcs.objects W.codes) (sym h.held) (are_functions g.g W h c.checked_code_is_there.ensures),
+            subst (λ (g : Running). AreFunctions g.around.context.base.functions W.funcs.objects W.codes) (sym h.held) (are_functions g.g.around.primitives W h.after h.order c.checked_code_is_there.ensures),
             says.stack ∙ ap (λ (g : Running). g.around.context.closure.code.own.stack) (sym h.held),
           ),
         ),
