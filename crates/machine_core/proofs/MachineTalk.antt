@@ -1,14 +1,16 @@
 -- What activations of short codes ask, by the first reading of the same texts.
-use Rattle.std.proofs.Common.{◌≡◌, ℕ, List, [], ◌∷◌, refl}
+use Rattle.std.proofs.Common.{◌≡◌, ℕ, false, List, [], ◌∷◌, refl}
 use Rattle.std.specs.Prelude.{codes}
 use Rattle.std.specs.Int.{int_wrap}
 use Rattle.code_core.specs.Opcode.{opcodes, number_of}
+use Rattle.code_core.specs.declared.opcode.Opcode.TheVariants.{NewTable, Return1, SetList, ExtraArg}
+use Rattle.code_core.specs.Instruction.{abc, op_ax}
 use Rattle.code_core.specs.Prototype.{Prototype}
 use Rattle.int_core.specs.Value.{nil, primitive, a_table, Value, known, object}
 use Rattle.int_core.specs.Operations.{of_add, arithmetic}
-use Rattle.int_core.specs.Ask.{Reply, values, faulted, left, Ask, reads_upvalue, makes_function, opens, operates, calls, marks, closes, raises, leaves, returns, throws, of_local, Answer}
+use Rattle.int_core.specs.Ask.{Reply, values, faulted, left, Ask, reads_upvalue, makes_table, fills_table, makes_function, opens, operates, calls, marks, closes, raises, leaves, returns, throws, of_local, Answer}
 use Rattle.machine_core.specs.Talk.{asked, talk_start, talk_step}
-use Rattle.machine_core.proofs.Machine.{int, fails, faults, counted, counts, body, sets}
+use Rattle.machine_core.proofs.Machine.{code, load, int, fails, faults, counted, counts, body, sets}
 
 abbrev answered : Reply → Answer
 answered r = record { reply = r; shared = []; cell = 0 }
@@ -63,3 +65,12 @@ written_while_waiting : asks body (record { reply = values []; shared = []; cell
     ∷ (calls (known (primitive 4)) (int 4 ∷ []), (3, int 1) ∷ []) ∷ (leaves (returns (int 9 ∷ [])), (3, int 9) ∷ []) ∷ []
 unfolding opcodes number_of int_wrap
 written_while_waiting = refl
+
+-- an instruction that stores two values asks once for each
+abbrev stores_two : Prototype
+stores_two = code 0 false 3 [] [] [] (abc NewTable 0 0 0 false ∷ op_ax ExtraArg 0 ∷ load 1 5 ∷ load 2 6 ∷ abc SetList 0 2 3 false ∷ abc Return1 0 0 0 false ∷ [])
+
+one_by_one : first (asks stores_two (one (object a_table 8) ∷ none ∷ none ∷ [])) ≡
+    makes_table ∷ fills_table (object a_table 8) 3 (int 5 ∷ []) ∷ fills_table (object a_table 8) 4 (int 6 ∷ []) ∷ leaves (returns (object a_table 8 ∷ [])) ∷ []
+unfolding opcodes number_of int_wrap
+one_by_one = refl

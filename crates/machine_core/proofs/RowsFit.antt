@@ -12,7 +12,7 @@ use Rattle.int_core.specs.Value.{a_table, a_function, a_coroutine, Shape, is_kno
 use Rattle.machine_core.specs.World.{Wait, running, for_call, for_iterator, for_value, for_truth, dropped, for_concat, for_close, returning, leaving}
 use Rattle.int_core.specs.Operations.{Event, of_add, of_sub, of_mul, of_mod, of_idiv, of_band, of_bor, of_bxor, of_shl, of_shr, computed, by_zero}
 use Rattle.machine_core.specs.Text.{Arg, read, written, Text, write_register, read_register, trap, raise, own, quick, pay, go_by}
-use Rattle.machine_core.specs.InstructionRows.{row_of, value_comes, rest, with_register, with_constant, counted, return_count, then, back, is_true, integer_of_shape, fast, event_numbered, handled, joins, starts, prepares, goes_round, runs, jumps, marks, opens, upvalues_of_inner, fills_by, register_or_constant, read_values, write_values, to_register, to_register_before, closes, returns, fails, next, skip}
+use Rattle.machine_core.specs.InstructionRows.{row_of, value_comes, rest, with_register, with_constant, counted, return_count, then, back, is_true, integer_of_shape, fast, event_numbered, handled, joins, starts, prepares, goes_round, runs, jumps, marks, opens, upvalues_of_inner, fills_each, fills_from, fills_by, register_or_constant, read_values, write_values, to_register, to_register_before, closes, returns, fails, next, skip}
 use Rattle.machine_core.specs.RowFits.{Fits}
 
 module _ (p : Prototype) (pc : ℕ) (op : Opcode) (w : Instruction) where
@@ -98,11 +98,19 @@ module _ (p : Prototype) (pc : ℕ) (op : Opcode) (w : Instruction) where
   opens_fit [] t f = f
   opens_fit (u ∷ us) t f = by_cond u.in_stack _ _ (opens_fit us t f) (opens_fit us t f)
 
+  each_fits : (n t r last : ℕ) (z : ℤ) → Fit (fills_each n t r last z)
+  each_fits zero t r last z = λ _ _. tt
+  each_fits (suc n) t r last z = λ _ _ _. each_fits n t (suc r) (suc last) z
+
+  from_fits : (n t r last : ℕ) (z : ℤ) → Fit (fills_from n t r last z)
+  from_fits zero t r last z = λ _ _ _ _ _. tt
+  from_fits (suc n) t r last z = each_fits (suc n) t r last z
+
   fills_fit : (s : Shape) (t : ℕ) (last : ℕ) (z : ℤ) → Fit (fills_by s t w last z)
   fills_fit (is_known k) t last z = tt
   fills_fit (is_object a_function) t last z = tt
   fills_fit (is_object a_coroutine) t last z = tt
-  fills_fit (is_object a_table) t last z = read_fits (a_of w + 1) (cond (b_of w == 0) 0 (b_of w + 1)) _ (λ v s n m u. tt)
+  fills_fit (is_object a_table) t last z = from_fits (b_of w) t (a_of w + 1) last z
 
 handled_fits : (p : Prototype) (pc : ℕ) (op : Opcode) (w : Instruction) (e : Option Event) (xs : List Arg)
     → to_register_before p pc ≡ rest {V = Arg} for_value p pc op w → Fits p pc op w (handled p pc w e xs)

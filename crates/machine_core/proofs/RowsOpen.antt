@@ -15,7 +15,7 @@ use Rattle.int_core.specs.Value.{a_table, a_function, a_coroutine, Shape, is_kno
 use Rattle.machine_core.specs.World.{Wait, running, for_call, for_iterator, for_value, for_truth, dropped, for_concat, for_close, returning, leaving}
 use Rattle.int_core.specs.Operations.{Event, of_add, of_sub, of_mul, of_mod, of_idiv, of_band, of_bor, of_bxor, of_shl, of_shr, computed, by_zero}
 use Rattle.machine_core.specs.Text.{Arg, read, written, Text, write_register, read_register, trap, raise, own, open_cell, quick, read_upvalue, write_upvalue, make_function, fill_table, pay, go_by}
-use Rattle.machine_core.specs.InstructionRows.{row_of, value_comes, rest, with_register, with_constant, counted, return_count, then, back, is_true, integer_of_shape, fast, event_numbered, handled, joins, starts, prepares, goes_round, runs, jumps, marks, opens, upvalues_of_inner, fills_by, register_or_constant, read_values, write_values, to_register, to_register_before, closes, returns, fails, next, skip}
+use Rattle.machine_core.specs.InstructionRows.{row_of, value_comes, rest, with_register, with_constant, counted, return_count, then, back, is_true, integer_of_shape, fast, event_numbered, handled, joins, starts, prepares, goes_round, runs, jumps, marks, opens, upvalues_of_inner, fills_each, fills_from, fills_by, register_or_constant, read_values, write_values, to_register, to_register_before, closes, returns, fails, next, skip}
 use Rattle.machine_core.specs.RowFits.{MakesNone, AreOpened, OpensFirst}
 
 -- what a text opens is opened from then on
@@ -148,11 +148,19 @@ module _ (p : Prototype) (pc : ℕ) (w : Instruction) where
   opens_none [] t f = f
   opens_none (u ∷ us) t f = by_cond u.in_stack _ _ (opens_none us t f) (opens_none us t f)
 
+  each_none : (n t r last : ℕ) (z : ℤ) → MakesNone (fills_each n t r last z)
+  each_none zero t r last z = λ _ _. tt
+  each_none (suc n) t r last z = λ _ _ _. each_none n t (suc r) (suc last) z
+
+  from_none : (n t r last : ℕ) (z : ℤ) → MakesNone (fills_from n t r last z)
+  from_none zero t r last z = λ _ _ _ _ _. tt
+  from_none (suc n) t r last z = each_none (suc n) t r last z
+
   fills_none : (s : Shape) (t : ℕ) (last : ℕ) (z : ℤ) → MakesNone (fills_by s t w last z)
   fills_none (is_known k) t last z = tt
   fills_none (is_object a_function) t last z = tt
   fills_none (is_object a_coroutine) t last z = tt
-  fills_none (is_object a_table) t last z = read_none (a_of w + 1) (cond (b_of w == 0) 0 (b_of w + 1)) _ (λ v s n m u. tt)
+  fills_none (is_object a_table) t last z = from_none (b_of w) t (a_of w + 1) last z
 
 handled_none : (p : Prototype) (pc : ℕ) (w : Instruction) (e : Option Event) (xs : List Arg) → MakesNone (handled p pc w e xs)
 handled_none p pc w None xs = tt

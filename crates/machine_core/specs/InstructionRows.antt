@@ -161,10 +161,23 @@ sets o key value = operate store (o ∷ key ∷ value ∷ []) dropped [] next
 abbrev pub spelled : ℕ → Arg
 spelled n = written (integer (pos n))
 
+-- the list is gone, where one was open
+abbrev pub ends_list : ℤ → Text
+ends_list behind = then end_list (go_by behind)
+
+-- the values of so many registers from r on go to the table in slot t one by one, behind the index `last`
+abbrev pub fills_each : (count t r last : ℕ) → ℤ → Text
+fills_each zero t r last behind = ends_list behind
+fills_each (suc count) t r last behind = own (read_register r) (λ v _. quick (fill_table (read t) last v) (λ _. fills_each count t (suc r) (suc last) behind))
+
+-- for a count of 0 all values of the open list from r on go there at once
+abbrev pub fills_from : (count t r last : ℕ) → ℤ → Text
+fills_from zero t r last behind = own (read_list r) (λ v _. quick (fill_table (read t) last v) (λ _. ends_list behind))
+fills_from (suc count) t r last behind = fills_each (suc count) t r last behind
+
 -- the list goes to the indexes behind `last`
 abbrev pub fills_by : Shape → (t : ℕ) → Instruction → (last : ℕ) → ℤ → Text
-fills_by (is_object a_table) t w last behind =
-    read_values (a_of w + 1) (cond (b_of w == 0) 0 (b_of w + 1)) (λ v _. quick (fill_table (read t) last v) (λ _. then end_list (go_by behind)))
+fills_by (is_object a_table) t w last behind = fills_from (b_of w) t (a_of w + 1) last behind
 fills_by s t w last behind = raise (codes "attempt to index a " ++ type_name s ++ codes " value")
 
 abbrev pub fills : Instruction → (last : ℕ) → ℤ → Text
