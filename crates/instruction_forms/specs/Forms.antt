@@ -4,8 +4,8 @@ use Rattle.code_core.specs.Prototype.{Prototype}
 use Rattle.int_core.specs.Operations.{Event, of_add, of_sub, of_mul, of_mod, of_idiv, of_band, of_bor, of_bxor, of_shl, of_shr, of_unm, of_bnot, type_name, Operation, index, store, arithmetic, length', equal, less, less_equal}
 use Rattle.int_core.specs.Value.{nil, boolean, integer, a_table, Shape, is_known, is_object, holds, same_truth, same_plain}
 use Rattle.machine_core.specs.World.{Wait, for_call, for_iterator, for_value, for_truth, dropped}
-use Rattle.machine_core.specs.Text.{Arg, read, written, Own, read_register, read_constant, read_varargs, see, write_register, write_nils, end_list, cut_from, drop_pending, read_upvalue, write_upvalue, make_table, make_function, fill_table, pay, Text, go_by, own, quick, operate, call, tail_call, raise}
-use Rattle.machine_core.specs.InstructionRows.{next, skip, then, to_register, integer_of_shape, counted, returns, closes, read_values, write_values, joins, tested, to_register_before, swapped as in_order, fast, with_loop, prepares, goes_round, back, jumps, marks, opens, upvalues_of_inner, with_extra}
+use Rattle.machine_core.specs.Text.{Arg, read, written, Own, read_register, read_constant, read_varargs, see, write_register, write_nils, cut_from, drop_pending, read_upvalue, write_upvalue, make_table, make_function, pay, Text, go_by, own, quick, operate, call, tail_call, raise}
+use Rattle.machine_core.specs.InstructionRows.{next, skip, then, to_register, integer_of_shape, counted, returns, closes, read_values, write_values, fills_from, joins, tested, to_register_before, swapped as in_order, fast, with_loop, prepares, goes_round, back, jumps, marks, opens, upvalues_of_inner, with_extra}
 use Rattle.instruction_forms.specs.declared.operand.Operand.{Operand}
 use Rattle.instruction_forms.specs.declared.operand.Operand.TheVariants.{Register, Constant, Upvalue, Integer, Truth}
 use Rattle.instruction_forms.specs.declared.operand.Operands.{Operands}
@@ -88,8 +88,7 @@ also_to _ _ = []
 -- lists of values
 
 abbrev pub fills_registers : Shape → (t : ℕ) → (table count last : ℕ) → ℤ → Text
-fills_registers (is_object a_table) t table count last behind =
-    read_values (table + 1) (cond (count == 0) 0 (count + 1)) (λ v _. quick (fill_table (read t) last v) (λ _. then end_list (go_by behind)))
+fills_registers (is_object a_table) t table count last behind = fills_from count t (table + 1) last behind
 fills_registers s t table count last behind = raise (codes "attempt to index a " ++ type_name s ++ codes " value")
 
 abbrev pub fills_behind : (table count last : ℕ) → ℤ → Text
