@@ -1,6 +1,6 @@
 -- The rows of SETLIST, CLOSURE and VARARG are safe in checked code.
 use Rattle.std.proofs.Common.{ℕ, zero, suc, ◌≡◌, ◌<◌, ◌≤◌, ◌+◌, ◌-◌, ◌*◌, List, [], ◌∷◌, ◌++◌, Option, Some, None, refl, subst, sym, ap, ◌∙◌, length, Bool, true, false, arith}
-use Rattle.std.specs.Prelude.{ℤ, pos, slice_get, cond, max, nat_lt, IsTrue, ◌==◌, if◌then◌else◌, drop}
+use Rattle.std.specs.Prelude.{ℤ, pos, slice_get, cond, max, nat_lt, IsTrue, if◌then◌else◌, drop}
 use Rattle.std.specs.List.{list_all}
 use Rattle.int_core.specs.Value.{Value, known, object, a_table, a_function, a_coroutine, shape}
 use Rattle.code_core.specs.declared.opcode.Opcode.{Opcode}
@@ -11,8 +11,8 @@ use Rattle.code_core.specs.Instruction.{a_of, b_of, c_of, k_of, bx_of, ax_of}
 use Rattle.code_core.specs.Fields.{last_of, takes_list, second_half, opens as opens_list, is_return}
 use Rattle.code_core.specs.Prototype.{Prototype, list_of}
 use Rattle.code_core.specs.Check.{fixed, open_from, opened, there, upvalue_there}
-use Rattle.machine_core.specs.Text.{read, behind, end_list, Text, quick, open_cell, trap, make_function, fill_table, go_by}
-use Rattle.machine_core.specs.InstructionRows.{to_register, then, read_values, write_values, fills, fills_by, opens, with_extra}
+use Rattle.machine_core.specs.Text.{read, behind, Text, quick, open_cell, trap, make_function, fill_table, go_by}
+use Rattle.machine_core.specs.InstructionRows.{to_register, write_values, ends_list, fills_each, fills_from, fills, fills_by, opens, with_extra}
 use Rattle.machine_core.specs.FrameRows.{expand}
 use Rattle.machine_sound.specs.Sound.{Top, MarkFits}
 use Rattle.machine_sound.specs.Safe.{on_lua, CapturesOk, Safe}
@@ -25,31 +25,37 @@ use Rattle.machine_sound.proofs.Rules.{extra_behind}
 
 -- a list for a table
 
-fills_safe : {t : Top} {w : Instruction} → Here t w SetList → (takes_list SetList w ≡ true → Listed t w) → (last : ℕ) (d : ℤ)
-    → ((env : List Value) → Safe (on_lua (record t { size = t.code.own.stack; opened = 0 })) env (expand (go_by d)))
-    → Safe (on_lua t) [] (expand (fills w last d))
+-- behind it the list is gone
+abbrev AfterList : Top → ℤ → Type 0
+AfterList t d = (env : List Value) → Safe (on_lua (record t { size = t.code.own.stack; opened = 0 })) env (expand (go_by d))
+
+ends_safe : {t : Top} {w : Instruction} → Here t w SetList → (d : ℤ) → AfterList t d → (env : List Value) → Safe (on_lua t) env (expand (ends_list d))
+ends_safe h d s env = (((let e = h.cells in omega arith), h.runs), λ _. s (env ++ []))
+
+-- registers that are there go to the table one by one
+each_safe : {t : Top} {w : Instruction} → Here t w SetList → (d : ℤ) → AfterList t d → (n r last m : ℕ) (vs : List Value) → r + n ≤ t.size → Safe (on_lua t) (object a_table m ∷ vs) (expand (fills_each n 0 r last d))
+each_safe {t = t} h d s zero r last m vs low = ends_safe h d s (object a_table m ∷ vs)
+each_safe {t = t} h d s (suc n) r last m vs low = ((below r n t.size low, tt), λ v. (refl, λ _. each_safe h d s n (suc r) (suc last) m ((vs ++ v ∷ []) ++ []) (above r n t.size low)))
+  where
+    below : (r n size : ℕ) → r + suc n ≤ size → r < size
+    below r n size l = omega arith
+
+    above : (r n size : ℕ) → r + suc n ≤ size → suc r + n ≤ size
+    above r n size l = omega arith
+
+fills_safe : {t : Top} {w : Instruction} → Here t w SetList → (takes_list SetList w ≡ true → Listed t w) → (last : ℕ) (d : ℤ) → AfterList t d → Safe (on_lua t) [] (expand (fills w last d))
 fills_safe {t = t} {w = w} h l last d s = ((register_there h l (a_of w) (low (a_of w) (b_of w) t.code.own.stack (reg h 0 (a_of w + b_of w) refl)), tt), λ v. from v)
   where
     low : (a b n : ℕ) → a + b < n → a < n
     low a b n l = omega arith
 
-    all : (a n size : ℕ) → a + n < size → behind (a + 1) n ≤ size
-    all a zero size l = omega arith
-    all a (suc n) size l = omega arith
+    all : (a b n size : ℕ) → a + b < size → b ≡ suc n → a + 1 + suc n ≤ size
+    all a b n size l e = omega arith
 
-    behind_list : (vs : List Value) (v : Value) → Safe (on_lua t) (v ∷ vs) (expand ((then) end_list (go_by d)))
-    behind_list vs v = (((let e = h.cells in omega arith), h.runs), λ _. s ((v ∷ vs) ++ []))
-
-    table : (m : ℕ) (b : ℕ) → b_of w ≡ b → Safe (on_lua t) (object a_table m ∷ []) (expand (read_values (a_of w + 1) (cond (b == 0) 0 (b + 1)) (λ v _. quick (fill_table (read 0) last v) (λ _. (then) end_list (go_by d)))))
-    table m zero e = values_safe t (object a_table m ∷ []) (a_of w + 1) 0 (λ v _. quick (fill_table (read 0) last v) (λ _. (then) end_list (go_by d)))
-        (λ _. some_end t w (l (zero_is (b_of w) e))) (λ n q. absurd (cc)) (λ vs _ _. (refl, λ _. behind_list (vs ++ []) (object a_table m)))
-    table m (suc n) e =
-        let q : (suc n == 0) ≡ false = not_zero (suc n) n refl in
-        subst (λ b. Safe (on_lua t) (object a_table m ∷ []) (expand (read_values (a_of w + 1) (cond b 0 (suc n + 1)) (λ v _. quick (fill_table (read 0) last v) (λ _. (then) end_list (go_by d)))))) (sym q)
-        (values_safe t (object a_table m ∷ []) (a_of w + 1) (suc n + 1) (λ v _. quick (fill_table (read 0) last v) (λ _. (then) end_list (go_by d)))
-        (λ e. absurd (omega arith))
-        (λ k g. let r : k ≡ b_of w = omega arith in subst (λ k. behind (a_of w + 1) k ≤ t.size) (sym r) (all (a_of w) (b_of w) t.size (sized h (not_zero (b_of w) n e) 0 (a_of w + b_of w) refl)))
-        (λ vs _ _. (refl, λ _. behind_list (vs ++ []) (object a_table m))))
+    table : (m : ℕ) (b : ℕ) → b_of w ≡ b → Safe (on_lua t) (object a_table m ∷ []) (expand (fills_from b 0 (a_of w + 1) last d))
+    table m zero e = values_safe t (object a_table m ∷ []) (a_of w + 1) 0 (λ v _. quick (fill_table (read 0) last v) (λ _. ends_list d))
+        (λ _. some_end t w (l (zero_is (b_of w) e))) (λ n q. absurd (cc)) (λ vs _ _. (refl, λ _. ends_safe h d s (object a_table m ∷ vs ++ [])))
+    table m (suc n) e = each_safe h d s (suc n) (a_of w + 1) last m [] (all (a_of w) (b_of w) n t.size (sized h (not_zero (b_of w) n e) 0 (a_of w + b_of w) refl) e)
 
     from : (v : Value) → Safe (on_lua t) (v ∷ []) (expand (fills_by (shape v) 0 w last d))
     from (object a_table m) = table m (b_of w) refl
