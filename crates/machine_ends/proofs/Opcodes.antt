@@ -15,7 +15,7 @@ use Rattle.code_core.specs.Check.{at, in_front, extra_at}
 use Rattle.int_core.specs.Value.{Value}
 use Rattle.machine_core.specs.World.{Wait, running, for_call, for_iterator, for_value, for_truth, dropped, for_concat, for_close, returning, leaving}
 use Rattle.machine_core.specs.Text.{closable, Arg, read, written, write_register, drop_pending, cut_from, read_register, read_constant, pay, Text, go_by, own, open_cell, quick, operate, tail_call, raise, trap, mark_pending}
-use Rattle.machine_core.specs.InstructionRows.{integer_of_shape, spelled, with_number, then, next, skip, to_register, register_or_constant, joins, tested, truth_decides, to_register_before, value_comes, rest, handled, gets, sets, fills_by, starts, runs, prepares, goes_round, back, jumps, marks, opens, with_extra, row_of, text_by, text_at, rest_by, rest_at, variable_name, writes_integer, upvalues_of_inner, rounds, fills}
+use Rattle.machine_core.specs.InstructionRows.{integer_of_shape, spelled, with_number, then, next, skip, to_register, register_or_constant, joins, tested, truth_decides, to_register_before, value_comes, rest, handled, gets, sets, fills_each, fills_from, fills_by, starts, runs, prepares, goes_round, back, jumps, marks, opens, with_extra, row_of, text_by, text_at, rest_by, rest_at, variable_name, writes_integer, upvalues_of_inner, rounds, fills}
 use Rattle.machine_core.specs.Moves.{CallShape, is_entered, is_primitive, not_paid, not_entered, stop, spent}
 use Rattle.machine_core.specs.FrameRows.{raises, after_call, When, at_once, by_asking, expand_by}
 use Rattle.machine_ends.specs.Measure.{wait_weight}
@@ -175,8 +175,17 @@ iterated_falls a bx v (is_known k) = by (same_plain k nil)
 
 -- lists and functions
 
+-- no credit is spent by values that go to a table, however many they are
+each_falls : (n t r last : ℕ) (z : ℤ) → IsForward z → Comes 30 (expand_by at_once (fills_each n t r last z))
+each_falls zero t r last z f = (tt, λ _ _. forward at_once 30 None z f)
+each_falls (suc n) t r last z f = (tt, λ _ _. (tt, λ _ _. each_falls n t (suc r) (suc last) z f))
+
+from_falls : (n t r last : ℕ) (z : ℤ) → IsForward z → Comes 30 (expand_by at_once (fills_from n t r last z))
+from_falls zero t r last z f = (tt, λ _ _. (tt, λ _ _. (tt, λ _ _. forward at_once 30 None z f)))
+from_falls (suc n) t r last z f = each_falls (suc n) t r last z f
+
 fills_fall : (s : Shape) (t : ℕ) (w : Instruction) (end : ℕ) (z : ℤ) → IsForward z → Comes 30 (expand_by at_once (fills_by s t w end z))
-fills_fall (is_object a_table) t w end z f = read_falls at_once 30 (a_of w + 1) _ _ (λ v s. (tt, λ n u. (tt, λ n s. forward at_once 30 None z f)))
+fills_fall (is_object a_table) t w end z f = from_falls (b_of w) t (a_of w + 1) end z f
 fills_fall (is_object a_function) t w end z f = (tt, λ n u. low)
 fills_fall (is_object a_coroutine) t w end z f = (tt, λ n u. low)
 fills_fall (is_known p) t w end z f = (tt, λ n u. low)
