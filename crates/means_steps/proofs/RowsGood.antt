@@ -13,7 +13,7 @@ use Rattle.code_core.specs.Check.{at, in_front, extra_at}
 use Rattle.machine_core.specs.World.{Wait, running, for_call, for_iterator, for_value, for_truth, dropped, for_concat, for_close, returning, leaving}
 use Rattle.int_core.specs.Operations.{Event, of_add, of_sub, of_mul, of_mod, of_idiv, of_band, of_bor, of_bxor, of_shl, of_shr, computed, by_zero}
 use Rattle.machine_core.specs.Text.{Arg, read, written, Text, write_register, read_register, trap, raise, own, quick, pay, go_by}
-use Rattle.machine_core.specs.InstructionRows.{text_at, text_by, rest_at, rest_by, row_of, value_comes, rest, with_register, with_constant, counted, return_count, then, back, is_true, integer_of_shape, fast, event_numbered, handled, joins, starts, prepares, goes_round, runs, jumps, marks, is_alive, variable_name, opens, upvalues_of_inner, fills_by, register_or_constant, read_values, write_values, to_register, to_register_before, closes, returns, fails, next, skip}
+use Rattle.machine_core.specs.InstructionRows.{text_at, text_by, rest_at, rest_by, row_of, value_comes, rest, with_register, with_constant, counted, return_count, then, back, is_true, integer_of_shape, fast, event_numbered, handled, joins, starts, prepares, goes_round, runs, jumps, marks, is_alive, variable_name, opens, upvalues_of_inner, fills_each, fills_from, fills_by, register_or_constant, read_values, write_values, to_register, to_register_before, closes, returns, fails, next, skip}
 use Rattle.means_steps.proofs.Texts.{Good}
 
 -- a wait for which an error is known already
@@ -112,11 +112,19 @@ module _ (p : Prototype) (pc : ℕ) (op : Opcode) (w : Instruction) (E : (wait :
   opens_good len [] t f = f
   opens_good len (u ∷ us) t f = by_cond len u.in_stack _ _ (opens_good len us t f) (opens_good len us t f)
 
+  each_good : (len n t r last : ℕ) (z : ℤ) → G len (fills_each n t r last z)
+  each_good len zero t r last z = λ s m l. refl
+  each_good len (suc n) t r last z = λ s m l k. each_good (len + m + k) n t (suc r) (suc last) z
+
+  from_good : (len n t r last : ℕ) (z : ℤ) → G len (fills_from n t r last z)
+  from_good len zero t r last z = λ s m l k s' m' l'. refl
+  from_good len (suc n) t r last z = each_good len (suc n) t r last z
+
   fills_good : (len : ℕ) (s : Shape) (t : ℕ) (last : ℕ) (z : ℤ) → G len (fills_by s t w last z)
   fills_good len (is_known k) t last z = tt
   fills_good len (is_object a_function) t last z = tt
   fills_good len (is_object a_coroutine) t last z = tt
-  fills_good len (is_object a_table) t last z = read_good len (a_of w + 1) (cond (b_of w == 0) 0 (b_of w + 1)) _ (λ s m n s' m' l'. refl)
+  fills_good len (is_object a_table) t last z = from_good len (b_of w) t (a_of w + 1) last z
 
   handled_good : (len : ℕ) (e : Option Event) (xs : List Arg) → to_register_before p pc ≡ rest {V = Arg} for_value p pc op w → G len (handled p pc w e xs)
   handled_good len None xs h = tt
