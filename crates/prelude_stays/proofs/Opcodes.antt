@@ -15,7 +15,7 @@ use Rattle.int_core.specs.Value.{a_table, a_function, a_coroutine, Value, Shape,
 use Rattle.int_core.specs.Operations.{Event, of_add, of_sub, of_mul, of_mod, of_idiv, of_band, of_bor, of_bxor, of_shl, of_shr, computed, by_zero}
 use Rattle.machine_core.specs.World.{Wait, running, for_call, for_iterator, for_value, for_truth, dropped, for_concat, for_close, returning, leaving}
 use Rattle.machine_core.specs.Text.{Arg, read, written, Text, write_register, read_register, read_constant, trap, raise, own, quick, pay, go_by}
-use Rattle.machine_core.specs.InstructionRows.{row_of, value_comes, rest, with_register, with_constant, counted, return_count, then, back, with_loop, is_true, integer_of_shape, fast, event_numbered, handled, joins, starts, prepares, goes_round, runs, jumps, marks, opens, upvalues_of_inner, fills_by, register_or_constant, read_values, write_values, to_register, to_register_before, closes, returns, next, skip}
+use Rattle.machine_core.specs.InstructionRows.{row_of, value_comes, rest, with_register, with_constant, counted, return_count, then, back, with_loop, is_true, integer_of_shape, fast, event_numbered, handled, joins, starts, prepares, goes_round, runs, jumps, marks, opens, upvalues_of_inner, fills_each, fills_from, fills_by, register_or_constant, read_values, write_values, to_register, to_register_before, closes, returns, next, skip}
 use Rattle.machine_sound.specs.Sound.{waits_at}
 use Rattle.machine_sound.proofs.Values.{both_of, all_get, lt_of}
 use Rattle.prelude_stays.specs.Guards.{Guard, guard_with, Reads, Row, apart, takes, from_upvalue, from_register, from_register_named}
@@ -145,11 +145,19 @@ module _ (held : ℕ → Bool) (code : List Instruction) where
   opens_reads [] t f = f
   opens_reads (u ∷ us) t f = on_cond u.in_stack _ _ (opens_reads us t f) (opens_reads us t f)
 
+  each_reads : (n t r last : ℕ) (z : ℤ) → Above r → Reads G (fills_each n t r last z)
+  each_reads zero t r last z a = (tt, λ _ _. tt)
+  each_reads (suc n) t r last z a = (a r (omega arith), λ _ _. (tt, λ _. each_reads n t (suc r) (suc last) z (λ q l. a q (omega arith))))
+
+  from_reads : (n t r last : ℕ) (z : ℤ) → Above r → Reads G (fills_from n t r last z)
+  from_reads zero t r last z a = (a, λ _ _. (tt, λ _. (tt, λ _ _. tt)))
+  from_reads (suc n) t r last z a = each_reads (suc n) t r last z a
+
   fills_reads : (s : Shape) (t : ℕ) (w : Instruction) (last : ℕ) (z : ℤ) → Above (a_of w) → Reads G (fills_by s t w last z)
   fills_reads (is_known k) t w last z a = tt
   fills_reads (is_object a_function) t w last z a = tt
   fills_reads (is_object a_coroutine) t w last z a = tt
-  fills_reads (is_object a_table) t w last z a = values_read (a_of w + 1) (cond (b_of w == 0) 0 (b_of w + 1)) _ (λ r l. a r (omega arith)) (λ v s. (tt, λ n. (tt, λ m u. tt)))
+  fills_reads (is_object a_table) t w last z a = from_reads (b_of w) t (a_of w + 1) last z (λ r l. a r (omega arith))
 
   joins_reads : (r i : ℕ) (x : Arg) → Above r → Reads G (joins r i x)
   joins_reads r zero x a = (tt, λ _ _. tt)
