@@ -1,13 +1,13 @@
 -- Rows of instructions that pay for nothing.
 use Rattle.std.proofs.Common.{ℕ, zero, suc, ◌+◌, ◌++◌, [], ◌∷◌, Option, Some, None, Bool, true, false, cond}
-use Rattle.std.specs.Prelude.{ℤ, pos, codes, List, ◌*◌, ◌==◌}
+use Rattle.std.specs.Prelude.{ℤ, pos, codes, List, ◌*◌}
 use Rattle.code_core.specs.declared.proto.UpDesc.{UpDesc}
 use Rattle.code_core.specs.Prototype.{Prototype}
 use Rattle.code_core.specs.Check.{extra_at}
 use Rattle.int_core.specs.Operations.{Event, computed, by_zero}
 use Rattle.int_core.specs.Value.{Shape, is_known, is_object, a_table, a_function, a_coroutine, integer, holds, same_integer}
-use Rattle.machine_core.specs.Text.{read, written, write_register, mark_pending, end_list, Text, trap, raise, own, open_cell, quick, read_upvalue, write_upvalue, make_table, make_function, fill_table, pay, go_by, operate, call, tail_call, close, closable, leave, results, thrown}
-use Rattle.machine_core.specs.InstructionRows.{next, skip, then, fast, integer_of_shape, prepares, runs, rounds, starts, writes_integer, write_values, variable_name, opens, read_values, to_register, upvalues_of_inner, with_extra}
+use Rattle.machine_core.specs.Text.{read, written, write_register, mark_pending, Text, trap, raise, own, open_cell, quick, read_upvalue, write_upvalue, make_table, make_function, fill_table, pay, go_by, operate, call, tail_call, close, closable, leave, results, thrown}
+use Rattle.machine_core.specs.InstructionRows.{next, skip, then, fast, integer_of_shape, prepares, runs, rounds, starts, writes_integer, write_values, variable_name, opens, fills_each, fills_from, to_register, upvalues_of_inner, with_extra}
 use Rattle.machine_core.specs.FrameRows.{expand, raises}
 use Rattle.instruction_forms.specs.declared.operand.Operand.{Operand}
 use Rattle.instruction_forms.specs.declared.operand.Operand.TheVariants.{Register, Constant, Upvalue, Integer, Truth}
@@ -108,13 +108,16 @@ opens_unpaid (u ∷ us) t h = cond_unpaid u.in_stack (open_cell u.index (opens u
 pub function_unpaid : (p : Prototype) (pc inner to : ℕ) → IsUnpaid (text_of p pc (NewFunction inner to))
 function_unpaid p pc inner to = opens_unpaid (upvalues_of_inner p inner) (quick (make_function inner) (λ f. to_register to (read f))) (λ f _ _. tt)
 
-read_unpaid : (from count : ℕ) (k : ℕ → Shape → Text) → ((n : ℕ) (s : Shape) → IsUnpaid (k n s)) → IsUnpaid (read_values from count k)
-read_unpaid from zero k h = h
-read_unpaid from (suc count) k h = h
+each_unpaid : (n t r last : ℕ) (z : ℤ) → IsUnpaid (fills_each n t r last z)
+each_unpaid zero t r last z = λ _ _. tt
+each_unpaid (suc n) t r last z = λ _ _ _. each_unpaid n t (suc r) (suc last) z
+
+from_unpaid : (n t r last : ℕ) (z : ℤ) → IsUnpaid (fills_from n t r last z)
+from_unpaid zero t r last z = λ _ _ _ _ _. tt
+from_unpaid (suc n) t r last z = each_unpaid (suc n) t r last z
 
 fills_unpaid : (s : Shape) (t table count last : ℕ) (z : ℤ) → IsUnpaid (fills_registers s t table count last z)
-fills_unpaid (is_object a_table) t table count last z =
-    read_unpaid (table + 1) (cond (count == 0) 0 (count + 1)) (λ v _. quick (fill_table (read t) last v) (λ _. then end_list (go_by z))) (λ v _ _ _ _. tt)
+fills_unpaid (is_object a_table) t table count last z = from_unpaid count t (table + 1) last z
 fills_unpaid (is_object a_function) t table count last z = tt
 fills_unpaid (is_object a_coroutine) t table count last z = tt
 fills_unpaid (is_known k) t table count last z = tt
