@@ -29,7 +29,7 @@ same_world {A} V W vs ws a b e = ap (λ (d : Made A). d.world) (some_is {o = mad
 
 -- frames that are put in one place one after the other
 
-set_set : {A : Type 0} (xs : List A) (i : ℕ) (x y : A) → slice_set (slice_set xs i x) i y ≡ slice_set xs i y
+pub set_set : {A : Type 0} (xs : List A) (i : ℕ) (x y : A) → slice_set (slice_set xs i x) i y ≡ slice_set xs i y
 set_set [] i x y = refl
 set_set (z ∷ xs) zero x y = refl
 set_set (z ∷ xs) (suc i) x y = ap (λ l. z ∷ l) (set_set xs i x y)
