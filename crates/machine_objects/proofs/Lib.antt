@@ -3,3 +3,4 @@ mod Found
 mod Opened
 mod Making
 mod Filled
+mod OneByOne

@@ -1,4 +1,4 @@
-use Rattle.std.proofs.Common.{◌≡◌, [], ◌∷◌, Some, None, ap, sym, subst, rules}
+use Rattle.std.proofs.Common.{◌≡◌, ◌+◌, [], ◌∷◌, Some, None, ap, sym, subst, rules}
 use Rattle.std.specs.Prelude.{pos}
 use Rattle.int_core.specs.Value.{shape}
 use Rattle.instruction_forms.specs.Forms.{fills_registers}
@@ -11,6 +11,7 @@ use Rattle.move_laws.proofs.Rows.{first, can_do, safe_after}
 use Rattle.machine_moves.specs.Ending.{ending_of}
 use Rattle.machine_objects.specs.Filling.{as_table}
 use Rattle.machine_objects.proofs.Filled.{no_table, is_table}
+use Rattle.machine_objects.proofs.OneByOne.{safe_at_once, leads_one_by_one}
 use Rattle.machine_moves.proofs.OnTop.{if_ok, on_err}
 use Rattle.machine_objects.proofs.filling.fill_behind.Goals as goal
 
@@ -25,7 +26,8 @@ fill_from-requires-clause-safe c =
     let W = c.args.world.now in
     let s = safe_after (λ t s. expand (fills_registers s t c.args.table c.args.count c.args.last (pos c.args.ahead))) c.requires.safe (c.read_register-filled.ensures []) in
     let t : as_table c.read_register-filled.result ≡ Some c.in-Some.id = search rules in
-    subst (λ v. IsSafe (expand (fills_registers (shape (meant W.strings v)) 0 c.args.table c.args.count c.args.last (pos c.args.ahead))) (meant W.strings v ∷ []) W) (is_table c.read_register-filled.result c.in-Some.id t) s
+    safe_at_once W c.in-Some.id.0 c.args.count (c.args.table + 1) c.args.last c.args.ahead
+    (subst (λ v. IsSafe (expand (fills_registers (shape (meant W.strings v)) 0 c.args.table c.args.count c.args.last (pos c.args.ahead))) (meant W.strings v ∷ []) W) (is_table c.read_register-filled.result c.in-Some.id t) s)
 
 pub returns-in_default-clause-leads : goal.returns-in_default-clause-leads
 returns-in_default-clause-leads c =
@@ -43,7 +45,8 @@ returns-clause-leads c =
     let t : as_table v ≡ Some c.in-Some.id = search rules in
     if_ok c.fill_from.result c.fill_from.ensures.leads c.fill_from.ensures.leads (λ ending l _.
     first (λ t s. expand (fills_registers s t c.args.table c.args.count c.args.last (pos c.args.ahead))) (c.read_register-filled.ensures [])
-    (subst (λ v. Leads (expand (fills_registers (shape (meant W.strings v)) 0 c.args.table c.args.count c.args.last (pos c.args.ahead))) (meant W.strings v ∷ []) W c.fill_from.new.world (ending_of ending)) (sym (is_table v c.in-Some.id t)) l))
+    (subst (λ v. Leads (expand (fills_registers (shape (meant W.strings v)) 0 c.args.table c.args.count c.args.last (pos c.args.ahead))) (meant W.strings v ∷ []) W c.fill_from.new.world (ending_of ending)) (sym (is_table v c.in-Some.id t))
+    (leads_one_by_one W c.fill_from.new.world c.in-Some.id.0 c.args.count (c.args.table + 1) c.args.last c.args.ahead (ending_of ending) l)))
 
 pub returns-in_default-clause-err : goal.returns-in_default-clause-err
 returns-in_default-clause-err c = on_err c.refuse.result c.refuse.ensures.err (ap (λ (W : Memory). W.printed))
