@@ -18,6 +18,7 @@ use Rattle.code_of.specs.Operators.{number_opcode, name_code, self_code, prefix_
 use Rattle.code_of.specs.Operations.{constant_in, operation_by, operation_code}
 use Rattle.code_of.specs.Truths.{jump_if, pick, compared, is_compared, is_not, line_of, set_if, load_truth}
 use Rattle.code_of.specs.Chains.{chain_code}
+use Rattle.code_of.specs.Items.{waits, is_full, item_register, stored_behind, waiting_behind}
 
 -- how many functions an expression makes itself
 abbrev mutual
@@ -113,6 +114,17 @@ abbrev pub set_list : (t b items line : ℕ) → List Coded
 set_list t b items line =
     cond (nat_lt items 256) (with_abc SetList t b items line ∷ []) ((abc SetList t b (items % 256) true, line) ∷ (op_ax ExtraArg (items / 256), line) ∷ [])
 
+-- the values that wait behind register t are stored
+abbrev pub waiting_code : (stored waiting t line : ℕ) → List Coded
+waiting_code stored zero t line = []
+waiting_code stored (suc more) t line = set_list t (suc more) stored line
+
+-- an item of which the code is given; b says whether all its values are stored or the first one
+abbrev pub item_code : (wait full : Bool) → List Coded → (stored waiting b t line : ℕ) → List Coded
+item_code true false code stored waiting b t line = code
+item_code true true code stored waiting b t line = code ++ set_list t (waiting + 1) stored line
+item_code false full code stored waiting b t line = waiting_code stored waiting t line ++ (code ++ set_list t b (stored + waiting) line)
+
 -- both operands of a comparison, of which the code is given, and the jump, which is taken where its truth is not k. For another operator it is `other`
 abbrev pub compared_test : (constant : Option ℕ) → BinOp → (e d : Exp) → (first second other : List Coded) → (k : Bool) → (ahead t line : ℕ) → List Coded
 compared_test constant op e d first second other k ahead t line =
@@ -154,7 +166,7 @@ module _ (constants : List Const) where
         let second = exp_code d t (j + made_by e) 2 in
         kept_by e (exp_code e t j 2) true (length second) t j ++ second
     exp_code (Paren line e) t j c = exp_code e t j 2
-    exp_code (Table line fs) t j c = with_abc NewTable t 0 0 line ∷ (op_ax ExtraArg 0, line) ∷ fields_code fs 0 t j line
+    exp_code (Table line fs) t j c = with_abc NewTable t 0 0 line ∷ (op_ax ExtraArg 0, line) ∷ fields_code fs 0 0 t j line
 
     -- Of an expression, of which the code of its value in t is given, only the truth is wanted: where it is k, execution goes on behind this code, and
     -- else it jumps to the place that lies `ahead` instructions past its end. `not` wants the other truth. A first operand decides where it is false
@@ -200,12 +212,14 @@ module _ (constants : List Const) where
     exps_code EndExps wanted t j line = nils_code wanted t line
     exps_code (MoreExps e es) wanted t j line = exp_code e t j (field_of e es wanted) ++ exps_code es (wanted_after e es wanted) (t + 1) (j + made_by e) line
 
-    -- the table is in register t and has this many items already
-    pub fields_code : Fields → (items t j line : ℕ) → List Coded
-    fields_code EndFields items t j line = []
-    fields_code (MoreFields (Item e) fs) items t j line =
-        exp_code e (t + 1) j (cond (is_last_item e fs) 0 2)
-        ++ (set_list t (cond (is_last_item e fs) 0 1) items line ++ fields_code fs (items + 1) t (j + made_by e) line)
-    fields_code (MoreFields (Keyed field_line e d) fs) items t j line =
-        keyed_store (field_key constants (is_quiet d) e) (stored_value constants d) (exp_code e (t + 1) j 2) (exp_code d (t + 2) (j + made_by e) 2) t field_line
-        ++ fields_code fs items t (j + made_by e + made_by d) line
+    -- the table is in register t and has this many items already, and so many values wait behind it
+    pub fields_code : Fields → (stored waiting t j line : ℕ) → List Coded
+    fields_code EndFields stored waiting t j line = waiting_code stored waiting t line
+    fields_code (MoreFields (Item e) fs) stored waiting t j line =
+        item_code (waits e) (is_full (stored + waiting + 1)) (exp_code e (item_register (waits e) t waiting) j (cond (is_last_item e fs) 0 2))
+        stored waiting (cond (is_last_item e fs) 0 1) t line
+        ++ fields_code fs (stored_behind (waits e) (is_full (stored + waiting + 1)) stored waiting) (waiting_behind (waits e) (is_full (stored + waiting + 1)) waiting) t (j + made_by e) line
+    fields_code (MoreFields (Keyed field_line e d) fs) stored waiting t j line =
+        waiting_code stored waiting t line
+        ++ (keyed_store (field_key constants (is_quiet d) e) (stored_value constants d) (exp_code e (t + 1) j 2) (exp_code d (t + 2) (j + made_by e) 2) t field_line
+        ++ fields_code fs (stored + waiting) 0 t (j + made_by e + made_by d) line)

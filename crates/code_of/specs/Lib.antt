@@ -10,6 +10,7 @@ pub mod Operations
 pub mod StoredValues
 pub mod Truths
 pub mod Chains
+pub mod Items
 pub mod Expressions
 pub mod Conditions
 pub mod Levels

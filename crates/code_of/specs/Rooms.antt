@@ -11,6 +11,7 @@ use Rattle.code_of.specs.Truths.{is_not, is_compared}
 use Rattle.code_of.specs.Operands.{local_at, local_of, lone_local, second_of, first_of, operands_room}
 use Rattle.code_of.specs.Stores.{name_in, field_key, object_of, room_unless, fields_room, is_quiet, keyed_room}
 use Rattle.code_of.specs.StoredValues.{stored_value}
+use Rattle.code_of.specs.Items.{waits, is_full, item_room, stored_behind, waiting_behind}
 use Rattle.code_of.specs.FieldReads.{object_room, read_room}
 use Rattle.code_of.specs.Operations.{constant_in, operation_room}
 
@@ -49,7 +50,7 @@ module _ (cs : List Const) where
     room_of (And line e d) field = max (room_kept e (room_of e 2) false) (room_of d 2)
     room_of (Or line e d) field = max (room_kept e (room_of e 2) true) (room_of d 2)
     room_of (Paren line e) field = room_of e 2
-    room_of (Table line fs) field = max 1 (1 + room_of_fields fs)
+    room_of (Table line fs) field = max 1 (1 + room_of_fields fs 0 0)
     room_of _ field = 1
 
     -- an expression of which only the truth is wanted, where its value would take so many
@@ -78,11 +79,14 @@ module _ (cs : List Const) where
     room_of_list above EndExps wanted = room_of_nils above wanted
     room_of_list above (MoreExps e es) wanted = max (above + room_of e (field_of e es wanted)) (room_of_list (above + 1) es (wanted_after e es wanted))
 
-    -- above the table's own register
-    pub room_of_fields : Fields → ℕ
-    room_of_fields EndFields = 0
-    room_of_fields (MoreFields (Item e) fs) = max (room_of e (cond (is_last_item e fs) 0 2)) (room_of_fields fs)
-    room_of_fields (MoreFields (Keyed line e d) fs) = max (keyed_room (field_key cs (is_quiet d) e) (stored_value cs d) (room_of e 2) (room_of d 2)) (room_of_fields fs)
+    -- above the table's own register, where it has this many items already and so many values wait
+    pub room_of_fields : Fields → (stored waiting : ℕ) → ℕ
+    room_of_fields EndFields stored waiting = 0
+    room_of_fields (MoreFields (Item e) fs) stored waiting =
+        max (item_room (waits e) waiting (room_of e (cond (is_last_item e fs) 0 2)))
+        (room_of_fields fs (stored_behind (waits e) (is_full (stored + waiting + 1)) stored waiting) (waiting_behind (waits e) (is_full (stored + waiting + 1)) waiting))
+    room_of_fields (MoreFields (Keyed line e d) fs) stored waiting =
+        max (keyed_room (field_key cs (is_quiet d) e) (stored_value cs d) (room_of e 2) (room_of d 2)) (room_of_fields fs (stored + waiting) 0)
 
   -- what a `return` gives, where no call takes the function's place
   abbrev pub room_of_last : Exps → ℕ
