@@ -1,10 +1,10 @@
 -- The code of an expression talks as the expression does. The work below is any work, and code goes on by a hypothesis.
 use Rattle.std.proofs.Common.{◌≡◌, ℕ, ◌+◌, ◌-◌, ◌<◌, ◌≤◌, ◌^◌, lit<, max, Bool, true, false, zero, suc, Option, Some, None, List, [], ◌∷◌, ◌++◌, length, cond, refl, ap, sym, ◌∙◌, subst, arith, length-append}
-use Rattle.int_core.specs.Value.{Value, a_table, object as reference, same_truth, known, nil, boolean, nth, shape, holds}
+use Rattle.int_core.specs.Value.{Value, same_truth, known, nil, boolean, nth, shape, holds}
 use Rattle.int_core.specs.Ask.{Captured, goes_on}
 use Rattle.tree_core.specs.declared.operator.BinOp.{BinOp}
 use Rattle.tree_core.specs.Tree.{Exp, Nil, True, False, Int, Str, Vararg, Function, Var, Index, Call, Method, Unary, Binary, And, Or, Paren, Table, Exps, EndExps, MoreExps, Fields, EndFields, MoreFields, Item, Keyed}
-use Rattle.tree_activation.specs.Work.{Purpose, for_call, evaluate, give, collect, construct, item_of, keyed_value, keyed_store as keyed_store_of, callee_of, method_of, listed, Work, Pending, key_of, object_of, operand_of, right_of, left_of, and_right, or_right, first_only}
+use Rattle.tree_activation.specs.Work.{Purpose, for_call, evaluate, give, collect, construct, callee_of, method_of, listed, Work, Pending, operand_of, right_of, and_right, or_right, first_only}
 use Rattle.tree_activation.specs.Work as tree
 use Rattle.tree_activation.specs.Activation.{takes_all, step}
 use Rattle.tree_activation.specs.Asking.{first}
@@ -15,43 +15,39 @@ use Rattle.code_core.specs.Check.{fixed, open_from}
 use Rattle.machine_core.specs.Talk.{before}
 use Rattle.code_of.specs.Coded.{with_abc}
 use Rattle.code_of.specs.Constants.{is_small}
-use Rattle.code_of.specs.Operands.{local_of, joins, second_of, first_of}
-use Rattle.code_of.proofs.Operands.{second_number, joins_made, operator_stands, some_operands}
-use Rattle.code_of.specs.Stores.{name_in, is_quiet, field_key, keyed_store}
-use Rattle.code_of.specs.StoredValues.{stored_value}
-use Rattle.code_of.proofs.Stores.{field_key_stands, room_above_table, room_above_key}
+use Rattle.code_of.specs.Operands.{joins}
+use Rattle.code_of.proofs.Operands.{second_number, joins_made}
+use Rattle.code_of.specs.Stores.{name_in}
 use Rattle.code_of.specs.Operations.{constant_in, constant_code, operation_code}
 use Rattle.code_of.specs.Chains.{chain_code}
 use Rattle.code_of.proofs.Chains.{joins_is}
 use Rattle.code_of.proofs.Operations.{some_operation}
-use Rattle.code_of.proofs.StoredValues.{value_stands}
 use Rattle.code_of.proofs.FieldReads.{some_read}
 use Rattle.code_of.specs.Operators.{self_code, prefix_code, operator_code, number_code}
 use Rattle.code_of.specs.Conditions.{keep_code}
-use Rattle.code_of.specs.Expressions.{made_by, count, is_open, ends_open, Wanted, results_field, one_less, field_of, wanted_after, list_field, exp_code, exps_code, fields_code, set_list}
+use Rattle.code_of.specs.Expressions.{made_by, count, is_open, ends_open, Wanted, results_field, one_less, field_of, wanted_after, list_field, exp_code, exps_code, fields_code}
 use Rattle.exp_laws.specs.Setting.{Setting}
-use Rattle.exp_laws.proofs.Registers.{Rel, After, after_none, after_then, lower}
+use Rattle.exp_laws.proofs.Registers.{Rel, After, after_then, lower}
 use Rattle.exp_laws.proofs.Talking.{Agree, go_left, of_tree, of_code}
 use Rattle.exp_laws.proofs.Placing.{HasAt, has_front, has_back}
 use Rattle.exp_laws.proofs.Steps.{true_step, false_step}
-use Rattle.exp_laws.proofs.Lists.{Holds, held_first}
+use Rattle.exp_laws.proofs.Lists.{Holds, held_first, held_one}
 use Rattle.exp_laws.proofs.Calls.{Passed}
 use Rattle.exp_laws.proofs.CallForms.{varargs_goes, call_goes, self_goes}
 use Rattle.exp_laws.proofs.ListForms.{GoesListed, Listed, total, listed_at, listed_after, listed_less, passed, nils_goes, held_both}
 use Rattle.exp_laws.proofs.FunctionForms.{function_goes}
-use Rattle.exp_laws.proofs.Tables.{items_count}
-use Rattle.exp_laws.proofs.TableForms.{new_goes, fill_goes}
-use Rattle.exp_laws.proofs.Storing.{key_goes}
+use Rattle.exp_laws.proofs.TableForms.{new_goes}
+use Rattle.exp_laws.proofs.ItemForms.{OpenSame, FieldsSame, end_goes, item_goes, keyed_goes}
 use Rattle.exp_laws.proofs.Loads.{nil_step}
 use Rattle.exp_laws.specs.Placed.{IsPlaced, ArePlaced, FieldsArePlaced}
 use Rattle.code_of.specs.FieldReads.{object_room}
-use Rattle.code_of.specs.Rooms.{room_of, room_of_name, room_of_fields, room_of_list, room_of_values}
+use Rattle.code_of.specs.Rooms.{room_of, room_of_name, room_of_list, room_of_values}
 use Rattle.code_of.proofs.Rooms.{self_room}
 use Rattle.exp_laws.proofs.Going.{Given, Filled, Goes, GoesFilled, at_place, goes_at, goes_after, into_goes, one_goes}
 use Rattle.exp_laws.proofs.NameForms.{constant_goes, integer_goes, name_goes}
 use Rattle.exp_laws.proofs.OperatorForms.{unary_into, binary_goes, number_goes}
 use Rattle.exp_laws.proofs.Sums.{number_form}
-use Rattle.exp_laws.proofs.Operands.{ExpSame, operands_goes}
+use Rattle.exp_laws.proofs.Operands.{ExpSame}
 use Rattle.exp_laws.proofs.Standing.{operand_goes}
 use Rattle.exp_laws.proofs.ConstantForms.{operation_same, with_constant_goes}
 use Rattle.exp_laws.proofs.FieldForms.{field_into}
@@ -230,10 +226,6 @@ module _ (S : Setting) (pending : List Pending) where
       goes (have ++ vs) env1 regs1 c1 opened (lower S.hidden S.code.own.stack pending env regs env1 regs1 c1 (base + above) base (omega arith) af)
       (held_both base above m have vs regs1 size (λ i lt. af.keeps (base + i) (omega (arith, le)) (omega (arith, lt)) ∙ held i lt) (subst (λ z. Filled S z pc (base + above) vs regs1 opened) one filled))
 
-  pub held_one : (t : ℕ) (v : Value) (regs : List Value) → nth regs t ≡ v → Holds t 1 (v ∷ []) regs
-  held_one t v regs e zero lt = let here : t + 0 ≡ t = omega arith in ap (nth regs) here ∙ e
-  held_one t v regs e (suc i) lt = absurd (omega arith)
-
   -- the last expression of a list is a call or `...`
   open_last : (all : Bool) (e : Exp) (purpose : Purpose) (wanted : Wanted) (base above n pc opened : ℕ) (have vs env regs env1 regs1 : List Value) (c1 : Captured) (k : List Work) → takes_all purpose ≡ all → Counted all wanted (MoreExps e EndExps)
       → length have ≡ above → Holds base above have regs → length env ≤ base → After S.hidden S.code.own.stack pending env regs (base + above) env1 regs1 c1 → Filled S (results_field wanted) pc (base + above) vs regs1 opened
@@ -301,14 +293,6 @@ module _ (S : Setting) (pending : List Pending) where
       args_ready es more args t pc opened env regs c below room rel l
       (λ f rest is f_is passes small. call_goes S pending field (list_field more es) n line t pc opened f rest _ env regs c k (ap (λ vs. step (tree.at (collect (for_call line false) vs EndExps) (of_tree S pending env c) k)) is) has inside le (omega (arith, below)) wide fits small rel f_is passes goes)
 
-  abbrev pub FieldsSame : Fields → Type 0
-  FieldsSame fs =
-      (line items m t j n pc opened : ℕ) (env regs : List Value) (c : Captured) (k : List Work)
-      → n ≤ S.bound → HasAt S pc (fields_code S.code.own.constants fs items t j line) → FieldsArePlaced S fs items (length env) j → pc + length (fields_code S.code.own.constants fs items t j line) < length S.code.own.code
-      → length env ≤ t → t + (1 + room_of_fields S.code.own.constants fs) ≤ S.code.own.stack → Rel S.hidden S.code.own.stack pending env c regs → nth regs t ≡ reference a_table m
-      → Goes S pending n false t env regs (pc + length (fields_code S.code.own.constants fs items t j line)) k
-      → Agree S n (tree.at (construct line (reference a_table m) items fs) (of_tree S pending env c) k) (before (of_code S pending pc regs opened) c)
-
   -- an operator that is no `..`
   operator_same : (line : ℕ) (op : BinOp) (e d : Exp) → joins op ≡ false → ExpSame S pending e → ExpSame S pending d → ExpSame S pending (Binary line op e d)
   operator_same line op e d apart law_e law_d t j n pc opened env regs c k bound has ok inside le room rel goes =
@@ -339,9 +323,11 @@ module _ (S : Setting) (pending : List Pending) where
       by true joined = subst (λ o. ExpSame S pending (Binary line o e d)) (sym (joins_is op joined)) (join_same S pending line e d law_e chain)
       by false apart = operator_same line op e d apart law_e law_d
 
-  item_fits : (many : Bool) → cond many 0 2 < 2 ^ 8
-  item_fits true = lit< tt
-  item_fits false = lit< tt
+  -- all values of a call or `...`
+  all_values : (e : Exp) → AllSame e → is_open e ≡ true → OpenSame S pending e
+  all_values e all many t j n pc opened env regs c k bound has ok inside le room rel goes =
+      all 0 t j n pc opened env regs c k bound has (lit< tt) ok inside le room rel
+      (goes_by n e 0 t env regs (pc + length (exp_code S.code.own.constants e t j 0)) k (λ is. goes) (λ is. absurd (cc)))
 
   mutual
     all_same : (e : Exp) → AllSame e
@@ -406,8 +392,9 @@ module _ (S : Setting) (pending : List Pending) where
         (goes (first ws ∷ []) env2 regs2 c2 o2 (after_then S.hidden S.code.own.stack pending env regs env1 regs1 env2 regs2 c1 c2 t t (omega arith) af af2) eq2 refl))))))
     all_same (Table line fs) field t j n pc opened env regs c k bound has fits ok inside le room rel goes =
         new_goes S pending n line t pc opened _ env regs c k (λ vs. construct line (first vs) 0 fs) refl (has.0, (has.1.0, (has.1.1.0, (has.1.1.1.0, tt)))) (omega (arith, inside)) le (omega (arith, room)) rel
-        (λ m env1 regs1 c1 af is. fields_same fs line 0 m t j n (pc + 2) opened env1 regs1 c1 k bound (let two : pc + 1 + 1 ≡ pc + 2 = omega arith in subst (λ q. HasAt S q (fields_code S.code.own.constants fs 0 t j line)) two has.1.1.1.1)
-        (subst (λ z. FieldsArePlaced S fs 0 z j) (sym af.size) ok) (omega (arith, inside)) (omega (arith, le, af.size)) (omega (arith, room)) af.rel is
+        (λ m env1 regs1 c1 af is. fields_same fs 0 [] line 0 0 m t j n (pc + 2) opened env1 regs1 c1 k tt refl bound
+        (let two : pc + 1 + 1 ≡ pc + 2 = omega arith in subst (λ q. HasAt S q (fields_code S.code.own.constants fs 0 0 t j line)) two has.1.1.1.1)
+        (subst (λ z. FieldsArePlaced S fs 0 z j) (sym af.size) ok) (omega arith) (omega arith) (omega (arith, inside)) (omega (arith, le, af.size)) (omega (arith, room)) (omega (arith, room)) af.rel is (λ i lt. absurd (omega arith))
         (goes_at S pending n false t _ (pc + length (exp_code S.code.own.constants (Table line fs) t j 2)) env1 regs1 k (omega arith) (goes_after S pending n false t _ env regs env1 regs1 c1 k af goes)))
     all_same (Function line body) field t j n pc opened env regs c k bound has fits ok inside le room rel goes =
         function_goes S pending n false t j pc opened body _ env regs c k refl has bound ok.0 ok.1 inside le (omega arith) rel goes
@@ -558,84 +545,10 @@ module _ (S : Setting) (pending : List Pending) where
         (omega (arith, inside, sum)) size held le (omega (arith, room, some)) (omega (arith, room)) af eq
         (listed_at S pending n (total wanted above) (ends_open (MoreExps d es)) _ purpose base _ (pc + length (first_code ++ rest_code)) env regs k (omega (arith, sum)) goes))))
 
-    fields_same : (fs : Fields) → FieldsSame fs
-    fields_same EndFields line items m t j n pc opened env regs c k bound has ok inside le room rel is goes =
-        let none : pc ≡ pc + 0 = omega arith in
-        go_left S n _ (tree.at (give (reference a_table m ∷ [])) (of_tree S pending env c) k) _ refl
-        (at_place S pending n pc (pc + 0) opened _ regs c none (goes (reference a_table m ∷ []) env regs c opened (after_none S.hidden S.code.own.stack pending env regs c t rel) is refl))
-    fields_same (MoreFields (Item e) EndFields) line items m t j n pc opened env regs c k bound has ok inside le room rel is goes =
-        let field : ℕ = cond (is_open e) 0 2 in
-        let first_code = exp_code S.code.own.constants e (t + 1) j field in
-        let fill_code = set_list t (items_count (is_open e)) items line in
-        let last_code = fill_code ++ [] in
-        let sum = length-append first_code last_code in
-        let more = length-append fill_code [] in
-        let some = room_some S.code.own.constants e in
-        go_left S n _ (tree.at (evaluate e) (of_tree S pending env c) (item_of line (reference a_table m) items EndFields ∷ k)) _ refl
-        (all_same e field (t + 1) j n pc opened env regs c (item_of line (reference a_table m) items EndFields ∷ k) bound (has_front S pc first_code last_code has) (item_fits (is_open e)) ok.0 (omega (arith, inside, sum)) (omega (arith, le)) (omega (arith, room)) rel
-        (goes_by n e field (t + 1) env regs (pc + length first_code) (item_of line (reference a_table m) items EndFields ∷ k)
-        (λ many vs env1 regs1 c1 o1 af filled. let all : Filled S 0 (pc + length first_code) (t + 1) vs regs1 o1 = subst (λ z. Filled S z (pc + length first_code) (t + 1) vs regs1 o1) (ap (λ b. cond b 0 2) many) filled in
-        let end : t + 1 + o1 ≡ t + 1 + length vs = (let o = all.1.0 in omega (arith, o)) in
-        let same : length fill_code ≡ length (set_list t (items_count true) items line) = ap (λ b. length (set_list t (items_count b) items line)) many in
-        fill_goes S pending true items m n line t (pc + length first_code) o1 vs _ env1 regs1 c1 k (give (reference a_table m ∷ [])) refl
-        (subst (λ b. HasAt S (pc + length first_code) (set_list t (items_count b) items line)) many (has_front S (pc + length first_code) fill_code [] (has_back S pc first_code last_code has)))
-        (omega (arith, inside, sum, more, same)) ok.1.0 (omega (arith, le, af.size)) (omega (arith, room)) af.rel (af.keeps t (omega (arith, le)) (omega arith) ∙ is)
-        (ap (λ q. elim q as (λ _. Option ℕ) [ fixed ↦ None | open_from r ↦ Some (r + o1) ]) all.0 ∙ ap Some end, all.1.1.1)
-        (λ env2 regs2 c2 af2. at_place S pending n _ (pc + length (first_code ++ last_code)) 0 _ regs2 c2 (omega (arith, sum, more, same))
-        (goes (reference a_table m ∷ []) env2 regs2 c2 0
-        (after_then S.hidden S.code.own.stack pending env regs env1 regs1 env2 regs2 c1 c2 t t (omega arith) (lower S.hidden S.code.own.stack pending env regs env1 regs1 c1 (t + 1) t (omega arith) af) (lower S.hidden S.code.own.stack pending env1 regs1 env2 regs2 c2 (t + 1) t (omega arith) af2))
-        (af2.keeps t (omega (arith, le, af.size)) (omega arith) ∙ (af.keeps t (omega (arith, le)) (omega arith) ∙ is)) refl)))
-        (λ one vs env1 regs1 c1 o1 af eq given. let same : length fill_code ≡ length (set_list t (items_count false) items line) = ap (λ b. length (set_list t (items_count b) items line)) one in
-        let two : room_of S.code.own.constants e field ≡ room_of S.code.own.constants e 2 = ap (λ b. room_of S.code.own.constants e (cond b 0 2)) one in
-        fill_goes S pending false items m n line t (pc + length first_code) o1 (first vs ∷ []) _ env1 regs1 c1 k (give (reference a_table m ∷ []))
-        (ap (λ l. step (tree.at (give l) (of_tree S pending env1 c1) (item_of line (reference a_table m) items EndFields ∷ k))) given)
-        (subst (λ b. HasAt S (pc + length first_code) (set_list t (items_count b) items line)) one (has_front S (pc + length first_code) fill_code [] (has_back S pc first_code last_code has)))
-        (omega (arith, inside, sum, more, same)) ok.1.0 (omega (arith, le, af.size)) (omega (arith, room)) af.rel (af.keeps t (omega (arith, le)) (omega arith) ∙ is)
-        (refl, (omega (arith, room, some, two, af.rel.room), held_one (t + 1) (first vs) regs1 eq))
-        (λ env2 regs2 c2 af2. at_place S pending n _ (pc + length (first_code ++ last_code)) 0 _ regs2 c2 (omega (arith, sum, more, same))
-        (goes (reference a_table m ∷ []) env2 regs2 c2 0
-        (after_then S.hidden S.code.own.stack pending env regs env1 regs1 env2 regs2 c1 c2 t t (omega arith) (lower S.hidden S.code.own.stack pending env regs env1 regs1 c1 (t + 1) t (omega arith) af) (lower S.hidden S.code.own.stack pending env1 regs1 env2 regs2 c2 (t + 1) t (omega arith) af2))
-        (af2.keeps t (omega (arith, le, af.size)) (omega arith) ∙ (af.keeps t (omega (arith, le)) (omega arith) ∙ is)) refl)))))
-    fields_same (MoreFields (Item e) (MoreFields f fs)) line items m t j n pc opened env regs c k bound has ok inside le room rel is goes =
-        let first_code = exp_code S.code.own.constants e (t + 1) j 2 in
-        let fill_code = set_list t (items_count false) items line in
-        let rest_code = fields_code S.code.own.constants (MoreFields f fs) (items + 1) t (j + made_by e) line in
-        let behind = has_back S pc first_code (fill_code ++ rest_code) has in
-        let whole = length-append first_code (fill_code ++ rest_code) in
-        let more = length-append fill_code rest_code in
-        let some = room_some S.code.own.constants e in
-        go_left S n _ (tree.at (evaluate e) (of_tree S pending env c) (item_of line (reference a_table m) items (MoreFields f fs) ∷ k)) _ refl
-        (one_same e (all_same e) (t + 1) j n pc opened env regs c (item_of line (reference a_table m) items (MoreFields f fs) ∷ k) bound (has_front S pc first_code (fill_code ++ rest_code) has) ok.0 (omega (arith, inside, whole)) (omega (arith, le)) (omega (arith, room)) rel
-        (λ vs env1 regs1 c1 o1 af eq one. fill_goes S pending false items m n line t (pc + length first_code) o1 (first vs ∷ []) _ env1 regs1 c1 k (construct line (reference a_table m) (items + 1) (MoreFields f fs)) refl
-        (has_front S (pc + length first_code) fill_code rest_code behind) (omega (arith, inside, whole, more)) ok.1.0 (omega (arith, le, af.size)) (omega (arith, room)) af.rel (af.keeps t (omega (arith, le)) (omega arith) ∙ is)
-        (refl, (omega (arith, room, some, af.rel.room), held_one (t + 1) (first vs) regs1 eq))
-        (λ env2 regs2 c2 af2. fields_same (MoreFields f fs) line (items + 1) m t (j + made_by e) n (pc + length first_code + length fill_code) 0 env2 regs2 c2 k bound (has_back S (pc + length first_code) fill_code rest_code behind)
-        (subst (λ z. FieldsArePlaced S (MoreFields f fs) (items + 1) z (j + made_by e)) (sym (af2.size ∙ af.size)) ok.1.1) (omega (arith, inside, whole, more)) (omega (arith, le, af.size, af2.size)) (omega (arith, room)) af2.rel
-        (af2.keeps t (omega (arith, le, af.size)) (omega arith) ∙ (af.keeps t (omega (arith, le)) (omega arith) ∙ is))
-        (goes_at S pending n false t _ (pc + length (first_code ++ (fill_code ++ rest_code))) env2 regs2 k (omega (arith, whole, more))
-        (goes_after S pending n false t _ env regs env2 regs2 c2 k
-        (after_then S.hidden S.code.own.stack pending env regs env1 regs1 env2 regs2 c1 c2 t t (omega arith) (lower S.hidden S.code.own.stack pending env regs env1 regs1 c1 (t + 1) t (omega arith) af) (lower S.hidden S.code.own.stack pending env1 regs1 env2 regs2 c2 (t + 1) t (omega arith) af2)) goes)))))
-    fields_same (MoreFields (Keyed field_line e d) fs) line items m t j n pc opened env regs c k bound has ok inside le room rel is goes =
-        let cs = S.code.own.constants in
-        let key = field_key cs (is_quiet d) e in
-        let table = reference a_table m in
-        let store_code = keyed_store key (stored_value cs d) (exp_code cs e (t + 1) j 2) (exp_code cs d (t + 2) (j + made_by e) 2) t field_line in
-        let rest_code = fields_code cs fs items t (j + made_by e + made_by d) line in
-        let whole = length-append store_code rest_code in
-        let key_above = room_above_table key (room_of cs e 2) in
-        let value_above = room_above_key (stored_value cs d) (room_of cs d 2) in
-        go_left S n _ (tree.at (evaluate e) (of_tree S pending env c) (keyed_value line table items field_line d fs ∷ k)) _ refl
-        (key_goes S pending table d field_line n (t + 1) k (keyed_value line table items field_line d fs) (λ w. keyed_store_of line table items field_line w fs)
-        (λ w vs env c. tree.at (give vs) (of_tree S pending env c) (keyed_store_of line table items field_line w fs ∷ k)) (construct line table items fs)
-        key (is_quiet d) (stored_value cs d) e t t j (j + made_by e) pc opened env regs c
-        (λ vs env1 c1 q next. go_left S n _ (tree.at (evaluate d) (of_tree S pending env1 c1) (keyed_store_of line table items field_line (first vs) fs ∷ k)) q refl next) (λ w vs env1 c1 q next. next) (λ w vs env1 c1. refl)
-        (one_same e (all_same e)) (one_same d (all_same d)) (room_some cs e) (room_some cs d) (field_key_stands cs (is_quiet d) e) refl (value_stands cs d) bound (has_front S pc store_code rest_code has) ok.0 ok.1.0
-        (omega (arith, inside, whole)) le (omega arith) (λ loud. refl) (λ made. refl) (omega arith) (omega (arith, room)) (omega (arith, room, key_above)) (omega (arith, room, value_above)) rel is
-        (λ env1 regs1 c1 o1 af. fields_same fs line items m t (j + made_by e + made_by d) n (pc + length store_code) o1 env1 regs1 c1 k bound (has_back S pc store_code rest_code has)
-        (subst (λ z. FieldsArePlaced S fs items z (j + made_by e + made_by d)) (sym af.size) ok.1.1) (omega (arith, inside, whole)) (omega (arith, le, af.size)) (omega (arith, room)) af.rel
-        (af.keeps t (omega (arith, le)) (omega arith) ∙ is)
-        (goes_at S pending n false t _ (pc + length (store_code ++ rest_code)) env1 regs1 k (omega (arith, whole))
-        (goes_after S pending n false t _ env regs env1 regs1 c1 k (lower S.hidden S.code.own.stack pending env regs env1 regs1 c1 (t + 1) t (omega arith) af) goes))))
+    fields_same : (fs : Fields) → FieldsSame S pending fs
+    fields_same EndFields = end_goes S pending
+    fields_same (MoreFields (Item e) fs) = item_goes S pending e fs (one_same e (all_same e)) (all_values e (all_same e)) (fields_same fs)
+    fields_same (MoreFields (Keyed field_line e d) fs) = keyed_goes S pending field_line e d fs (one_same e (all_same e)) (one_same d (all_same d)) (fields_same fs)
 
   -- the code of an expression of which one value is wanted
   pub exp_same : (e : Exp) → ExpSame S pending e

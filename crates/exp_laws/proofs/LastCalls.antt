@@ -30,7 +30,8 @@ use Rattle.exp_laws.proofs.CallForms.{self_goes}
 use Rattle.exp_laws.proofs.ListForms.{Listed}
 use Rattle.exp_laws.proofs.Standing.{operand_goes}
 use Rattle.exp_laws.proofs.Rooms.{room_some}
-use Rattle.exp_laws.proofs.Exps.{args_ready, held_one, held_two, placed_all, exp_same, exps_same}
+use Rattle.exp_laws.proofs.Lists.{held_one}
+use Rattle.exp_laws.proofs.Exps.{args_ready, held_two, placed_all, exp_same, exps_same}
 
 module _ (S : Setting) (pending : List Pending) where
   tail_goes : (b back n line t pc opened : ℕ) (f : Value) (args : List Value) (s : tree.State) (env regs : List Value) (c : Captured) → step s ≡ asks (calls_last f args) line (of_tree S pending env c) [] (λ _. over)
@@ -78,7 +79,7 @@ module _ (S : Setting) (pending : List Pending) where
       exp_same S pending f t j n pc opened env regs c (callee_of line true es ∷ k) bound (has_front S pc first_code (args_code ++ last_code) has) f_ok (omega (arith, inside, whole)) le f_room rel
       (λ vs env1 regs1 c1 o1 af eq one. go_left S n _ (tree.at (collect (for_call line true) (first vs ∷ []) es) (of_tree S pending env1 c1) k) _ refl
       (exps_same S pending es (for_call line true) None t 1 (j + made_by f) line n (pc + length first_code) o1 (first vs ∷ []) env1 regs1 c1 k bound tt (has_front S (pc + length first_code) args_code last_code behind) tt (placed_all S pending es _ _ _ af.size es_ok)
-      (omega (arith, inside, whole, rest)) refl (held_one S pending t (first vs) regs1 eq) (omega (arith, le, af.size)) (omega (arith, f_room, some)) es_room af.rel
+      (omega (arith, inside, whole, rest)) refl (held_one t (first vs) regs1 eq) (omega (arith, le, af.size)) (omega (arith, f_room, some)) es_room af.rel
       (λ args env2 regs2 c2 o2 af2 l. called_last es 0 back args n line t (pc + length first_code + length args_code) o2 env2 regs2 c2 k (has_back S (pc + length first_code) args_code last_code behind) (omega (arith, f_room, some)) es_room af2.rel l)))
 
   -- a call of a method, without the RETURN behind it

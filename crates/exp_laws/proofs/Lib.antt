@@ -19,6 +19,9 @@ pub mod FunctionForms
 pub mod LocalFunctions
 pub mod Quieting
 pub mod TableForms
+pub mod Waiting
+pub mod Batches
+pub mod ItemForms
 pub mod Storing
 pub mod Exps
 pub mod Direct

@@ -68,6 +68,10 @@ range_held t (v ∷ vs) regs h =
 pub held_first : (t count : ℕ) (vs regs : List Value) → Holds t (suc count) vs regs → nth regs t ≡ nth vs 0
 held_first t count vs regs h = let here : t + 0 ≡ t = omega arith in ap (nth regs) (sym here) ∙ h 0 (omega arith)
 
+pub held_one : (t : ℕ) (v : Value) (regs : List Value) → nth regs t ≡ v → Holds t 1 (v ∷ []) regs
+held_one t v regs e zero lt = let here : t + 0 ≡ t = omega arith in ap (nth regs) here ∙ e
+held_one t v regs e (suc i) lt = absurd (omega arith)
+
 pub held_rest : (t count : ℕ) (v : Value) (vs regs : List Value) → Holds t (suc count) (v ∷ vs) regs → Holds (t + 1) count vs regs
 held_rest t count v vs regs h i lt = let at : t + 1 + i ≡ t + suc i = omega arith in ap (nth regs) at ∙ h (suc i) (omega arith)
 

@@ -29,7 +29,8 @@ use Rattle.exp_laws.specs.Placed.{IsPlaced, ArePlaced}
 use Rattle.code_of.specs.Rooms.{room_of_list}
 use Rattle.exp_laws.proofs.ListForms.{GoesListed, passed_all}
 use Rattle.exp_laws.proofs.Operands.{local_placed, local_read}
-use Rattle.exp_laws.proofs.Exps.{held_one, room_count, exps_same}
+use Rattle.exp_laws.proofs.Lists.{held_one}
+use Rattle.exp_laws.proofs.Exps.{room_count, exps_same}
 use Rattle.exp_laws.proofs.Returning.{returns_alike}
 
 -- how many values RETURN takes
@@ -86,7 +87,7 @@ module _ (S : Setting) (pending : List Pending) where
   return_local_same e r line back j n pc opened flag env regs c k is has ok rel =
       let below = local_placed S e r (length env) j is ok in
       let v = nth env r in
-      let held = held_one S pending r v regs (sym (rel.agree r below)) in
+      let held = held_one r v regs (sym (rel.agree r below)) in
       let fits : r < 2 ^ 8 = omega (arith, below, rel.fits, S.small) in
       let wide : r + 1 ≤ length regs = omega (arith, below, rel.fits, rel.room) in
       go_left S n _ (tree.at (evaluate e) (of_tree S pending env c) (listed (for_return line) [] EndExps ∷ k)) _ refl

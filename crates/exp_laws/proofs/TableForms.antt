@@ -16,7 +16,7 @@ use Rattle.code_core.specs.declared.proto.Const.{Const}
 use Rattle.code_core.specs.Instruction.{abc, op_ax}
 use Rattle.machine_core.specs.World.{for_value, dropped}
 use Rattle.machine_core.specs.Text.{read, constant, write_register}
-use Rattle.machine_core.specs.InstructionRows.{next, skip, then, rest_at, told_values}
+use Rattle.machine_core.specs.InstructionRows.{next, skip, then, ends_list, rest_at, told_values}
 use Rattle.machine_core.specs.Talk.{before, amid, talk, talk_step, says_so, heard}
 use Rattle.list_laws.proofs.Values.{nth_write_same, nth_take, length_take}
 use Rattle.code_of.specs.Coded.{Coded, with_abc}
@@ -29,7 +29,7 @@ use Rattle.exp_laws.proofs.Asking.{asks_alike, quick_alike}
 use Rattle.exp_laws.proofs.Going.{next_there}
 use Rattle.exp_laws.proofs.Steps.{go_step, put_step}
 use Rattle.exp_laws.proofs.Calls.{Passed}
-use Rattle.exp_laws.proofs.Tables.{items_count, items_field, filled_text, new_step, fill_near, fill_far, filled_step, ValueIs, set_step, set_index_step, set_name_step, set_rest, set_index_rest, set_name_rest}
+use Rattle.exp_laws.proofs.Tables.{items_count, items_field, new_step, fill_near, fill_far, filled_step, ValueIs, set_step, set_index_step, set_name_step, set_rest, set_index_rest, set_name_rest}
 
 pub told_dropped : (reply : Reply) → told_values dropped reply ≡ told_values for_value reply
 told_dropped (values vs) = refl
@@ -109,7 +109,7 @@ module _ (S : Setting) (pending : List Pending) where
       -- the list of values is gone once they are stored
       dropped_goes : (past : ℕ) (env1 regs1 had : List Value) (c1 : Captured) → pc + past < length S.code.own.code → After S.hidden S.code.own.stack pending env regs (t + 1) env1 regs1 c1
           → ((env2 regs2 : List Value) (c2 : Captured) → After S.hidden S.code.own.stack pending env regs (t + 1) env2 regs2 c2 → Agree S n (tree.at next_of (of_tree S pending env2 c2) k) (before (of_code S pending (pc + past) regs2 0) c2))
-          → Agree S n (tree.at next_of (of_tree S pending env1 c1) k) (amid (filled_text (pos past)) had (of_code S pending pc regs1 opened) c1)
+          → Agree S n (tree.at next_of (of_tree S pending env1 c1) k) (amid (ends_list (pos past)) had (of_code S pending pc regs1 opened) c1)
       dropped_goes past env1 regs1 had c1 inside af next =
           let there = next_there S (pc + past) inside in
           let size = length_take S.code.own.stack regs1 af.rel.room in
@@ -123,12 +123,12 @@ module _ (S : Setting) (pending : List Pending) where
           → ((env1 regs1 : List Value) (c1 : Captured) → After S.hidden S.code.own.stack pending env regs (t + 1) env1 regs1 c1 → Agree S n (tree.at next_of (of_tree S pending env1 c1) k) (before (of_code S pending (pc + length (code_by b)) regs1 0) c1))
           → Agree S n s (before (of_code S pending pc regs opened) c)
       by true near has inside next =
-          quick_alike S pending n s _ (fills_table (object a_table m) items args) (fills_table (object a_table m) items args) line pc opened (t + 1) env regs c k (λ _. next_of) (filled_text (pos 1)) (object a_table m ∷ args) e
+          quick_alike S pending n s _ (fills_table (object a_table m) items args) (fills_table (object a_table m) items args) line pc opened (t + 1) env regs c k (λ _. next_of) (ends_list (pos 1)) (object a_table m ∷ args) e
           (fill_near S.code t items m many args (of_code S pending pc regs opened) c has.0 (ltb-true items 256 near) fits width is passed) (λ q lt. (refl, (refl, refl))) refl rel
           (here_abc S SetList t (items_count many) items false line pc [] has)
           (λ reply ok env1 regs1 c1 af. dropped_goes 1 env1 regs1 (object a_table m ∷ args ++ values_in reply) c1 inside af next)
       by false far has inside next =
-          quick_alike S pending n s _ (fills_table (object a_table m) items args) (fills_table (object a_table m) (items % 256 + 256 * (items / 256)) args) line pc opened (t + 1) env regs c k (λ _. next_of) (filled_text (pos 2)) (object a_table m ∷ args) e
+          quick_alike S pending n s _ (fills_table (object a_table m) items args) (fills_table (object a_table m) (items % 256 + 256 * (items / 256)) args) line pc opened (t + 1) env regs c k (λ _. next_of) (ends_list (pos 2)) (object a_table m ∷ args) e
           (fill_far S.code t (items % 256) (items / 256) m many args (of_code S pending pc regs opened) c has.0 has.1.1.0 (omega arith) (omega (arith, wide)) fits width is passed) (λ q lt. (refl, (sym split, refl))) refl rel
           (here_abc S SetList t (items_count many) (items % 256) true line pc ((op_ax ExtraArg (items / 256), line) ∷ []) has)
           (λ reply ok env1 regs1 c1 af. dropped_goes 2 env1 regs1 (object a_table m ∷ args ++ values_in reply) c1 inside af next)

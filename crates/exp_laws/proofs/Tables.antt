@@ -1,8 +1,8 @@
 -- What the machine does as a table is made, filled and written, as one equation each.
-use Rattle.std.proofs.Common.{◌≡◌, ℕ, ◌+◌, ◌*◌, ◌<◌, ◌^◌, lit<, Bool, true, false, cond, pos, ℤ, List, [], ◌∷◌, ◌++◌, length, take, Some, None, refl, sym, ap, ap₂, ◌∙◌}
-use Rattle.std.specs.Prelude.{◌==◌, slice_get}
+use Rattle.std.proofs.Common.{◌≡◌, ℕ, suc, ◌+◌, ◌*◌, ◌<◌, ◌^◌, lit<, Bool, true, false, cond, pos, ℤ, List, [], ◌∷◌, ◌++◌, length, take, Some, None, refl, sym, ap, ap₂, ◌∙◌}
+use Rattle.std.specs.Prelude.{slice_get}
 use borrow.Author.Tests.{lt-ltb}
-use Rattle.int_core.specs.Value.{Value, known, integer, a_table, object, Shape, nth, shape}
+use Rattle.int_core.specs.Value.{Value, known, integer, a_table, object, nth, range, shape}
 use Rattle.int_core.specs.Operations.{store}
 use Rattle.int_core.specs.Ask.{makes_table, fills_table, operates, values_in, Captured, goes_on}
 use Rattle.code_core.specs.declared.opcode.Opcode.TheVariants.{NewTable, SetTable, SetI, SetField, SetList, ExtraArg}
@@ -14,16 +14,14 @@ use Rattle.code_core.specs.Check.{at}
 use Rattle.code_core.proofs.FieldLemmas.{opcode_of-abc, a_of-abc, b_of-abc, c_of-abc}
 use Rattle.machine_core.specs.World.{Activation, dropped}
 use Rattle.machine_core.specs.Text.{read, constant, read_register, read_constant, write_register, end_list, Text, own, quick, make_table, fill_table, go_by, trap}
-use Rattle.machine_core.specs.InstructionRows.{next, skip, then, sets, spelled, fills, fills_by, read_values, register_or_constant, rest_at, rest_by, with_extra}
+use Rattle.machine_core.specs.InstructionRows.{next, skip, then, sets, spelled, ends_list, fills_each, fills_from, fills, fills_by, register_or_constant, rest_at, rest_by, with_extra}
 use Rattle.machine_core.specs.Talk.{before, amid, talk, talk_step, says_so, heard}
+use Rattle.list_laws.proofs.Values.{drop_front}
 use Rattle.exp_laws.proofs.Steps.{found_below, row_step, own_step, go_step}
 use Rattle.exp_laws.proofs.Loads.{extra_is}
 use Rattle.code_of.proofs.Fields.{k_of-abc}
+use Rattle.exp_laws.proofs.Lists.{range_held}
 use Rattle.exp_laws.proofs.Calls.{Passed, read_values_step}
-
--- how a row that fills a table ends, once the table is filled
-abbrev pub filled_text : ℤ → Text
-filled_text behind = then end_list (go_by behind)
 
 -- all values of an open list are stored, or one
 abbrev pub items_count : (many : Bool) → ℕ
@@ -31,10 +29,6 @@ items_count many = cond many 0 1
 
 abbrev pub items_field : (many : Bool) → ℕ
 items_field many = cond many 0 2
-
-count_field : (many : Bool) → cond (items_count many == 0) 0 (items_count many + 1) ≡ items_field many
-count_field true = refl
-count_field false = refl
 
 pub count_small : (many : Bool) → items_count many < 2 ^ 8
 count_small true = lit< tt
@@ -57,48 +51,68 @@ module _ (p : Prototype) where
       (ap (λ o. elim o as (λ _. Text) [ None ↦ trap | Some ax ↦ quick make_table (λ v. then (write_register (a_of w) (read v)) skip) ]) (extra_is p a.pc 0 extra (lit< tt))
       ∙ ap (λ d. quick make_table (λ v. then (write_register d (read v)) skip)) (a_of-abc NewTable t 0 0 false fits))
 
-  -- the table in register t is filled behind an index with the values behind it
-  fill_text_step : (t last m : ℕ) (many k : Bool) (behind : ℤ) (args : List Value) (a : Activation) (c : Captured) → t < 2 ^ 8 → t < length a.registers → nth a.registers t ≡ object a_table m → (field : ℕ) → field < 2 ^ 8
-      → Passed p (items_field many) (t + 1) args a
-      → talk p (fills (abc SetList t (items_count many) field k) last behind) [] a c
-      ≡ says_so (fills_table (object a_table m) last args) p a c (λ x b d. amid (filled_text behind) (object a_table m ∷ args ++ values_in x.reply) b d)
-  fill_text_step t last m many k behind args a c fits room is field field_fits passed =
-      let b = items_count many in
+  -- registers from r on go to a table one by one
+  pub each_step : (n r last : ℕ) (behind : ℤ) (o : Value) (had : List Value) (a : Activation) (c : Captured) → r < length a.registers
+      → talk p (fills_each (suc n) 0 r last behind) (o ∷ had) a c
+      ≡ says_so (fills_table o last (nth a.registers r ∷ [])) p a c (λ x b d. amid (fills_each n 0 (suc r) (suc last) behind) ((o ∷ had ++ nth a.registers r ∷ []) ++ values_in x.reply) b d)
+  each_step n r last behind o had a c room =
+      let v = nth a.registers r in
+      own_step p (read_register r) (λ s _. quick (fill_table (read 0) last s) (λ _. fills_each n 0 (suc r) (suc last) behind)) (o ∷ had) a c (lt-ltb r (length a.registers) room)
+      ∙ ap (λ vs. says_so (fills_table o last vs) p a c (λ x b d. amid (fills_each n 0 (suc r) (suc last) behind) ((o ∷ had ++ v ∷ []) ++ values_in x.reply) b d)) (drop_front had (v ∷ []))
+
+  -- all values of an open list do so, or one
+  from_step : (many : Bool) (t last : ℕ) (behind : ℤ) (o : Value) (args : List Value) (a : Activation) (c : Captured) → Passed p (items_field many) (t + 1) args a
+      → talk p (fills_from (items_count many) 0 (t + 1) last behind) (o ∷ []) a c ≡ says_so (fills_table o last args) p a c (λ x b d. amid (ends_list behind) (o ∷ args ++ values_in x.reply) b d)
+  from_step true t last behind o args a c h = read_values_step p (t + 1) 0 (λ v _. quick (fill_table (read 0) last v) (λ _. ends_list behind)) (o ∷ []) args a c h
+  from_step false t last behind o args a c h =
+      let one : nth a.registers (t + 1) ∷ [] ≡ args = ap (λ n. range (t + 1) n a.registers) (sym h.0) ∙ range_held (t + 1) args a.registers h.1.1 in
+      each_step 0 (t + 1) last behind o [] a c (let wide = h.1.0 in omega (arith, wide))
+      ∙ ap (λ vs. says_so (fills_table o last vs) p a c (λ x b d. amid (ends_list behind) (o ∷ vs ++ values_in x.reply) b d)) one
+
+  -- the table in register t is filled behind an index with b values behind it
+  fills_step : (t b last m field : ℕ) (k : Bool) (behind : ℤ) (a : Activation) (c : Captured) → t < 2 ^ 8 → b < 2 ^ 8 → t < length a.registers → nth a.registers t ≡ object a_table m
+      → talk p (fills (abc SetList t b field k) last behind) [] a c ≡ talk p (fills_from b 0 (t + 1) last behind) (object a_table m ∷ []) a c
+  fills_step t b last m field k behind a c fits few room is =
       let w = abc SetList t b field k in
-      let fill = λ (v : ℕ) (_ : Shape). quick (fill_table (read 0) last v) (λ _. filled_text behind) in
       ap (λ d. talk p (own (read_register d) (λ o s. fills_by s o w last behind)) [] a c) (a_of-abc SetList t b field k fits)
       ∙ own_step p (read_register t) (λ o s. fills_by s o w last behind) [] a c (lt-ltb t (length a.registers) room)
       ∙ ap (λ v. talk p (fills_by (shape v) 0 w last behind) (v ∷ []) a c) is
-      ∙ ap₂ (λ d e. talk p (read_values (d + 1) (cond (e == 0) 0 (e + 1)) fill) (object a_table m ∷ []) a c) (a_of-abc SetList t b field k fits) (b_of-abc SetList t b field k fits (count_small many))
-      ∙ ap (λ f. talk p (read_values (t + 1) f fill) (object a_table m ∷ []) a c) (count_field many)
-      ∙ read_values_step p (t + 1) (items_field many) fill (object a_table m ∷ []) args a c passed
+      ∙ ap₂ (λ d e. talk p (fills_from e 0 (d + 1) last behind) (object a_table m ∷ []) a c) (a_of-abc SetList t b field k fits) (b_of-abc SetList t b field k fits few)
 
-  pub fill_near : (t items m : ℕ) (many : Bool) (args : List Value) (a : Activation) (c : Captured) → at p a.pc ≡ Some (abc SetList t (items_count many) items false) → items < 2 ^ 8 → t < 2 ^ 8 → t < length a.registers
-      → nth a.registers t ≡ object a_table m → Passed p (items_field many) (t + 1) args a
-      → talk_step p (before a c) ≡ says_so (fills_table (object a_table m) items args) p a c (λ x b d. amid (filled_text (pos 1)) (object a_table m ∷ args ++ values_in x.reply) b d)
-  fill_near t items m many args a c here near fits room is passed =
-      let b = items_count many in
+  pub list_near : (t b items m : ℕ) (a : Activation) (c : Captured) → at p a.pc ≡ Some (abc SetList t b items false) → items < 2 ^ 8 → t < 2 ^ 8 → b < 2 ^ 8 → t < length a.registers → nth a.registers t ≡ object a_table m
+      → talk_step p (before a c) ≡ talk p (fills_from b 0 (t + 1) items (pos 1)) (object a_table m ∷ []) a c
+  list_near t b items m a c here near fits few room is =
       let w = abc SetList t b items false in
       row_step p w SetList (fills w items (pos 1)) a c here (opcode_of-abc SetList t b items false)
       (ap (λ k. cond k (with_extra p a.pc (λ ax. fills w (c_of w + 256 * ax) (pos 2))) (fills w (c_of w) (pos 1))) (k_of-abc SetList t b items false fits)
-      ∙ ap (λ n. fills w n (pos 1)) (c_of-abc SetList t b items false fits (count_small many) near))
-      ∙ fill_text_step t items m many false (pos 1) args a c fits room is items near passed
+      ∙ ap (λ n. fills w n (pos 1)) (c_of-abc SetList t b items false fits few near))
+      ∙ fills_step t b items m items false (pos 1) a c fits few room is
 
-  pub fill_far : (t low high m : ℕ) (many : Bool) (args : List Value) (a : Activation) (c : Captured) → at p a.pc ≡ Some (abc SetList t (items_count many) low true) → at p (a.pc + 1) ≡ Some (op_ax ExtraArg high)
-      → low < 2 ^ 8 → high < 2 ^ 25 → t < 2 ^ 8 → t < length a.registers → nth a.registers t ≡ object a_table m → Passed p (items_field many) (t + 1) args a
-      → talk_step p (before a c) ≡ says_so (fills_table (object a_table m) (low + 256 * high) args) p a c (λ x b d. amid (filled_text (pos 2)) (object a_table m ∷ args ++ values_in x.reply) b d)
-  fill_far t low high m many args a c here extra near far fits room is passed =
-      let b = items_count many in
+  pub list_far : (t b low high m : ℕ) (a : Activation) (c : Captured) → at p a.pc ≡ Some (abc SetList t b low true) → at p (a.pc + 1) ≡ Some (op_ax ExtraArg high) → low < 2 ^ 8 → high < 2 ^ 25 → t < 2 ^ 8 → b < 2 ^ 8
+      → t < length a.registers → nth a.registers t ≡ object a_table m → talk_step p (before a c) ≡ talk p (fills_from b 0 (t + 1) (low + 256 * high) (pos 2)) (object a_table m ∷ []) a c
+  list_far t b low high m a c here extra near far fits few room is =
       let w = abc SetList t b low true in
       row_step p w SetList (fills w (low + 256 * high) (pos 2)) a c here (opcode_of-abc SetList t b low true)
       (ap (λ k. cond k (with_extra p a.pc (λ ax. fills w (c_of w + 256 * ax) (pos 2))) (fills w (c_of w) (pos 1))) (k_of-abc SetList t b low true fits)
       ∙ ap (λ o. elim o as (λ _. Text) [ None ↦ trap | Some ax ↦ fills w (c_of w + 256 * ax) (pos 2) ]) (extra_is p a.pc high extra far)
-      ∙ ap (λ n. fills w (n + 256 * high) (pos 2)) (c_of-abc SetList t b low true fits (count_small many) near))
-      ∙ fill_text_step t (low + 256 * high) m many true (pos 2) args a c fits room is low near passed
+      ∙ ap (λ n. fills w (n + 256 * high) (pos 2)) (c_of-abc SetList t b low true fits few near))
+      ∙ fills_step t b (low + 256 * high) m low true (pos 2) a c fits few room is
+
+  pub fill_near : (t items m : ℕ) (many : Bool) (args : List Value) (a : Activation) (c : Captured) → at p a.pc ≡ Some (abc SetList t (items_count many) items false) → items < 2 ^ 8 → t < 2 ^ 8 → t < length a.registers
+      → nth a.registers t ≡ object a_table m → Passed p (items_field many) (t + 1) args a
+      → talk_step p (before a c) ≡ says_so (fills_table (object a_table m) items args) p a c (λ x b d. amid (ends_list (pos 1)) (object a_table m ∷ args ++ values_in x.reply) b d)
+  fill_near t items m many args a c here near fits room is passed =
+      list_near t (items_count many) items m a c here near fits (count_small many) room is ∙ from_step many t items (pos 1) (object a_table m) args a c passed
+
+  pub fill_far : (t low high m : ℕ) (many : Bool) (args : List Value) (a : Activation) (c : Captured) → at p a.pc ≡ Some (abc SetList t (items_count many) low true) → at p (a.pc + 1) ≡ Some (op_ax ExtraArg high)
+      → low < 2 ^ 8 → high < 2 ^ 25 → t < 2 ^ 8 → t < length a.registers → nth a.registers t ≡ object a_table m → Passed p (items_field many) (t + 1) args a
+      → talk_step p (before a c) ≡ says_so (fills_table (object a_table m) (low + 256 * high) args) p a c (λ x b d. amid (ends_list (pos 2)) (object a_table m ∷ args ++ values_in x.reply) b d)
+  fill_far t low high m many args a c here extra near far fits room is passed =
+      list_far t (items_count many) low high m a c here extra near far fits (count_small many) room is ∙ from_step many t (low + 256 * high) (pos 2) (object a_table m) args a c passed
 
   -- the list is gone, and code goes on
   pub filled_step : (n : ℕ) (w : Instruction) (env : List Value) (a : Activation) (c : Captured) → at p (a.pc + n) ≡ Some w
-      → talk p (filled_text (pos n)) env a c ≡ goes_on (before (record a { registers = take p.own.stack a.registers; opened = 0; pc = a.pc + n }) c)
+      → talk p (ends_list (pos n)) env a c ≡ goes_on (before (record a { registers = take p.own.stack a.registers; opened = 0; pc = a.pc + n }) c)
   filled_step n w env a c there =
       own_step p end_list (λ _ _. go_by (pos n)) env a c refl
       ∙ go_step p n w (env ++ []) (record a { registers = take p.own.stack a.registers; opened = 0 }) c there
