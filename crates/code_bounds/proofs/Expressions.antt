@@ -17,7 +17,8 @@ use Rattle.code_of.specs.Truths.{jump_if, line_of, set_if, load_truth}
 use Rattle.code_of.specs.Conditions.{value_test, test_code, keep_code}
 use Rattle.code_of.specs.Constants.{is_small, small_field}
 use Rattle.code_of.specs.Operands.{local_at, local_of, is_direct, Second, a_number, a_local, made, second_of, key_operand, first_of, seat, unless, operands_code, operands_room, joins}
-use Rattle.code_of.specs.Stores.{name_in, is_quiet, field_key}
+use Rattle.code_of.specs.Stores.{name_in, is_quiet, field_key, keyed_store, keyed_room}
+use Rattle.code_of.specs.Items.{waits, is_full, item_register, stored_behind, waiting_behind, item_room}
 use Rattle.code_of.specs.StoredValues.{stored_value}
 use Rattle.code_of.proofs.Stores.{field_key_stands}
 use Rattle.code_of.proofs.StoredValues.{value_stands, stands_local, stands_constant}
@@ -29,7 +30,7 @@ use Rattle.code_of.proofs.Operations.{constant_is, operand_form, some_operation,
 use Rattle.code_of.specs.Chains.{continues, links, unjoined, chain_code}
 use Rattle.code_of.proofs.Chains.{links_some, links_room, joined_last, join_room}
 use Rattle.code_of.proofs.Operands.{some_is, Stands, second_number, joins_made, operator_stands, key_stands, local_not_made, first_local, computes_no_join}
-use Rattle.code_of.specs.Expressions.{made_by, count, is_open, is_last_open, ends_open, list_field, Wanted, results_field, one_less, field_of, wanted_after, is_last_item, set_list, exp_code, exps_code, fields_code, kept_value}
+use Rattle.code_of.specs.Expressions.{made_by, count, is_open, is_last_open, ends_open, list_field, Wanted, results_field, one_less, field_of, wanted_after, is_last_item, item_code, exp_code, exps_code, fields_code, kept_value}
 use Rattle.code_of.specs.Parts.{direct_code}
 use Rattle.code_of.specs.Rooms.{room_of_values, room_of_nils, room_of_direct, room_of_test, room_of_keep, room_of, room_of_list, room_of_fields, room_of_self}
 use Rattle.code_of.proofs.Rooms.{name_room, self_room, local_room, name_less}
@@ -37,7 +38,8 @@ use Rattle.code_of.specs.Operators.{self_code}
 use Rattle.scope_laws.specs.Finding.{PlaceIsThere, ExpFinds, ExpsFind, FieldsFind}
 use Rattle.code_bounds.proofs.Tops.{top, top_more, top_append, ax_is, one_a, one_ab, one_abc, one_ax, one_nil, one_call, one_chain, rest_below, rest_above}
 use Rattle.code_bounds.proofs.KeyedFields.{keyed_take}
-use Rattle.code_bounds.proofs.Pieces.{self_top, Takes, ListTakes, takes_one, loads_top, integer_top, name_takes, prefix_top, operator_top, operator_above, operator_here, number_top, number_here, two_take, one_takes, join_takes, pair_top, nils_take, more_take, call_takes, method_takes, set_top, name_below}
+use Rattle.code_bounds.proofs.ItemPieces.{FieldTakes, end_takes, behind_takes, none_waits, register_above, register_room, behind_room, item_takes}
+use Rattle.code_bounds.proofs.Pieces.{self_top, Takes, ListTakes, takes_one, loads_top, integer_top, name_takes, prefix_top, operator_top, operator_above, operator_here, number_top, number_here, two_take, one_takes, join_takes, pair_top, nils_take, more_take, call_takes, method_takes, name_below}
 use Rattle.code_bounds.proofs.ConstantPieces.{constant_top, constant_here}
 
 -- fields of calls and `...`
@@ -155,12 +157,6 @@ module _ (cs : List Const) where
   pub field_room : (es : Exps) (more : ℕ) → list_field more es ≤ more + count es + 1
   field_room es more = field_few (ends_open es) (more + count es + 1)
 
-  -- one field and those behind it
-
-  item_join : (t x r b m n all : ℕ) → all ≡ max m (max (t + b + 1) n) → 1 ≤ x → b ≤ 1 → m ≤ t + 1 + x → t + 1 + x ≤ max (t + 1) m → n ≤ t + (1 + r) → t + (1 + r) ≤ max (t + 1) n →
-      (all ≤ t + (1 + max x r)) × (t + (1 + max x r) ≤ max (t + 1) all)
-  item_join t x r b m n all is some few p q u v = (omega arith, omega arith)
-
   module _ (hidden : List ℕ) (ups : ℕ) where
     abbrev ExpTakes : Exp → Type 0
     ExpTakes e = (size t j field : ℕ) → ExpFinds e hidden size ups → size ≤ t → field < 2 ^ 8 → t + room_of cs e field ≤ 255 → Takes t (room_of cs e field) (exp_code cs e t j field)
@@ -170,7 +166,25 @@ module _ (cs : List Const) where
         ListTakes t p (room_of_list cs above es wanted) (exps_code cs es wanted p j line)
 
     abbrev FieldsTake : Fields → Type 0
-    FieldsTake fs = (items t size j line : ℕ) → FieldsFind fs hidden size ups → size ≤ t → t + (1 + room_of_fields cs fs) ≤ 255 → ListTakes t (t + 1) (1 + room_of_fields cs fs) (fields_code cs fs items t j line)
+    FieldsTake fs = (stored waiting t size j line : ℕ) → FieldsFind fs hidden size ups → size ≤ t → t + (1 + max waiting (room_of_fields cs fs stored waiting)) ≤ 255
+        → FieldTakes t waiting (room_of_fields cs fs stored waiting) (fields_code cs fs stored waiting t j line)
+
+    -- an item and the fields behind it
+    item_fields_take : (e : Exp) (fs : Fields) → ExpTakes e → FieldsTake fs → (wait full : Bool) (stored waiting t size j line : ℕ) → FieldsFind (MoreFields (Item e) fs) hidden size ups → size ≤ t
+        → t + (1 + max waiting (max (item_room wait waiting (room_of cs e (cond (is_last_item e fs) 0 2))) (room_of_fields cs fs (stored_behind wait full stored waiting) (waiting_behind wait full waiting)))) ≤ 255
+        → FieldTakes t waiting (max (item_room wait waiting (room_of cs e (cond (is_last_item e fs) 0 2))) (room_of_fields cs fs (stored_behind wait full stored waiting) (waiting_behind wait full waiting)))
+        (item_code wait full (exp_code cs e (item_register wait t waiting) j (cond (is_last_item e fs) 0 2)) stored waiting (cond (is_last_item e fs) 0 1) t line
+        ++ fields_code cs fs (stored_behind wait full stored waiting) (waiting_behind wait full waiting) t (j + made_by e) line)
+    item_fields_take e fs law laws wait full stored waiting t size j line known above small =
+        let field : ℕ = cond (is_last_item e fs) 0 2 in
+        let x = room_of cs e field in
+        let r = room_of_fields cs fs (stored_behind wait full stored waiting) (waiting_behind wait full waiting) in
+        let some = some_room e field (field_either (is_last_item e fs)) in
+        let beyond = register_above wait t waiting in
+        item_takes wait full stored waiting (cond (is_last_item e fs) 0 1) t x r line (exp_code cs e (item_register wait t waiting) j field)
+        (fields_code cs fs (stored_behind wait full stored waiting) (waiting_behind wait full waiting) t (j + made_by e) line) some (one_or_none (is_last_item e fs)) small
+        (law size (item_register wait t waiting) j field known.0 (omega (arith, above, beyond)) (either_fits (is_last_item e fs) 0 (lit< tt)) (register_room wait t waiting x r small))
+        (laws (stored_behind wait full stored waiting) (waiting_behind wait full waiting) t size (j + made_by e) line known.1 above (behind_room wait full t waiting x r some small))
 
     -- two operands and what is done with them, which takes `own` registers where both operands stand below t
     module _ (own : ℕ) (s : Second) (most : ℕ) (e d : Exp) (stands : Stands s d most) (by_registers by_number : (x y : ℕ) → List Coded) (law_e : ExpTakes e) (law_d : ExpTakes d) (size t j : ℕ) (known_e : ExpFinds e hidden size ups) (known_d : ExpFinds d hidden size ups)
@@ -568,8 +582,8 @@ module _ (cs : List Const) where
       exp_takes (Paren line e) size t j field known above fits small = exp_takes e size t j 2 known above (lit< tt) small
       exp_takes (Table line fs) size t j field known above fits small =
           let extra : Coded = (op_ax ExtraArg 0, line) in
-          let code = fields_code cs fs 0 t j line in
-          let h = fields_take fs 0 t size j line known above (omega arith) in
+          let code = fields_code cs fs 0 0 t j line in
+          let h = fields_take fs 0 0 t size j line known above (omega arith) in
           let a = top_more (with_abc NewTable t 0 0 line) (extra ∷ code) in
           let b = top_more extra code in
           let c = one_a NewTable t 0 0 false refl (omega arith) in
@@ -626,32 +640,23 @@ module _ (cs : List Const) where
           (exps_take es after (above + 1) t (p + 1) size (j + made_by e) line (omega arith) known.1 (omega arith) (after_by (is_last_open e es) wanted fits) (omega arith))
 
       fields_take : (fs : Fields) → FieldsTake fs
-      fields_take EndFields items t size j line known above small = (omega arith, omega arith)
-      fields_take (MoreFields (Item e) fs) items t size j line known above small =
-          let field : ℕ = cond (is_last_item e fs) 0 2 in
-          let b : ℕ = cond (is_last_item e fs) 0 1 in
-          let first = exp_code cs e (t + 1) j field in
-          let rest = fields_code cs fs (items + 1) t (j + made_by e) line in
-          let x = room_of cs e field in
-          let r = room_of_fields cs fs in
-          let some = some_room e field (field_either (is_last_item e fs)) in
-          let few = one_or_none (is_last_item e fs) in
-          let h = exp_takes e size (t + 1) j field known.0 (omega arith) (either_fits (is_last_item e fs) 0 (lit< tt)) (omega arith) in
-          let k = fields_take fs (items + 1) t size (j + made_by e) line known.1 above (omega arith) in
-          let a = top_append first (set_list t b items line ++ rest) in
-          let c = top_append (set_list t b items line) rest in
-          let d = set_top t b items line (omega arith) (omega (arith, few)) in
-          item_join t x r b (top first) (top rest) (top (first ++ (set_list t b items line ++ rest))) (omega (arith, a, c, d)) some few h.0 h.1 k.0 k.1
-      fields_take (MoreFields (Keyed field_line e g) fs) items t size j line known above small =
+      fields_take EndFields stored waiting t size j line known above small = end_takes stored waiting t line small
+      fields_take (MoreFields (Item e) fs) stored waiting t size j line known above small =
+          item_fields_take e fs (exp_takes e) (fields_take fs) (waits e) (is_full (stored + waiting + 1)) stored waiting t size j line known above small
+      fields_take (MoreFields (Keyed field_line e g) fs) stored waiting t size j line known above small =
           let key = field_key cs (is_quiet g) e in
           let stands = field_key_stands cs (is_quiet g) e in
           let value = value_stands cs g in
-          keyed_take cs (is_quiet g) e key (stored_value cs g) t (room_of cs e 2) (room_of cs g 2) (room_of_fields cs fs) field_line (exp_code cs e (t + 1) j 2) (exp_code cs g (t + 2) (j + made_by e) 2)
-          (fields_code cs fs items t (j + made_by e + made_by g) line) stands (own_room e) (own_room g)
+          let r = room_of_fields cs fs (stored + waiting) 0 in
+          let rest = fields_code cs fs (stored + waiting) 0 t (j + made_by e + made_by g) line in
+          let first = exp_code cs e (t + 1) j 2 in
+          let second = exp_code cs g (t + 2) (j + made_by e) 2 in
+          behind_takes stored waiting t (max (keyed_room key (stored_value cs g) (room_of cs e 2) (room_of cs g 2)) r) line (keyed_store key (stored_value cs g) first second t field_line ++ rest) small
+          (keyed_take cs (is_quiet g) e key (stored_value cs g) t (room_of cs e 2) (room_of cs g 2) r field_line first second rest stands (own_room e) (own_room g)
           (λ q is. let below = local_found hidden ups e q size (stands.local q is) known.0.0 in omega (arith, below, above)) (λ q is. let below = local_found hidden ups g q size (stands_local cs g (stored_value cs g) q is value) known.0.1 in omega (arith, below, above))
           (λ n is. (stands_constant cs g (stored_value cs g) n is value).short)
-          (λ few. exp_takes e size (t + 1) j 2 known.0.0 (omega (arith, above)) (lit< tt) few) (λ few. exp_takes g size (t + 2) (j + made_by e) 2 known.0.1 (omega (arith, above)) (lit< tt) few) small
-          (fields_take fs items t size (j + made_by e + made_by g) line known.1 above (omega (arith, small)))
+          (λ few. exp_takes e size (t + 1) j 2 known.0.0 (omega (arith, above)) (lit< tt) few) (λ few. exp_takes g size (t + 2) (j + made_by e) 2 known.0.1 (omega (arith, above)) (lit< tt) few) (omega (arith, small))
+          (none_waits t r rest (fields_take fs (stored + waiting) 0 t size (j + made_by e + made_by g) line known.1 above (omega (arith, small)))))
 
     -- a value that goes straight to the register r of a local
     pub direct_takes : (e : Exp) → is_direct e ≡ true → (r size t j : ℕ) → ExpFinds e hidden size ups → size ≤ t → r < t → t + room_of_direct cs e ≤ 255 → Takes t (room_of_direct cs e) (direct_code cs e r t j)

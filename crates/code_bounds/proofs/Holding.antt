@@ -1,5 +1,5 @@
 -- An expression has no more registers than values that it holds, and those that are wanted of it.
-use Rattle.std.proofs.Common.{◌≡◌, ℕ, zero, suc, ◌+◌, ◌-◌, ◌≤◌, max, Bool, true, false, cond, List, Option, Some, None, nat_lt, refl, ap, arith}
+use Rattle.std.proofs.Common.{◌≡◌, ℕ, zero, suc, ◌+◌, ◌-◌, ◌%◌, ◌≤◌, max, Bool, true, false, cond, List, Option, Some, None, nat_lt, refl, ap, subst, arith}
 use Rattle.tree_core.specs.declared.name.Place.{Place}
 use Rattle.tree_core.specs.declared.name.Place.TheVariants.{Unset, Upvalue, GlobalIn, GlobalOf, Local as LocalPlace}
 use Rattle.tree_core.specs.Tree.{Exp, Nil, True, False, Int, Str, Vararg, Function, Var, Index, Call, Method, Unary, Binary, And, Or, Paren, Table, Exps, EndExps, MoreExps, Fields, EndFields, MoreFields, Item, Keyed}
@@ -19,6 +19,8 @@ use Rattle.code_of.specs.Operations.{constant_in, operation_room}
 use Rattle.code_of.proofs.Operations.{few_operation}
 use Rattle.code_of.proofs.FieldReads.{few_read}
 use Rattle.code_of.proofs.Rooms.{self_room}
+use Rattle.code_of.proofs.Items.{still_few}
+use Rattle.code_of.specs.Items.{waits, is_full, stored_behind, waiting_behind, item_room}
 use Rattle.code_of.specs.Rooms.{room_of_values, room_of_nils, room_of_name, room_of, room_tested, room_kept, room_of_list, room_of_fields}
 
 -- both counts of a list are one
@@ -144,6 +146,33 @@ module _ (cs : List Const) where
       let less = less_count wanted in
       omega (arith, mine, some, rest, less)
 
+  -- an item and the fields behind it: no more wait than there are behind the last multiple of fifty
+
+  room_join : (items w x h r s : ℕ) → w + x ≤ items % 50 + h → 1 + r ≤ max 1 s → 1 + max (w + x) r ≤ max 1 (max (1 + items % 50 + h) s)
+  room_join items w x h r s own rest = omega arith
+
+  abbrev FieldsHeld : Fields → Type 0
+  FieldsHeld fs = (stored waiting : ℕ) → waiting ≤ (stored + waiting) % 50 → 1 + room_of_fields cs fs stored waiting ≤ max 1 (held_fields (stored + waiting) fs)
+
+  item_held : (fs : Fields) → FieldsHeld fs → (wait full : Bool) (stored waiting x h : ℕ) → is_full (stored + waiting + 1) ≡ full → waiting ≤ (stored + waiting) % 50 → x ≤ h
+      → 1 + max (item_room wait waiting x) (room_of_fields cs fs (stored_behind wait full stored waiting) (waiting_behind wait full waiting)) ≤ max 1 (max (1 + (stored + waiting) % 50 + h) (held_fields (stored + waiting + 1) fs))
+  item_held fs law true false stored waiting x h off few low =
+      let same : stored + (waiting + 1) ≡ stored + waiting + 1 = omega arith in
+      let rest = law stored (waiting + 1) (still_few stored waiting few off) in
+      let r = room_of_fields cs fs stored (waiting + 1) in
+      room_join (stored + waiting) waiting x h r (held_fields (stored + waiting + 1) fs) (omega (arith, few, low)) (subst (λ z. 1 + room_of_fields cs fs stored (waiting + 1) ≤ max 1 (held_fields z fs)) same rest)
+  item_held fs law true true stored waiting x h off few low =
+      let same : stored + waiting + 1 + 0 ≡ stored + waiting + 1 = omega arith in
+      let rest = law (stored + waiting + 1) 0 (omega arith) in
+      let r = room_of_fields cs fs (stored + waiting + 1) 0 in
+      room_join (stored + waiting) waiting x h r (held_fields (stored + waiting + 1) fs) (omega (arith, few, low)) (subst (λ z. 1 + room_of_fields cs fs (stored + waiting + 1) 0 ≤ max 1 (held_fields z fs)) same rest)
+  item_held fs law false full stored waiting x h off few low =
+      let same : stored + waiting + 1 + 0 ≡ stored + waiting + 1 = omega arith in
+      let rest = law (stored + waiting + 1) 0 (omega arith) in
+      let r = room_of_fields cs fs (stored + waiting + 1) 0 in
+      let more = room_join (stored + waiting) 0 x h r (held_fields (stored + waiting + 1) fs) (omega (arith, low)) (subst (λ z. 1 + room_of_fields cs fs (stored + waiting + 1) 0 ≤ max 1 (held_fields z fs)) same rest) in
+      omega (arith, more)
+
   mutual
     pub exp_held : (e : Exp) (field : ℕ) → room_of cs e field ≤ max (held e) (room_of_values field)
     exp_held (Nil line) field = omega arith
@@ -170,7 +199,10 @@ module _ (cs : List Const) where
     exp_held (And line e d) field = let a = kept_held e (room_of cs e 2) false (item_by e false (exp_held e)) in let b = item_by d false (exp_held d) in omega (arith, a, b)
     exp_held (Or line e d) field = let a = kept_held e (room_of cs e 2) true (item_by e false (exp_held e)) in let b = item_by d false (exp_held d) in omega (arith, a, b)
     exp_held (Paren line e) field = let a = item_by e false (exp_held e) in omega (arith, a)
-    exp_held (Table line fs) field = let a = fields_held fs 0 in omega (arith, a)
+    exp_held (Table line fs) field =
+        let none : 0 + 0 ≡ 0 = omega arith in
+        let a = subst (λ z. 1 + room_of_fields cs fs 0 0 ≤ max 1 (held_fields z fs)) none (fields_held fs 0 0 (omega arith)) in
+        omega (arith, a)
 
     -- where only the truth is wanted, and where a first operand's value is kept
     tested_held : (e : Exp) (value : ℕ) → value ≤ held e → room_tested cs e value ≤ held e
@@ -246,18 +278,16 @@ module _ (cs : List Const) where
         let less = less_count wanted in
         omega (arith, mine, some, rest, less)
 
-    fields_held : (fs : Fields) (items : ℕ) → 1 + room_of_fields cs fs ≤ max 1 (held_fields items fs)
-    fields_held EndFields items = omega arith
-    fields_held (MoreFields (Item e) fs) items =
-        let a = item_by e (is_last_item e fs) (exp_held e) in
-        let b = fields_held fs (items + 1) in
-        omega (arith, a, b)
-    fields_held (MoreFields (Keyed line e d) fs) items =
+    fields_held : (fs : Fields) (stored waiting : ℕ) → waiting ≤ (stored + waiting) % 50 → 1 + room_of_fields cs fs stored waiting ≤ max 1 (held_fields (stored + waiting) fs)
+    fields_held EndFields stored waiting few = omega arith
+    fields_held (MoreFields (Item e) fs) stored waiting few =
+        item_held fs (fields_held fs) (waits e) (is_full (stored + waiting + 1)) stored waiting (room_of cs e (cond (is_last_item e fs) 0 2)) (held e) refl few (item_by e (is_last_item e fs) (exp_held e))
+    fields_held (MoreFields (Keyed line e d) fs) stored waiting few =
         let a = item_by e false (exp_held e) in
         let b = item_by d false (exp_held d) in
-        let c = fields_held fs (items + 0) in
-        let few = keyed_room_few (field_key cs (is_quiet d) e) (stored_value cs d) (room_of cs e 2) (room_of cs d 2) in
-        omega (arith, a, b, c, few)
+        let c = fields_held fs (stored + waiting) 0 (omega arith) in
+        let rooms = keyed_room_few (field_key cs (is_quiet d) e) (stored_value cs d) (room_of cs e 2) (room_of cs d 2) in
+        omega (arith, a, b, c, rooms)
 
   pub one_held : (e : Exp) → room_of cs e 2 ≤ held e
   one_held e = item_by e false (exp_held e)

@@ -9,6 +9,7 @@ pub mod Functions
 mod Tops
 mod Pieces
 mod KeyedFields
+mod ItemPieces
 mod ConstantPieces
 mod Expressions
 pub mod Holding

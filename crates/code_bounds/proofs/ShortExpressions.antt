@@ -23,7 +23,8 @@ use Rattle.code_of.proofs.Chains.{chain_short}
 use Rattle.code_of.proofs.Operations.{constant_short, operation_short}
 use Rattle.code_of.proofs.FieldReads.{read_short}
 use Rattle.code_of.specs.Operators.{name_into, global_code, local_global_code, prefix_code, operator_code, number_code, self_code}
-use Rattle.code_of.specs.Expressions.{made_by, list_field, is_last_open, is_last_item, Wanted, one_less, field_of, wanted_after, nils_code, set_list, exp_code, exps_code, fields_code}
+use Rattle.code_of.specs.Expressions.{made_by, list_field, is_last_open, is_last_item, Wanted, one_less, field_of, wanted_after, nils_code, set_list, waiting_code, item_code, exp_code, exps_code, fields_code}
+use Rattle.code_of.specs.Items.{waits, is_full, item_register, stored_behind, waiting_behind}
 use Rattle.code_of.specs.Conditions.{keep_code}
 use Rattle.code_of.specs.Parts.{direct_code}
 use Rattle.tree_terms.specs.Weight.{weight, weight_of_arguments, weight_of_exps, weight_of_fields}
@@ -130,6 +131,40 @@ set_list_short t b items line = by (nat_lt items 256)
     by true = omega arith
     by false = omega arith
 
+-- what waits is still to be stored
+
+abbrev owed : (waiting : ℕ) → ℕ
+owed zero = 0
+owed (suc more) = 2
+
+owed_most : (waiting : ℕ) → owed waiting ≤ 2
+owed_most zero = omega arith
+owed_most (suc more) = omega arith
+
+waiting_short : (stored waiting t line : ℕ) → length (waiting_code stored waiting t line) ≤ owed waiting
+waiting_short stored zero t line = omega arith
+waiting_short stored (suc more) t line = set_list_short t (suc more) stored line
+
+item_short : (wait full : Bool) (stored waiting b t line n m : ℕ) (code rest : List Coded) → length code + 2 ≤ n → length rest ≤ m + owed (waiting_behind wait full waiting)
+    → length (item_code wait full code stored waiting b t line ++ rest) ≤ n + m + owed waiting
+item_short true false stored waiting b t line n m code rest value behind = omega (arith, value, behind, owed_most (waiting + 1), length-append code rest)
+item_short true true stored waiting b t line n m code rest value behind =
+    let store = set_list t (waiting + 1) stored line in
+    omega (arith, value, behind, set_list_short t (waiting + 1) stored line, length-append (code ++ store) rest, length-append code store)
+item_short false full stored waiting b t line n m code rest value behind =
+    let front = waiting_code stored waiting t line in
+    let store = set_list t b (stored + waiting) line in
+    omega (
+      arith,
+      value,
+      behind,
+      waiting_short stored waiting t line,
+      set_list_short t b (stored + waiting) line,
+      length-append (front ++ (code ++ store)) rest,
+      length-append front (code ++ store),
+      length-append code store,
+    )
+
 -- nil is loaded at most once, and never where all values are wanted
 
 abbrev pub nils : Wanted → ℕ
@@ -211,7 +246,7 @@ module _ (cs : List Const) where
         let second = exp_code cs d t (j + made_by e) 2 in
         omega (arith, kept_short e (λ u i. exp_short e u i 2) true (length second) t j, exp_short d t (j + made_by e) 2, length-append (keep_code cs e true (length second) t j) second)
     exp_short (Paren line e) t j c = omega (arith, exp_short e t j 2)
-    exp_short (Table line fs) t j c = omega (arith, fields_short fs 0 t j line)
+    exp_short (Table line fs) t j c = omega (arith, fields_short fs 0 0 t j line)
 
     -- a condition, and a first operand whose value is kept. The bound on the value's own code is given, since it is one of the same tree
     pub tested_short : (e : Exp) → ValueShort cs e → Short cs e
@@ -268,21 +303,19 @@ module _ (cs : List Const) where
         let rest = exps_code cs es after (t + 1) (j + made_by e) line in
         omega (arith, exp_short e t j field, exps_short es after (t + 1) (j + made_by e) line, nils_after e es wanted, length-append (exp_code cs e t j field) rest)
 
-    fields_short : (fs : Fields) (items t j line : ℕ) → length (fields_code cs fs items t j line) ≤ 6 * weight_of_fields fs
-    fields_short EndFields items t j line = omega arith
-    fields_short (MoreFields (Item e) fs) items t j line =
-        let value = exp_code cs e (t + 1) j (cond (is_last_item e fs) 0 2) in
-        let store = set_list t (cond (is_last_item e fs) 0 1) items line in
-        let rest = fields_code cs fs (items + 1) t (j + made_by e) line in
+    fields_short : (fs : Fields) (stored waiting t j line : ℕ) → length (fields_code cs fs stored waiting t j line) ≤ 6 * weight_of_fields fs + owed waiting
+    fields_short EndFields stored waiting t j line = omega (arith, waiting_short stored waiting t line)
+    fields_short (MoreFields (Item e) fs) stored waiting t j line =
+        let wait = waits e in
+        let full = is_full (stored + waiting + 1) in
+        let field : ℕ = cond (is_last_item e fs) 0 2 in
         omega (
           arith,
-          exp_short e (t + 1) j (cond (is_last_item e fs) 0 2),
-          set_list_short t (cond (is_last_item e fs) 0 1) items line,
-          fields_short fs (items + 1) t (j + made_by e) line,
-          length-append value (store ++ rest),
-          length-append store rest,
+          item_short wait full stored waiting (cond (is_last_item e fs) 0 1) t line (6 * weight e) (6 * weight_of_fields fs) (exp_code cs e (item_register wait t waiting) j field)
+              (fields_code cs fs (stored_behind wait full stored waiting) (waiting_behind wait full waiting) t (j + made_by e) line) (exp_short e (item_register wait t waiting) j field)
+              (fields_short fs (stored_behind wait full stored waiting) (waiting_behind wait full waiting) t (j + made_by e) line),
         )
-    fields_short (MoreFields (Keyed own e d) fs) items t j line =
+    fields_short (MoreFields (Keyed own e d) fs) stored waiting t j line =
         let s = field_key cs (is_quiet d) e in
         let key = exp_code cs e (t + 1) j 2 in
         let value = exp_code cs d (t + 2) (j + made_by e) 2 in
@@ -291,8 +324,10 @@ module _ (cs : List Const) where
           keyed_store_short s (stored_value cs d) key value t own,
           exp_short e (t + 1) j 2,
           exp_short d (t + 2) (j + made_by e) 2,
-          fields_short fs items t (j + made_by e + made_by d) line,
-          length-append (keyed_store s (stored_value cs d) key value t own) (fields_code cs fs items t (j + made_by e + made_by d) line),
+          fields_short fs (stored + waiting) 0 t (j + made_by e + made_by d) line,
+          waiting_short stored waiting t line,
+          length-append (waiting_code stored waiting t line) (keyed_store s (stored_value cs d) key value t own ++ fields_code cs fs (stored + waiting) 0 t (j + made_by e + made_by d) line),
+          length-append (keyed_store s (stored_value cs d) key value t own) (fields_code cs fs (stored + waiting) 0 t (j + made_by e + made_by d) line),
         )
 
   -- a value that goes straight to a local's register
