@@ -25,7 +25,8 @@ use Rattle.code_of.specs.Targets.{waiting_key, text_key, global_store, single_st
 use Rattle.code_of.proofs.Targets.{single_store_is, some_store}
 use Rattle.code_of.specs.Operands.{local_of, lone_local, joins, seat, unless, Second, a_number, a_local, made, second_of, key_operand, first_of, assigned, second_code, operands_code, second_assigned}
 use Rattle.code_of.specs.Operators.{name_into, self_code, operator_code, number_opcode, number_code, name_code}
-use Rattle.code_of.specs.Expressions.{made_by, made_in, count, Wanted, is_last_item, field_of, wanted_after, nils_code, set_list, exp_code, exps_code, fields_code, kept_value}
+use Rattle.code_of.specs.Expressions.{made_by, made_in, count, Wanted, is_last_item, field_of, wanted_after, nils_code, set_list, exp_code, exps_code, fields_code, kept_value, waiting_code, item_code}
+use Rattle.code_of.specs.Items.{waits, is_full, item_register, stored_behind, waiting_behind}
 use Rattle.code_of.specs.Truths.{jump_if, pick, line_of, is_not, compared, is_compared, set_if}
 use Rattle.code_of.specs.Conditions.{value_test, test_code, keep_code}
 use Rattle.code_core.specs.declared.opcode.Opcode.{Opcode}
@@ -195,6 +196,16 @@ nils_lines (Some (suc n)) t line h = (h, tt)
 set_list_lines : (t b items line : ℕ) → LineFits line → LinesFit (set_list t b items line)
 set_list_lines t b items line h = either (nat_lt items 256) _ _ (h, tt) (h, (h, tt))
 
+waiting_lines : (stored waiting t line : ℕ) → LineFits line → LinesFit (waiting_code stored waiting t line)
+waiting_lines stored zero t line h = tt
+waiting_lines stored (suc more) t line h = set_list_lines t (suc more) stored line h
+
+item_lines : (wait full : Bool) (code : List Coded) (stored waiting b t line : ℕ) → LineFits line → LinesFit code → LinesFit (item_code wait full code stored waiting b t line)
+item_lines true false code stored waiting b t line h k = k
+item_lines true true code stored waiting b t line h k = lines_both code _ k (set_list_lines t (waiting + 1) stored line h)
+item_lines false full code stored waiting b t line h k =
+    lines_both (waiting_code stored waiting t line) _ (waiting_lines stored waiting t line h) (lines_both code _ k (set_list_lines t b (stored + waiting) line h))
+
 body_line : (body : Body) → BodyIsWritten body → LineFits (line_of_body body)
 body_line (BodyOf params vararg inner ups line) w = w.0
 
@@ -309,7 +320,7 @@ module _ (cs : List Const) where
         let far = length (exp_code cs d t (j + made_by e) 2) in
         lines_both (keep_code cs e true far t j) _ (kept_lines e true far t j w.1.0 (exp_lines e t j 2 w.1.0)) (exp_lines d t (j + made_by e) 2 w.1.1)
     exp_lines (Paren line e) t j c w = exp_lines e t j 2 w.1
-    exp_lines (Table line fs) t j c w = (w.0, (w.0, fields_lines fs 0 t j line w.0 w.1))
+    exp_lines (Table line fs) t j c w = (w.0, (w.0, fields_lines fs 0 0 t j line w.0 w.1))
 
     tested_lines : (e : Exp) (k : Bool) (ahead t j : ℕ) → ExpIsWritten e → LinesFit (exp_code cs e t j 2) → LinesFit (test_code cs e k ahead t j)
     tested_lines (Paren line e) k ahead t j w h = tested_lines e k ahead t j w.1 h
@@ -374,18 +385,23 @@ module _ (cs : List Const) where
     exps_lines (MoreExps e es) wanted t j line h w =
         lines_both (exp_code cs e t j (field_of e es wanted)) _ (exp_lines e t j (field_of e es wanted) w.0) (exps_lines es (wanted_after e es wanted) (t + 1) (j + made_by e) line h w.1)
 
-    pub fields_lines : (fs : Fields) (items t j line : ℕ) → LineFits line → FieldsAreWritten fs → LinesFit (fields_code cs fs items t j line)
-    fields_lines EndFields items t j line h w = tt
-    fields_lines (MoreFields (Item e) fs) items t j line h w =
-        lines_both (exp_code cs e (t + 1) j (cond (is_last_item e fs) 0 2)) _ (exp_lines e (t + 1) j (cond (is_last_item e fs) 0 2) w.0)
-        (lines_both (set_list t (cond (is_last_item e fs) 0 1) items line) _ (set_list_lines t (cond (is_last_item e fs) 0 1) items line h) (fields_lines fs (items + 1) t (j + made_by e) line h w.1))
-    fields_lines (MoreFields (Keyed at_line e d) fs) items t j line h w =
+    pub fields_lines : (fs : Fields) (stored waiting t j line : ℕ) → LineFits line → FieldsAreWritten fs → LinesFit (fields_code cs fs stored waiting t j line)
+    fields_lines EndFields stored waiting t j line h w = waiting_lines stored waiting t line h
+    fields_lines (MoreFields (Item e) fs) stored waiting t j line h w =
+        let wait = waits e in
+        let full = is_full (stored + waiting + 1) in
+        let field : ℕ = cond (is_last_item e fs) 0 2 in
+        lines_both (item_code wait full (exp_code cs e (item_register wait t waiting) j field) stored waiting (cond (is_last_item e fs) 0 1) t line) _
+        (item_lines wait full (exp_code cs e (item_register wait t waiting) j field) stored waiting (cond (is_last_item e fs) 0 1) t line h (exp_lines e (item_register wait t waiting) j field w.0))
+        (fields_lines fs (stored_behind wait full stored waiting) (waiting_behind wait full waiting) t (j + made_by e) line h w.1)
+    fields_lines (MoreFields (Keyed at_line e d) fs) stored waiting t j line h w =
         let s = field_key cs (is_quiet d) e in
         let value = stored_value cs d in
-        lines_both (keyed_store s value (exp_code cs e (t + 1) j 2) (exp_code cs d (t + 2) (j + made_by e) 2) t at_line) _
+        lines_both (waiting_code stored waiting t line) _ (waiting_lines stored waiting t line h)
+        (lines_both (keyed_store s value (exp_code cs e (t + 1) j 2) (exp_code cs d (t + 2) (j + made_by e) 2) t at_line) _
         (key_lines s (exp_code cs e (t + 1) j 2) _ (exp_lines e (t + 1) j 2 w.1.0)
         (value_lines value (exp_code cs d (t + 2) (j + made_by e) 2) _ (exp_lines d (t + 2) (j + made_by e) 2 w.1.1.0) (last_lines s (is_constant value) t t (value_seat value (t + 2)) at_line w.0)))
-        (fields_lines fs items t (j + made_by e + made_by d) line h w.1.1.1)
+        (fields_lines fs (stored + waiting) 0 t (j + made_by e + made_by d) line h w.1.1.1))
 
   test_lines : (e : Exp) (k : Bool) (ahead t j : ℕ) → ExpIsWritten e → LinesFit (test_code cs e k ahead t j)
   test_lines e k ahead t j w = tested_lines e k ahead t j w (exp_lines e t j 2 w)

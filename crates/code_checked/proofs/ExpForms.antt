@@ -1,20 +1,21 @@
 -- The code of each form of expression is a piece, where the code of its parts is.
-use Rattle.std.specs.Prelude.{nat_lt, ◌%◌, ◌/◌}
-use Rattle.code_core.specs.Instruction.{abc, op_ax}
+use Rattle.std.specs.Prelude.{◌%◌}
 use Rattle.std.proofs.Common.{◌≡◌, ℕ, ◌+◌, ◌<◌, ◌≤◌, ◌^◌, lit<, Bool, true, false, cond, List, [], ◌∷◌, ◌++◌, length, Option, Some, None, refl, sym, ap, subst, ◌∙◌, arith, length-append}
 use Rattle.tree_core.specs.declared.name.Name.{Name}
 use Rattle.tree_core.specs.declared.name.Place.{Place}
 use Rattle.tree_core.specs.declared.name.Place.TheVariants.{Unset, Upvalue, GlobalIn, GlobalOf, Local as LocalPlace}
-use Rattle.tree_core.specs.Tree.{Body, BodyOf, Exp, Nil, True, False, Int, Str, Vararg, Function, Var, Index, Call, Method, Unary, Binary, And, Or, Paren, Table, Exps, EndExps, MoreExps, Fields, EndFields, MoreFields, Field, Item, Keyed}
+use Rattle.tree_core.specs.Tree.{Body, BodyOf, Exp, Nil, True, False, Int, Str, Vararg, Function, Var, Index, Call, Method, Unary, Binary, And, Or, Paren, Table, Exps, EndExps, MoreExps, Fields, EndFields, MoreFields, Item, Keyed}
 use Rattle.tree_core.specs.declared.operator.UnOp.{UnOp}
 use Rattle.tree_core.specs.declared.operator.BinOp.{BinOp}
-use Rattle.code_core.specs.declared.opcode.Opcode.TheVariants.{GetTable, GetI, GetField, SetList, ExtraArg}
+use Rattle.code_core.specs.declared.opcode.Opcode.TheVariants.{GetTable, GetI, GetField}
 use Rattle.code_core.specs.declared.proto.Const.{Const}
 use Rattle.code_core.specs.declared.proto.Const.TheVariants.{Str as StrConst}
 use Rattle.code_core.specs.Prototype.{Prototype, Prototypes}
 use Rattle.code_of.specs.Coded.{Coded, with_abc}
 use Rattle.code_of.specs.Constants.{with_constant, with_any, of_exp, of_exps, of_fields}
-use Rattle.code_of.specs.Expressions.{made_by, count, is_open, ends_open, list_field, one_less, nils_code, set_list, exp_code, exps_code, fields_code, is_last_item}
+use Rattle.code_of.specs.Expressions.{made_by, count, is_open, ends_open, list_field, one_less, nils_code, set_list, waiting_code, item_code, exp_code, exps_code, fields_code, is_last_item}
+use Rattle.code_of.specs.Items.{waits, is_full, item_register, stored_behind, waiting_behind}
+use Rattle.code_of.proofs.Lengths.{exp_some}
 use Rattle.code_of.specs.Parts.{direct_code}
 use Rattle.code_of.specs.CodeOf.{parts_of, from_exp, from_exps, from_fields, from_body}
 use Rattle.code_of.specs.Operands.{local_at, local_of, Second, a_number, a_local, made, second_of, key_operand, first_of, seat, unless, operands_code}
@@ -34,11 +35,11 @@ use Rattle.code_checked.proofs.Found.{Grows, grows_none, grows_then, grows_with,
 use Rattle.code_of.proofs.Constants.{same_text}
 use Rattle.code_checked.proofs.Loads.{Whole, Functions, closure_piece, method_piece, get_name_piece}
 use Rattle.code_checked.proofs.Seams.{alike}
-use Rattle.code_checked.proofs.Calls.{call_piece, list_piece}
+use Rattle.code_checked.proofs.Calls.{call_piece}
 use Rattle.code_checked.proofs.Operators.{prefix_piece, operator_piece, number_piece}
 use Rattle.code_checked.proofs.ConstantOperators.{constant_piece}
 use Rattle.code_checked.proofs.Lists.{list_at, mark_of, open_mark, gives_at, same_either, list_at_some, takes_list_field, field_below, HaveRoom, room_next, room_field, nils_piece}
-use Rattle.code_checked.proofs.Growing.{grows_exp, grows_exps, grows_fields, after_exp}
+use Rattle.code_checked.proofs.Growing.{grows_exp, grows_exps, after_exp}
 
 pub append_nil : (xs : List Coded) → xs ++ [] ≡ xs
 append_nil [] = refl
@@ -106,31 +107,35 @@ positional EndFields = 0
 positional (MoreFields (Item e) fs) = 1 + positional fs
 positional (MoreFields (Keyed line e d) fs) = positional fs
 
-stored : (t b items line : ℕ) → 0 < length (set_list t b items line)
-stored t b items line = by (nat_lt items 256)
-  where
-    by : (near : Bool) → 0 < length (cond near (with_abc SetList t b items line ∷ []) ((abc SetList t b (items % 256) true, line) ∷ (op_ax ExtraArg (items / 256), line) ∷ []))
-    by true = omega arith
-    by false = omega arith
+-- an item has an instruction at least
+item_some : (cs : List Const) (wait full : Bool) (e : Exp) (stored waiting b t r j c line : ℕ) → 1 ≤ length (item_code wait full (exp_code cs e r j c) stored waiting b t line)
+item_some cs true false e stored waiting b t r j c line = exp_some cs e r j c
+item_some cs true true e stored waiting b t r j c line = omega (arith, exp_some cs e r j c, length-append (exp_code cs e r j c) (set_list t (waiting + 1) stored line))
+item_some cs false full e stored waiting b t r j c line =
+    let code = exp_code cs e r j c in
+    let store = set_list t b (stored + waiting) line in
+    omega (arith, exp_some cs e r j c, length-append (waiting_code stored waiting t line) (code ++ store), length-append code store)
 
--- each has an instruction at least
-pub positional_below : (cs : List Const) (fs : Fields) (items t j line : ℕ) → positional fs ≤ length (fields_code cs fs items t j line)
-positional_below cs EndFields items t j line = omega arith
-positional_below cs (MoreFields (Item e) fs) items t j line =
-    let first = exp_code cs e (t + 1) j (cond (is_last_item e fs) 0 2) in
-    let second = set_list t (cond (is_last_item e fs) 0 1) items line in
-    let rest = fields_code cs fs (items + 1) t (j + made_by e) line in
-    let a = length-append first (second ++ rest) in
-    let b = length-append second rest in
-    let c = stored t (cond (is_last_item e fs) 0 1) items line in
-    let d = positional_below cs fs (items + 1) t (j + made_by e) line in
-    omega (arith, a, b, c, d)
-positional_below cs (MoreFields (Keyed at_line e d) fs) items t j line =
+pub positional_below : (cs : List Const) (fs : Fields) (stored waiting t j line : ℕ) → positional fs ≤ length (fields_code cs fs stored waiting t j line)
+positional_below cs EndFields stored waiting t j line = omega arith
+positional_below cs (MoreFields (Item e) fs) stored waiting t j line =
+    let full = is_full (stored + waiting + 1) in
+    let field : ℕ = cond (is_last_item e fs) 0 2 in
+    let b : ℕ = cond (is_last_item e fs) 0 1 in
+    let r = item_register (waits e) t waiting in
+    omega (
+      arith,
+      item_some cs (waits e) full e stored waiting b t r j field line,
+      positional_below cs fs (stored_behind (waits e) full stored waiting) (waiting_behind (waits e) full waiting) t (j + made_by e) line,
+      length-append (item_code (waits e) full (exp_code cs e r j field) stored waiting b t line) (fields_code cs fs (stored_behind (waits e) full stored waiting) (waiting_behind (waits e) full waiting) t (j + made_by e) line),
+    )
+positional_below cs (MoreFields (Keyed at_line e d) fs) stored waiting t j line =
     let store = keyed_store (field_key cs (is_quiet d) e) (stored_value cs d) (exp_code cs e (t + 1) j 2) (exp_code cs d (t + 2) (j + made_by e) 2) t at_line in
-    let rest = fields_code cs fs items t (j + made_by e + made_by d) line in
+    let rest = fields_code cs fs (stored + waiting) 0 t (j + made_by e + made_by d) line in
     let a = length-append store rest in
-    let c = positional_below cs fs items t (j + made_by e + made_by d) line in
-    omega (arith, a, c)
+    let b = length-append (waiting_code stored waiting t line) (store ++ rest) in
+    let c = positional_below cs fs (stored + waiting) 0 t (j + made_by e + made_by d) line in
+    omega (arith, a, b, c)
 
 module _ (p : Prototype) (W : Whole p) (source : Option (List ℕ)) (H : Type 0) where
   abbrev pub C : List Const
@@ -159,10 +164,11 @@ module _ (p : Prototype) (W : Whole p) (source : Option (List ℕ)) (H : Type 0)
       (n t j line pc size : ℕ) (cs : List Const) (rest : Prototypes) → ExpsAreNear source p es size t → size ≤ t → HaveRoom n t → Grows (of_exps es cs) p.own.constants → Functions p j (from_exps source es rest)
       → Piece p H closed closed pc (exps_code p.own.constants es (Some n) t j line)
 
+  -- the fields that are left, in front of which some items wait
   abbrev pub FieldsLaw : Fields → Type 0
   FieldsLaw fs =
-      (items t j line pc size : ℕ) (cs : List Const) (rest : Prototypes) → (H → items + positional fs < 2 ^ 33) → FieldsAreNear source p fs size t → size ≤ t → IsRegister t → Grows (of_fields fs cs) p.own.constants → Functions p j (from_fields source fs rest)
-      → Piece p H closed closed pc (fields_code p.own.constants fs items t j line)
+      (stored waiting t j line pc size : ℕ) (cs : List Const) (rest : Prototypes) → waiting ≤ (stored + waiting) % 50 → (H → stored + waiting + positional fs < 2 ^ 33) → FieldsAreNear source p fs (stored + waiting) size t → size ≤ t → IsRegister (t + waiting)
+      → Grows (of_fields fs cs) p.own.constants → Functions p j (from_fields source fs rest) → Piece p H closed closed pc (fields_code p.own.constants fs stored waiting t j line)
 
   pub one_of_any : (e : Exp) → ExpLaw e → OneLaw e
   one_of_any e law t j pc size cs rest near le g fs =
@@ -347,30 +353,3 @@ module _ (p : Prototype) (W : Whole p) (source : Option (List ℕ)) (H : Type 0)
   pub paren_form : (line : ℕ) (e : Exp) → OneLaw e → ExpLaw (Paren line e)
   paren_form line e one_e t j c pc size cs rest near le cf g fs =
       subst (λ m. Piece p H closed m pc (exp_code p.own.constants e t j 2)) refl (one_e t j pc size cs rest near.1 le g fs)
-
-  -- fields of a constructor
-
-  pub no_fields : FieldsLaw EndFields
-  no_fields items t j line pc size cs rest few near le r g fs = nothing p
-
-  pub last_item : (e : Exp) → ExpLaw e → FieldsLaw (MoreFields (Item e) EndFields)
-  last_item e law items t j line pc size cs rest few near le r g fs = by (is_open e) refl
-    where
-      fits : H → items < 2 ^ 33
-      fits h = let all = few h in omega (arith, all)
-
-      by : (b : Bool) → is_open e ≡ b → Piece p H closed closed pc (exp_code p.own.constants e (t + 1) j (cond b 0 2) ++ (set_list t (cond b 0 1) items line ++ []))
-      by true opens =
-          both p
-          (subst (λ b. Piece p H closed (cond b (listed (t + 1)) closed) pc (exp_code p.own.constants e (t + 1) j 0)) opens (law (t + 1) j 0 pc size cs rest near.0 (omega (arith, le)) (lit< tt) g fs))
-          (alike p (sym (append_nil (set_list t 0 items line))) (list_piece p (listed (t + 1)) t 0 items line (omega (arith, r)) (lit< tt) fits (refl, omega arith)))
-      by false opens =
-          both p (one_of_any e law (t + 1) j pc size cs rest near.0 (omega (arith, le)) g fs)
-          (alike p (sym (append_nil (set_list t 1 items line))) (list_piece p closed t 1 items line (omega (arith, r)) (lit< tt) fits (omega arith)))
-
-  pub more_item : (e : Exp) (f : Field) (more_fields : Fields) → ExpLaw e → FieldsLaw (MoreFields f more_fields) → FieldsLaw (MoreFields (Item e) (MoreFields f more_fields))
-  more_item e f more_fields law laws items t j line pc size cs rest few near le r g fs =
-      let first = of_exp e cs in
-      both p (one_of_any e law (t + 1) j pc size cs (from_fields source (MoreFields f more_fields) rest) near.0 (omega (arith, le)) (grows_then first (of_fields (MoreFields f more_fields) first) p.own.constants (grows_fields (MoreFields f more_fields) first) g) fs)
-      (both p (list_piece p closed t 1 items line (omega (arith, r)) (lit< tt) (λ h. let all = few h in omega (arith, all)) (omega arith))
-      (laws (items + 1) t (j + made_by e) line _ size first rest (λ h. let all = few h in omega (arith, all)) near.1 le r g (after_exp source p e j (from_fields source (MoreFields f more_fields) rest) fs)))

@@ -25,7 +25,8 @@ use Rattle.code_checked.proofs.Seams.{ending}
 use Rattle.code_checked.proofs.TestForms.{OneAll, TestLaw, value_law, paren_law, not_law, and_law, or_law, binary_law, true_law, KeepLaw, leaf_law, unary_kept, binary_kept, paren_kept, and_kept, or_kept}
 use Rattle.code_checked.proofs.Lists.{list_at, gives_at}
 use Rattle.code_checked.proofs.Growing.{grows_exp, after_exp}
-use Rattle.code_checked.proofs.ExpForms.{ExpLaw, OneLaw, ListLaw, ExactLaw, FieldsLaw, one_of_any, no_list, no_values, last_list, last_values, more_list, more_values, function_form, index_form, call_form, method_form, unary_form, paren_form, no_fields, last_item, more_item, positional_below}
+use Rattle.code_checked.proofs.ExpForms.{ExpLaw, OneLaw, ListLaw, ExactLaw, FieldsLaw, one_of_any, no_list, no_values, last_list, last_values, more_list, more_values, function_form, index_form, call_form, method_form, unary_form, paren_form, positional_below}
+use Rattle.code_checked.proofs.ItemForms.{no_fields, more_item}
 use Rattle.code_checked.proofs.KeyedFields.{more_keyed}
 use Rattle.code_checked.proofs.ChainForms.{ChainsLaw, chain_end, chain_binary, binary_form}
 
@@ -83,10 +84,10 @@ module _ (p : Prototype) (W : Whole p) (source : Option (List ℕ)) where
   table_form : (line : ℕ) (fields : Fields) → ((G : Type 0) → FieldsLaw p W source G fields) → AllExp (Table line fields)
   table_form line fields law H t j c pc size cs rest near le cf g fs =
       let r = near.0 in
-      let code = fields_code p.own.constants fields 0 t j line in
-      let below = positional_below p.own.constants fields 0 t j line in
+      let code = fields_code p.own.constants fields 0 0 t j line in
+      let below = positional_below p.own.constants fields 0 0 t j line in
       let all : ℕ = length (with_abc NewTable t 0 0 line ∷ (op_ax ExtraArg 0, line) ∷ code) in
-      shortly p W (both p (table_piece p t line (omega (arith, r))) (law (H × (all < 2 ^ 24)) 0 t j line _ size cs rest (λ h. let short = h.1 in omega (arith, short, below)) near.1 le r g fs))
+      shortly p W (both p (table_piece p t line (omega (arith, r))) (law (H × (all < 2 ^ 24)) 0 0 t j line _ size cs rest (omega arith) (λ h. let short = h.1 in omega (arith, short, below)) near.1 le (omega (arith, r)) g fs))
 
   mutual
     pub exp_law : (e : Exp) (H : Type 0) → ExpLaw p W source H e
@@ -176,8 +177,7 @@ module _ (p : Prototype) (W : Whole p) (source : Option (List ℕ)) where
 
     pub fields_law : (fs : Fields) (H : Type 0) → FieldsLaw p W source H fs
     fields_law EndFields H = no_fields p W source H
-    fields_law (MoreFields (Item e) EndFields) H = last_item p W source H e (exp_law e H)
-    fields_law (MoreFields (Item e) (MoreFields f fs)) H = more_item p W source H e f fs (exp_law e H) (fields_law (MoreFields f fs) H)
+    fields_law (MoreFields (Item e) fs) H = more_item p W source H e fs (exp_law e H) (fields_law fs H)
     fields_law (MoreFields (Keyed line e d) fs) H = more_keyed p W source H line e d fs (one_of_any p W source H e (exp_law e H)) (one_of_any p W source H d (exp_law d H)) (fields_law fs H)
 
   pub one_law : (e : Exp) (H : Type 0) → OneLaw p W source H e

@@ -1,5 +1,5 @@
 -- All functions of a tree keep the rules, each with those in it.
-use Rattle.std.proofs.Common.{ℕ, ◌+◌, ◌*◌, Bool, List, length, Option, IsTrue, true, false, arith}
+use Rattle.std.proofs.Common.{ℕ, ◌+◌, ◌*◌, ◌%◌, Bool, List, length, Option, IsTrue, true, false, arith}
 use Rattle.tree_core.specs.Tree.{Block, Falls, Returns, Body, BodyOf, Stats, EndStats, MoreStats, Stat, Empty, Local, LocalFunction, Assign, CallStat, Do, While, Repeat, If, IfElse, NumFor, NumForStep, GenFor, Label, Goto, Break, Arms, EndArms, MoreArms, Exp, Nil, True, False, Int, Str, Vararg, Function, Var, Index, Call, Method, Unary, Binary, And, Or, Paren, Table, Exps, EndExps, MoreExps, Fields, EndFields, MoreFields, Item, Keyed}
 use Rattle.code_core.specs.Prototype.{Prototype, Prototypes, none, more}
 use Rattle.code_core.specs.Writable.{name_fits}
@@ -35,16 +35,16 @@ module _ (source : Option (List ℕ)) (named : IsTrue (name_fits source)) where
     keep_exp p (And line e d) size t rest near w others = keep_exp p e size t (from_exp source d rest) near.1.0 w.1.0 (keep_exp p d size t rest near.1.1 w.1.1 others)
     keep_exp p (Or line e d) size t rest near w others = keep_exp p e size t (from_exp source d rest) near.1.0 w.1.0 (keep_exp p d size t rest near.1.1 w.1.1 others)
     keep_exp p (Paren line e) size t rest near w others = keep_exp p e size t rest near.1 w.1 others
-    keep_exp p (Table line fs) size t rest near w others = keep_fields p fs size t rest near.1 w.1 others
+    keep_exp p (Table line fs) size t rest near w others = keep_fields p fs 0 size t rest near.1 w.1 others
 
     keep_exps : (p : Prototype) (es : Exps) (size t : ℕ) (rest : Prototypes) → ExpsAreNear source p es size t → ExpsAreWritten es → AllKeep source rest → AllKeep source (from_exps source es rest)
     keep_exps p EndExps size t rest near w others = others
     keep_exps p (MoreExps e es) size t rest near w others = keep_exp p e size t (from_exps source es rest) near.0 w.0 (keep_exps p es size (t + 1) rest near.1 w.1 others)
 
-    keep_fields : (p : Prototype) (fs : Fields) (size t : ℕ) (rest : Prototypes) → FieldsAreNear source p fs size t → FieldsAreWritten fs → AllKeep source rest → AllKeep source (from_fields source fs rest)
-    keep_fields p EndFields size t rest near w others = others
-    keep_fields p (MoreFields (Item e) fs) size t rest near w others = keep_exp p e size (t + 1) (from_fields source fs rest) near.0 w.0 (keep_fields p fs size t rest near.1 w.1 others)
-    keep_fields p (MoreFields (Keyed line e d) fs) size t rest near w others = keep_exp p e size (t + 1) (from_exp source d (from_fields source fs rest)) near.0 w.1.0 (keep_exp p d size (t + 2) (from_fields source fs rest) near.1.0 w.1.1.0 (keep_fields p fs size t rest near.1.1 w.1.1.1 others))
+    keep_fields : (p : Prototype) (fs : Fields) (items size t : ℕ) (rest : Prototypes) → FieldsAreNear source p fs items size t → FieldsAreWritten fs → AllKeep source rest → AllKeep source (from_fields source fs rest)
+    keep_fields p EndFields items size t rest near w others = others
+    keep_fields p (MoreFields (Item e) fs) items size t rest near w others = keep_exp p e size (t + 1 + items % 50) (from_fields source fs rest) near.0 w.0 (keep_fields p fs (items + 1) size t rest near.1 w.1 others)
+    keep_fields p (MoreFields (Keyed line e d) fs) items size t rest near w others = keep_exp p e size (t + 1) (from_exp source d (from_fields source fs rest)) near.0 w.1.0 (keep_exp p d size (t + 2) (from_fields source fs rest) near.1.0 w.1.1.0 (keep_fields p fs items size t rest near.1.1 w.1.1.1 others))
 
     keep_target : (p : Prototype) (e : Exp) (size r : ℕ) (rest : Prototypes) → TargetIsNear source p e size r → ExpIsWritten e → AllKeep source rest → AllKeep source (from_exp source e rest)
     keep_target p (Var line name) size r rest near w others = others

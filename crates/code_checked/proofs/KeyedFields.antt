@@ -1,5 +1,5 @@
 -- The code of a constructor's field with its key is a piece.
-use Rattle.std.proofs.Common.{ℕ, ◌+◌, ◌<◌, ◌^◌, Bool, true, false, List, [], ◌∷◌, Option, Some, None, refl, subst, arith}
+use Rattle.std.proofs.Common.{◌≡◌, ℕ, ◌+◌, ◌<◌, ◌^◌, Bool, true, false, List, [], ◌∷◌, Option, Some, None, refl, subst, arith}
 use Rattle.tree_core.specs.Tree.{Exp, Fields, MoreFields, Keyed}
 use Rattle.code_core.specs.declared.proto.Const.{Const}
 use Rattle.code_core.specs.declared.proto.Const.TheVariants.{Str as StrConst}
@@ -15,12 +15,13 @@ use Rattle.code_of.specs.Stores.{FieldKey, a_name, an_index, a_register, evaluat
 use Rattle.code_of.proofs.Stores.{FieldKeyStands, field_key_stands}
 use Rattle.code_of.proofs.StoredValues.{StoredIn, ValueStands, value_stands}
 use Rattle.code_of.proofs.Constants.{same_text}
-use Rattle.code_checked.specs.Near.{ExpIsNear}
+use Rattle.code_checked.specs.Near.{ExpIsNear, FieldsAreNear}
 use Rattle.code_checked.proofs.Pieces.{closed, Piece, both, nothing}
 use Rattle.code_checked.proofs.Found.{Grows, grows_then, grows_any, is_in}
 use Rattle.code_checked.proofs.Loads.{Whole, ValueThere, set_table_piece, set_index_piece, set_name_piece}
 use Rattle.code_checked.proofs.Growing.{grows_exp, grows_fields, after_exp}
 use Rattle.code_checked.proofs.ExpForms.{OneLaw, FieldsLaw, exp_register, local_near}
+use Rattle.code_checked.proofs.ItemForms.{waiting_piece}
 
 module _ (p : Prototype) (H : Type 0) where
   pub unless_piece : {pc : ℕ} (at : Option ℕ) (code : List Coded) → Piece p H closed closed pc code → Piece p H closed closed pc (unless at code)
@@ -65,7 +66,7 @@ module _ (p : Prototype) (source : Option (List ℕ)) (H : Type 0) where
 
 module _ (p : Prototype) (W : Whole p) (source : Option (List ℕ)) (H : Type 0) where
   pub more_keyed : (line : ℕ) (e d : Exp) (more_fields : Fields) → OneLaw p W source H e → OneLaw p W source H d → FieldsLaw p W source H more_fields → FieldsLaw p W source H (MoreFields (Keyed line e d) more_fields)
-  more_keyed at_line e d more_fields one_e one_d laws items t j line pc size cs rest few near le r g fs =
+  more_keyed at_line e d more_fields one_e one_d laws stored waiting t j line pc size cs rest behind few near le r g fs =
       let first = of_exp e cs in
       let named = with_any (any_constant d) first in
       let second = of_exp d named in
@@ -73,11 +74,14 @@ module _ (p : Prototype) (W : Whole p) (source : Option (List ℕ)) (H : Type 0)
       let known_e = grows_then first second p.own.constants (grows_then first named second (grows_any (any_constant d) first) (grows_exp d named)) known in
       let after_e = after_exp source p e j (from_exp source d (from_fields source more_fields rest)) fs in
       let register = exp_register source p e size (t + 1) near.0 in
-      both p
-      (both p (key_piece p H s (exp_code p.own.constants e (t + 1) j 2) (one_e (t + 1) j pc size cs (from_exp source d (from_fields source more_fields rest)) near.0 (omega (arith, le)) known_e fs))
+      let same : stored + waiting ≡ stored + waiting + 0 = omega arith in
+      both p (waiting_piece p W source H stored waiting t line r (λ h. let all = few h in omega (arith, all)))
+      (both p
+      (both p (key_piece p H s (exp_code p.own.constants e (t + 1) j 2) (one_e (t + 1) j _ size cs (from_exp source d (from_fields source more_fields rest)) near.0 (omega (arith, le)) known_e fs))
       (both p (value_piece p H value (exp_code p.own.constants d (t + 2) (j + made_by e) 2) (one_d (t + 2) (j + made_by e) _ size named (from_fields source more_fields rest) near.1.0 (omega (arith, le)) known after_e))
       (store_piece p source H s quiet e (is_constant value) t t (value_seat value (t + 2)) size at_line cs stands near.0 (omega (arith, register)) (omega (arith, register)) seat_near known_e)))
-      (laws items t (j + made_by e + made_by d) line _ size second rest (λ h. few h) near.1.1 le r g (after_exp source p d (j + made_by e) (from_fields source more_fields rest) after_e))
+      (laws (stored + waiting) 0 t (j + made_by e + made_by d) line _ size second rest (omega arith) (λ h. let all = few h in omega (arith, all)) (subst (λ z. FieldsAreNear source p more_fields z size t) same near.1.1) le (omega (arith, r)) g
+      (after_exp source p d (j + made_by e) (from_fields source more_fields rest) after_e)))
     where
       value : StoredValue
       value = stored_value p.own.constants d

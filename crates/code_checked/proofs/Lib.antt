@@ -10,6 +10,7 @@ mod ConstantOperators
 mod Growing
 mod Lists
 mod ExpForms
+mod ItemForms
 mod KeyedFields
 mod ChainForms
 mod Jumping

@@ -1,7 +1,7 @@
 -- What the static rules and the limits on sources have to give of a function's body, so that its code keeps the rules on code: registers have 8 bits,
 -- upvalues are those of the function, what is captured is in scope, `...` stands where the function has it, and blocks of `for` are short enough.
 -- Here `size` locals are in scope and an expression's value goes to register t, where j functions of the function are made before it.
-use Rattle.std.specs.Prelude.{◌≡◌, ℕ, ◌+◌, ◌*◌, ◌<◌, ◌≤◌, ◌^◌, Bool, true, false, cond, List, [], ◌∷◌, length, Option, IsTrue}
+use Rattle.std.specs.Prelude.{◌≡◌, ℕ, ◌+◌, ◌*◌, ◌%◌, ◌<◌, ◌≤◌, ◌^◌, Bool, true, false, cond, List, [], ◌∷◌, length, Option, IsTrue}
 use Rattle.tree_core.specs.declared.name.Place.{Place}
 use Rattle.tree_core.specs.declared.name.Place.TheVariants.{Unset, Upvalue, GlobalIn, GlobalOf, Local as LocalPlace}
 use Rattle.tree_core.specs.declared.name.UpName.{UpName}
@@ -62,7 +62,7 @@ module _ (source : Option (List ℕ)) where
     ExpIsNear p (And line e d) size t = IsRegister t × (ExpIsNear p e size t × ExpIsNear p d size t)
     ExpIsNear p (Or line e d) size t = IsRegister t × (ExpIsNear p e size t × ExpIsNear p d size t)
     ExpIsNear p (Paren line e) size t = IsRegister t × ExpIsNear p e size t
-    ExpIsNear p (Table line fs) size t = IsRegister t × FieldsAreNear p fs size t
+    ExpIsNear p (Table line fs) size t = IsRegister t × FieldsAreNear p fs 0 size t
     ExpIsNear p _ size t = IsRegister t × Unit {0}
 
     -- the registers from t on get the values
@@ -70,10 +70,11 @@ module _ (source : Option (List ℕ)) where
     ExpsAreNear p EndExps size t = Unit {0}
     ExpsAreNear p (MoreExps e es) size t = ExpIsNear p e size t × ExpsAreNear p es size (t + 1)
 
-    pub FieldsAreNear : Prototype → Fields → (size t : ℕ) → Type 0
-    FieldsAreNear p EndFields size t = Unit {0}
-    FieldsAreNear p (MoreFields (Item e) fs) size t = ExpIsNear p e size (t + 1) × FieldsAreNear p fs size t
-    FieldsAreNear p (MoreFields (Keyed line e d) fs) size t = ExpIsNear p e size (t + 1) × (ExpIsNear p d size (t + 2) × FieldsAreNear p fs size t)
+    -- the table is in register t, and up to 49 of the items in front may wait in those behind it
+    pub FieldsAreNear : Prototype → Fields → (items size t : ℕ) → Type 0
+    FieldsAreNear p EndFields items size t = Unit {0}
+    FieldsAreNear p (MoreFields (Item e) fs) items size t = ExpIsNear p e size (t + 1 + items % 50) × FieldsAreNear p fs (items + 1) size t
+    FieldsAreNear p (MoreFields (Keyed line e d) fs) items size t = ExpIsNear p e size (t + 1) × (ExpIsNear p d size (t + 2) × FieldsAreNear p fs items size t)
 
     -- a name or an index; its table and key go to two registers from r on
     pub TargetIsNear : Prototype → Exp → (size r : ℕ) → Type 0
