@@ -1,5 +1,5 @@
 -- What the static rules, the grammar and the limits on sources give of a tree makes it near.
-use Rattle.std.proofs.Common.{◌≡◌, ℕ, suc, ◌+◌, ◌*◌, ◌<◌, ◌≤◌, ◌^◌, Bool, true, false, cond, List, [], ◌∷◌, ◌++◌, length, map, Option, refl, sym, ap, subst, ◌∙◌, arith}
+use Rattle.std.proofs.Common.{◌≡◌, ℕ, suc, ◌+◌, ◌*◌, ◌%◌, ◌<◌, ◌≤◌, ◌^◌, Bool, true, false, cond, List, [], ◌∷◌, ◌++◌, length, map, Option, refl, sym, ap, subst, ◌∙◌, arith}
 use Rattle.tree_core.specs.declared.name.Place.{Place}
 use Rattle.tree_core.specs.declared.name.Place.TheVariants.{Unset, Upvalue, GlobalIn, GlobalOf, Local as LocalPlace}
 use Rattle.tree_core.specs.declared.name.UpName.{UpName}
@@ -52,6 +52,9 @@ captures_near : (hidden : List ℕ) (t ups : ℕ) (us : List UpName) → Capture
 captures_near hidden t ups [] h = tt
 captures_near hidden t ups (u ∷ us) h = (capture_near hidden t ups u.in_stack u.index h.0, captures_near hidden t ups us h.1)
 
+and_none : (n : ℕ) → n + 0 ≡ n
+and_none n = omega arith
+
 module _ (source : Option (List ℕ)) where
   abbrev around_body : Body → Around
   around_body (BodyOf params vararg inner ups line) = record { code = code_of source (BodyOf params vararg inner ups line); vararg = vararg; ups = length ups; varargs = refl; upvalues = length_map ups }
@@ -99,17 +102,18 @@ module _ (source : Option (List ℕ)) where
     )
 
     near_fields : (x : Around) (fs : Fields) (hidden : List ℕ) (size t items j : ℕ) → size ≤ 250 → t + held_fields items fs ≤ 250 → FieldsKeep fs x.vararg → FieldsFind fs hidden size x.ups → FieldsAreFormed fs → FieldsFit source x.code fs j
-        → FieldsHave FunctionFits LoopFits fs → weight_of_fields fs ≤ 2 ^ 21 → FieldsAreNear source x.code fs size t
+        → FieldsHave FunctionFits LoopFits fs → weight_of_fields fs ≤ 2 ^ 21 → FieldsAreNear source x.code fs items size t
     near_fields x EndFields hidden size t items j le room k n f i s w = tt
     near_fields x (MoreFields (Item e) fs) hidden size t items j le room k n f i s w = (
-      near_exp x e hidden size (t + 1) j le (omega (arith, room)) k.0 n.0 f.0 i.0 s.0 (omega (arith, w)),
+      near_exp x e hidden size (t + 1 + items % 50) j le (omega (arith, room)) k.0 n.0 f.0 i.0 s.0 (omega (arith, w)),
       near_fields x fs hidden size t (items + 1) (j + made_by e) le (omega (arith, room)) k.1 n.1 f.1 i.1 s.1 (omega (arith, w)),
     )
     near_fields x (MoreFields (Keyed line e d) fs) hidden size t items j le room k n f i s w = (
       near_exp x e hidden size (t + 1) j le (omega (arith, room)) k.0.0 n.0.0 f.0.0 i.0.0 s.0.0 (omega (arith, w)),
       (
         near_exp x d hidden size (t + 2) (j + made_by e) le (omega (arith, room)) k.0.1 n.0.1 f.0.1 i.0.1 s.0.1 (omega (arith, w)),
-        near_fields x fs hidden size t (items + 0) (j + (made_by e + made_by d)) le (omega (arith, room)) k.1 n.1 f.1 i.1 s.1 (omega (arith, w)),
+        subst (λ z. FieldsAreNear source x.code fs z size t) (and_none items)
+            (near_fields x fs hidden size t (items + 0) (j + (made_by e + made_by d)) le (omega (arith, room)) k.1 n.1 f.1 i.1 s.1 (omega (arith, w))),
       ),
     )
 
