@@ -1,5 +1,5 @@
 -- Lists of expressions and fields that are written one by one.
-use Rattle.std.proofs.Common.{arith, ℕ, suc, ◌+◌, ◌≡◌, ◌≤◌, ◌<◌, Bool, true, false, List, [], ◌∷◌, ◌++◌, refl, sym, ap, ◌∙◌, append_assoc, length, map, drop, cond}
+use Rattle.std.proofs.Common.{arith, ℕ, suc, ◌+◌, ◌≡◌, ◌≤◌, ◌<◌, Bool, true, false, List, [], ◌∷◌, ◌++◌, refl, sym, ap, ◌∙◌, append_assoc, length, map, drop}
 use Rattle.std.specs.Prelude.{slice_index_or, nat_eq, ◌&&◌}
 use Rattle.std.proofs.lemmas.Bool.Decides.{nat_tests}
 use Rattle.std.proofs.lemmas.List.{drop_more, drop_all, length-drop}
@@ -8,11 +8,14 @@ use Rattle.tree_core.specs.declared.tree.Field.{Field}
 use Rattle.tree_core.specs.Tree as tree
 use Rattle.tree_core.specs.Plain.{plain_exp, plain_exps, plain_field}
 use Rattle.code_core.specs.declared.proto.Const.{Const}
-use Rattle.code_of.specs.Coded.{Coded}
-use Rattle.code_of.specs.Expressions.{Wanted, field_of, wanted_after, is_open, is_last_open, made_by, made_in, made_in_fields, made_by_field, exp_code, exps_code, fields_code, nils_code, set_list}
+use Rattle.code_core.specs.declared.opcode.Opcode.TheVariants.{NewTable, ExtraArg}
+use Rattle.code_core.specs.Instruction.{op_ax}
+use Rattle.code_of.specs.Coded.{with_abc}
+use Rattle.code_of.specs.Expressions.{Wanted, field_of, wanted_after, is_open, is_last_open, made_by, made_in, made_in_fields, made_by_field, exp_code, exps_code, fields_code, nils_code, waiting_code}
 use Rattle.code_expr.specs.Listing.{Listing, listed, followed}
-use Rattle.code_expr.specs.Parts.{field_where, wanted_where, field_code, items_after}
-use Rattle.code_expr.proofs.Joining.{after, none_made}
+use Rattle.code_expr.specs.declared.items.Items.{Items}
+use Rattle.code_expr.specs.Parts.{field_where, wanted_where, so_many, items_behind, keyed_code, field_code}
+use Rattle.code_expr.proofs.Joining.{after, after_listed, none_made}
 
 front : {X : Type 0} (xs : List X) (i : ℕ) (x : X) → i < length xs → x ≡ slice_index_or xs i x → drop i xs ≡ x ∷ drop (i + 1) xs
 front xs i x h e = drop_more xs i x h ∙ ap (λ y. y ∷ drop (i + 1) xs) (sym e)
@@ -68,51 +71,71 @@ all_exps xs i s q t line wanted all h q_is known =
 
 -- fields
 
-abbrev pub fields_from : Listing → (items t line : ℕ) → tree.Fields → Listing
-fields_from s items t line fs = followed s (fields_code s.constants fs items t s.made line) (made_in_fields fs)
+abbrev pub fields_from : Listing → Items → (t line : ℕ) → tree.Fields → Listing
+fields_from s n t line fs = followed s (fields_code s.constants fs n.stored n.waiting t s.made line) (made_in_fields fs)
 
 abbrev is_none : tree.Fields → Bool
 is_none tree.EndFields = true
 is_none (tree.MoreFields f fs) = false
 
 field_code_in :
-    (k : List Const) (f : tree.Field) (fs : tree.Fields) (items t j line : ℕ)
-    → fields_code k (tree.MoreFields f fs) items t j line ≡ field_code k f (is_none fs) items t j line ++ fields_code k fs (items_after f items) t (j + made_by_field f) line
-field_code_in k (tree.Item e) tree.EndFields items t j line =
-    sym (append_assoc (exp_code k e (t + 1) j (cond (is_open e) 0 2)) (set_list t (cond (is_open e) 0 1) items line) (fields_code k tree.EndFields (items + 1) t (j + made_by e) line))
-field_code_in k (tree.Item e) (tree.MoreFields f fs) items t j line =
-    sym (append_assoc (exp_code k e (t + 1) j 2) (set_list t 1 items line) (fields_code k (tree.MoreFields f fs) (items + 1) t (j + made_by e) line))
-field_code_in k (tree.Keyed field_line e d) fs items t j line =
-    ap (λ n. field_code k (tree.Keyed field_line e d) (is_none fs) items t j line ++ fields_code k fs items t n line) (omega arith)
+    (k : List Const) (f : tree.Field) (fs : tree.Fields) (n : Items) (t j line : ℕ)
+    → fields_code k (tree.MoreFields f fs) n.stored n.waiting t j line
+    ≡ field_code k f (is_none fs) n t j line ++ fields_code k fs (items_behind f n).stored (items_behind f n).waiting t (j + made_by_field f) line
+field_code_in k (tree.Item e) tree.EndFields n t j line = refl
+field_code_in k (tree.Item e) (tree.MoreFields f fs) n t j line = refl
+field_code_in k (tree.Keyed field_line e d) fs n t j line =
+    let before = waiting_code n.stored n.waiting t line in
+    let code = keyed_code k e d t j field_line in
+    let sum : j + made_by e + made_by d ≡ j + (made_by e + made_by d) = omega arith in
+    sym (append_assoc before code (fields_code k fs (n.stored + n.waiting) 0 t (j + made_by e + made_by d) line))
+    ∙ ap (λ m. (before ++ code) ++ fields_code k fs (n.stored + n.waiting) 0 t m line) sum
 
 field_step :
-    (s : Listing) (items t line : ℕ) (f : tree.Field) (fs : tree.Fields)
-    → fields_from s items t line (tree.MoreFields f fs) ≡ fields_from (followed s (field_code s.constants f (is_none fs) items t s.made line) (made_by_field f)) (items_after f items) t line fs
-field_step s items t line f fs =
-    ap (λ c. followed s c (made_by_field f + made_in_fields fs)) (field_code_in s.constants f fs items t s.made line)
-    ∙ sym (after s (field_code s.constants f (is_none fs) items t s.made line) (made_by_field f) (fields_code s.constants fs (items_after f items) t (s.made + made_by_field f) line) (made_in_fields fs))
+    (s : Listing) (n : Items) (t line : ℕ) (f : tree.Field) (fs : tree.Fields)
+    → fields_from s n t line (tree.MoreFields f fs) ≡ fields_from (followed s (field_code s.constants f (is_none fs) n t s.made line) (made_by_field f)) (items_behind f n) t line fs
+field_step s n t line f fs =
+    ap (λ c. followed s c (made_by_field f + made_in_fields fs)) (field_code_in s.constants f fs n t s.made line)
+    ∙ sym (after s (field_code s.constants f (is_none fs) n t s.made line) (made_by_field f)
+    (fields_code s.constants fs (items_behind f n).stored (items_behind f n).waiting t (s.made + made_by_field f) line) (made_in_fields fs))
 
 last_field : (ys : List Field) → is_none (tree.fields (map plain_field ys)) ≡ nat_eq (length ys) 0
 last_field [] = refl
 last_field (y ∷ ys) = sym (not_none (length ys))
 
 pub next_field :
-    (xs : List Field) (i : ℕ) (x : Field) (s r : Listing) (left items items' t line : ℕ) (all : Listing)
+    (xs : List Field) (i : ℕ) (x : Field) (s r : Listing) (left : ℕ) (n m : Items) (t line : ℕ) (all : Listing)
     → i < length xs → x ≡ slice_index_or xs i x → left + (i + 1) ≡ length xs
-    → r ≡ followed s (field_code s.constants (plain_field x) (nat_eq left 0) items t s.made line) (made_by_field (plain_field x))
-    → items' ≡ items_after (plain_field x) items
-    → fields_from s items t line (tree.fields (map plain_field (drop i xs))) ≡ all → fields_from r items' t line (tree.fields (map plain_field (drop (i + 1) xs))) ≡ all
-next_field xs i x s r left items items' t line all h is size r_is items_is known =
+    → r ≡ followed s (field_code s.constants (plain_field x) (nat_eq left 0) n t s.made line) (made_by_field (plain_field x))
+    → m ≡ items_behind (plain_field x) n
+    → fields_from s n t line (tree.fields (map plain_field (drop i xs))) ≡ all → fields_from r m t line (tree.fields (map plain_field (drop (i + 1) xs))) ≡ all
+next_field xs i x s r left n m t line all h is size r_is items_are known =
     let fs = tree.fields (map plain_field (drop (i + 1) xs)) in
     let decides : nat_eq left 0 ≡ is_none fs = sym (last_field (drop (i + 1) xs) ∙ ap (λ n. nat_eq n 0) (left_behind xs i left size)) in
-    ap (λ q. fields_from q items' t line fs) r_is
-    ∙ ap (λ b. fields_from (followed s (field_code s.constants (plain_field x) b items t s.made line) (made_by_field (plain_field x))) items' t line fs) decides
-    ∙ ap (λ n. fields_from (followed s (field_code s.constants (plain_field x) (is_none fs) items t s.made line) (made_by_field (plain_field x))) n t line fs) items_is
-    ∙ sym (field_step s items t line (plain_field x) fs)
-    ∙ sym (ap (λ l. fields_from s items t line (tree.fields (map plain_field l))) (front xs i x h is))
+    ap (λ q. fields_from q m t line fs) r_is
+    ∙ ap (λ b. fields_from (followed s (field_code s.constants (plain_field x) b n t s.made line) (made_by_field (plain_field x))) m t line fs) decides
+    ∙ ap (λ y. fields_from (followed s (field_code s.constants (plain_field x) (is_none fs) n t s.made line) (made_by_field (plain_field x))) y t line fs) items_are
+    ∙ sym (field_step s n t line (plain_field x) fs)
+    ∙ sym (ap (λ l. fields_from s n t line (tree.fields (map plain_field l))) (front xs i x h is))
     ∙ known
 
 pub all_fields :
-    (xs : List Field) (i : ℕ) (s : Listing) (items t line : ℕ) (all : Listing)
-    → length xs ≤ i → fields_from s items t line (tree.fields (map plain_field (drop i xs))) ≡ all → followed s [] 0 ≡ all
-all_fields xs i s items t line all h known = sym (ap (λ l. fields_from s items t line (tree.fields (map plain_field l))) (drop_all i xs h)) ∙ known
+    (xs : List Field) (i : ℕ) (s q : Listing) (n : Items) (t line : ℕ) (all : Listing)
+    → length xs ≤ i → q ≡ listed s (waiting_code n.stored n.waiting t line) → fields_from s n t line (tree.fields (map plain_field (drop i xs))) ≡ all → q ≡ all
+all_fields xs i s q n t line all h q_is known =
+    q_is
+    ∙ sym (none_made s (waiting_code n.stored n.waiting t line))
+    ∙ sym (ap (λ l. fields_from s n t line (tree.fields (map plain_field l))) (drop_all i xs h))
+    ∙ known
+
+-- a constructor: its table, and then its fields
+
+abbrev pub opened : Listing → (t line : ℕ) → Listing
+opened s t line = listed (listed s (with_abc NewTable t 0 0 line ∷ [])) ((op_ax ExtraArg 0, line) ∷ [])
+
+pub table_written : (s q : Listing) (t line : ℕ) (fs : tree.Fields) → q ≡ fields_from (opened s t line) (so_many 0 0) t line fs → q ≡ followed s (exp_code s.constants (tree.Table line fs) t s.made 2) (made_in_fields fs)
+table_written s q t line fs written =
+    let table = with_abc NewTable t 0 0 line ∷ [] in
+    let extra = (op_ax ExtraArg 0, line) ∷ [] in
+    let code = fields_code s.constants fs 0 0 t s.made line in
+    written ∙ after_listed (listed s table) extra code (made_in_fields fs) ∙ after_listed s table (extra ++ code) (made_in_fields fs)

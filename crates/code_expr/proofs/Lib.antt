@@ -8,6 +8,7 @@ pub mod FieldSeats
 pub mod TargetSeats
 pub mod Rows
 pub mod Ends
+pub mod Waiting
 pub mod Going
 pub mod Patching
 pub mod Leading

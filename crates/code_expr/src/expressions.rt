@@ -2,18 +2,19 @@
 ghost use Rattle.std.specs.Prelude.{◌≡◌, ◌+◌, ◌++◌, OnOk, IfOk, map, nat_eq};
 ghost use Rattle.tree_core.specs.Tree.{exps, fields, Call, Method, Index, Binary, Unary, Table};
 ghost use Rattle.tree_core.specs.Plain.{plain_exp, plain_exps, plain_field};
-ghost use Rattle.code_of.specs.Expressions.{exp_code, exps_code, made_by, made_in, made_in_fields, made_by_field};
+ghost use Rattle.code_of.specs.Expressions.{exp_code, exps_code, waiting_code, made_by, made_in, made_in_fields, made_by_field};
 ghost use Rattle.code_of.specs.Operands.{local_of, seat, unless};
 ghost use Rattle.code_of.specs.Parts.{direct_code};
 ghost use Rattle.code_expr.specs.Listing.{followed};
 ghost use Rattle.code_expr.specs.declared.operands.Second.TheVariants.{Register};
 ghost use Rattle.code_expr.specs.Operands.{stays_code, stays_made, stays_at};
-ghost use Rattle.code_expr.specs.Parts.{item_code, keyed_code, field_code, items_after};
+ghost use Rattle.code_expr.specs.Parts.{so_many, keyed_code, field_code, items_behind};
 ghost use Rattle.code_expr.specs.Testing.{either_value};
 
 use crate::chains::joins;
 use crate::emitter::{Emitter, next};
-use crate::lists::{field_where, fills, item_field, list_field, stored_field, wanted_where};
+use crate::items::{Items, plus};
+use crate::lists::{field_where, fills, list_field, wanted_where};
 use crate::operands::{Operands, Second, key_staying, local_of};
 use crate::quiet::is_quiet;
 use code_core::Opcode;
@@ -272,12 +273,16 @@ impl Emitter {
     {
         self.put_abc(Opcode::NewTable, target, 0, 0, line)?;
         self.put_ax(Opcode::ExtraArg, 0, line)?;
-        let mut items = 0;
+        let mut items = Items {
+            stored: 0,
+            waiting: 0,
+        };
         let mut left = list.len();
         for field in list.iter() {
             left -= 1;
             items = self.field(field, left, items, target, line)?;
         }
+        self.store_items(items.stored, items.waiting, target, line)?;
         Ok(())
     }
 
@@ -287,56 +292,45 @@ impl Emitter {
         &mut self,
         field: &Field,
         left: usize,
-        items: usize,
+        items: Items,
         target: usize,
-        line: u32,
-    ) -> Result<usize, AllocError>
-        ensures code { OnOk result (self.new ≡ followed self.old (field_code self.old.constants (plain_field field.now) (nat_eq left 0) items target self.old.made line) (made_by_field (plain_field field.now))) }
-        ensures items { IfOk result (λ n. n ≡ items_after (plain_field field.now) items) }
+        table_line: u32,
+    ) -> Result<Items, AllocError>
+        ensures code { OnOk result (self.new ≡ followed self.old (field_code self.old.constants (plain_field field.now) (nat_eq left 0) items target self.old.made table_line) (made_by_field (plain_field field.now))) }
+        ensures items { IfOk result (λ n. n ≡ items_behind (plain_field field.now) items) }
     {
         match field {
-            Field::Item(value) => {
-                self.item(value, fills(value, left), items, target, line)?;
-                next(items)
-            }
+            Field::Item(value) => self.item(value, fills(value, left), items, target, table_line),
             Field::Keyed { line, key, value } => {
-                self.keyed(key, value, target, *line)?;
-                Ok(items)
+                self.keyed(key, value, items, target, *line, table_line)
             }
         }
     }
 
-    /// Writes an item of a constructor, of which all values are wanted or the first one.
+    /// Writes a field of a constructor with its key, behind the items that wait.
     #[cycle(expressions)]
-    fn item(
+    fn keyed(
         &mut self,
+        key: &Exp,
         value: &Exp,
-        whole: bool,
-        items: usize,
+        items: Items,
         target: usize,
         line: u32,
-    ) -> Result<(), AllocError>
-        ensures { OnOk result (self.new ≡ followed self.old (item_code self.old.constants (plain_exp value.now) whole items target self.old.made line) (made_by (plain_exp value.now))) }
-    {
-        let above = next(target)?;
-        self.expression(value, above, item_field(whole))?;
-        self.set_list(target, stored_field(whole), items, line)?;
-        Ok(())
-    }
-
-    /// Writes a field of a constructor with its key.
-    #[cycle(expressions)]
-    fn keyed(&mut self, key: &Exp, value: &Exp, target: usize, line: u32) -> Result<(), AllocError>
-        ensures { OnOk result (self.new ≡ followed self.old (keyed_code self.old.constants (plain_exp key.now) (plain_exp value.now) target self.old.made line) (made_by (plain_exp key.now) + made_by (plain_exp value.now))) }
+        table_line: u32,
+    ) -> Result<Items, AllocError>
+        ensures code { OnOk result (self.new ≡ followed self.old (waiting_code items.stored items.waiting target table_line ++ keyed_code self.old.constants (plain_exp key.now) (plain_exp value.now) target self.old.made line) (made_by (plain_exp key.now) + made_by (plain_exp value.now))) }
+        ensures items { IfOk result (λ n. n ≡ so_many (items.stored + items.waiting) 0) }
     {
         let above = next(target)?;
         let top = next(above)?;
+        let stored = plus(items.stored, items.waiting)?;
+        self.store_items(items.stored, items.waiting, target, table_line)?;
         let seat = self.value_seat(value);
         let quiet = is_quiet(value);
         let stands = self.key_seat(quiet, key);
         self.write_key(stands, key, above)?;
         self.write_value(seat, value, top)?;
         self.put_value(stands, seat, target, above, top, line)?;
-        Ok(())
+        Ok(Items { stored, waiting: 0 })
     }
 }

@@ -9,6 +9,7 @@ mod constants;
 mod direct;
 mod emitter;
 mod expressions;
+mod items;
 mod keeping;
 mod lists;
 mod names;

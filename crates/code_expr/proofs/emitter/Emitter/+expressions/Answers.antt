@@ -1,4 +1,4 @@
-use Rattle.std.proofs.Common.{arith, rules, ◌≡◌, ℕ, suc, ◌+◌, ◌-◌, ◌<◌, ◌&&◌, true, false, [], ◌∷◌, ◌++◌, cond, refl, sym, ap, ◌∙◌, subst, Some, None, length, map}
+use Rattle.std.proofs.Common.{arith, rules, ◌≡◌, ℕ, suc, ◌+◌, ◌-◌, ◌<◌, ◌≤◌, ◌&&◌, true, false, [], ◌∷◌, ◌++◌, cond, refl, sym, ap, ◌∙◌, subst, Some, None, length, map}
 use Rattle.std.specs.Prelude.{nat_eq, IfOk}
 use Rattle.tree_core.specs.Tree as tree
 use Rattle.tree_core.specs.declared.operator.UnOp.TheVariants.{Not as Negation}
@@ -19,10 +19,13 @@ use Rattle.code_of.specs.Chains.{continues, links, unjoined, chain_code}
 use Rattle.code_expr.proofs.ConstantSeats.{operation_written}
 use Rattle.code_of.specs.Operators.{self_code, prefix_code, operator_code, number_code}
 use Rattle.code_expr.proofs.Seats.{local_written, seated_written, seated_stand, done_written}
-use Rattle.code_of.specs.Expressions.{exp_code, exps_code, set_list, list_field, made_by, made_in}
+use Rattle.code_of.specs.Expressions.{exp_code, exps_code, set_list, waiting_code, list_field, made_by, made_in}
+use Rattle.code_of.specs.Items.{waits}
 use Rattle.code_expr.specs.Listing.{listed, followed}
 use Rattle.code_expr.proofs.Joining.{then_made, then_listed, listed_then}
-use Rattle.code_expr.proofs.Going.{fields_from, next_exp, next_field}
+use Rattle.code_expr.specs.Parts.{so_many, item_behind, keyed_code}
+use Rattle.code_expr.proofs.Going.{fields_from, next_exp, next_field, all_fields, table_written}
+use Rattle.code_expr.proofs.Waiting.{held_written, held_behind, alone_written, one_waits, one_alone}
 use Rattle.code_expr.proofs.Links.{whole_written, chain_is_binary, link_written, link_counted, last_written, last_counted, apart_ends, joined_written}
 use Rattle.std.proofs.lemmas.Result.{on_ok_weaker, IfOk-weaker}
 use Rattle.std.proofs.Common.{ap₂}
@@ -253,7 +256,7 @@ pub table-loop-field-init : goal.table-loop-field-init
 table-loop-field-init t c =
     let size : c.len-left.result ≡ length c.args.list.now.items = search rules in (
       omega (arith, size),
-      ap₂ (λ s l. fields_from s 0 c.args.target c.args.line (tree.fields (map plain_field l)))
+      ap₂ (λ s l. fields_from s (so_many 0 0) c.args.target c.args.line (tree.fields (map plain_field l)))
           (c.in_ok-put_ax.ensures ∙ ap (λ s. listed s ((op_ax ExtraArg 0, c.args.line) ∷ [])) c.in_ok-put_abc.ensures) c.deref-field-items.ensures.value,
     )
 
@@ -267,33 +270,88 @@ table-loop-field-preserved t c =
           c.args.line _ inside c.field-item.is size c.in_ok-items.ensures.code c.in_ok-items.ensures.items c.loop-field.invariant.1,
     )
 
-pub item-returns : goal.item-returns
-item-returns t c =
-    let field : c.item_field.result ≡ cond c.args.whole 0 2 = c.item_field.ensures in
-    let value : c.expression.new.self ≡ followed c.args.self.now (exp_code c.args.self.now.constants (plain_exp c.args.value.now) (c.args.target + 1) c.args.self.now.made (cond c.args.whole 0 2)) (made_by (plain_exp c.args.value.now)) =
-    rw c.in_ok-above.ensures at rw field at c.in_ok-expression.ensures in
-    let stored : c.set_list.new.self ≡ listed c.expression.new.self (set_list c.args.target (cond c.args.whole 0 1) c.args.items c.args.line) =
-    rw c.stored_field.ensures at c.in_ok-set_list.ensures in
-    then_listed c.args.self.now c.expression.new.self c.set_list.new.self (exp_code c.args.self.now.constants (plain_exp c.args.value.now) (c.args.target + 1) c.args.self.now.made (cond c.args.whole 0 2)) (made_by (plain_exp c.args.value.now))
-    (λ k. set_list c.args.target (cond c.args.whole 0 1) c.args.items c.args.line) value stored
+pub table-returns : goal.table-returns
+table-returns t c =
+    let over : length c.deref-field-items.result.now ≤ c.loop-field.field-index = omega (arith, c.loop-field-test.false) in
+    table_written c.args.self.now c.store_items.new.self c.args.target c.args.line (tree.fields (map plain_field c.args.list.now.items))
+    (all_fields c.deref-field-items.result.now c.loop-field.field-index c.loop-field.self c.store_items.new.self c.loop-field.items c.args.target c.args.line _ over c.in_ok-store_items.ensures c.loop-field.invariant.1)
 
-pub keyed-returns : goal.keyed-returns
-keyed-returns t c =
+pub item-returns-then-waits-clause-code : goal.item-returns-then-waits-clause-code
+item-returns-then-waits-clause-code t c =
+    let e = plain_exp c.args.value.now in
+    let w : waits e ≡ true = sym c.waits.ensures ∙ c.if-waits.true in
+    on_ok_weaker c.waiting_item.result
+    (λ h. h ∙ ap (λ code. followed c.args.self.now code (made_by e)) (one_waits c.args.self.now.constants e c.args.whole c.args.items c.args.target c.args.self.now.made c.args.line w)) c.waiting_item.ensures.code
+
+pub item-returns-then-waits-clause-items : goal.item-returns-then-waits-clause-items
+item-returns-then-waits-clause-items t c =
+    let e = plain_exp c.args.value.now in
+    let w : waits e ≡ true = sym c.waits.ensures ∙ c.if-waits.true in
+    IfOk-weaker c.waiting_item.result (λ n. n ≡ item_behind true c.args.items) (λ n. n ≡ item_behind (waits e) c.args.items) (λ n h. h ∙ ap (λ b. item_behind b c.args.items) (sym w)) c.waiting_item.ensures.items
+
+pub item-returns-clause-code : goal.item-returns-clause-code
+item-returns-clause-code t c =
+    let e = plain_exp c.args.value.now in
+    let w : waits e ≡ false = sym c.waits.ensures ∙ c.if-waits.false in
+    on_ok_weaker c.lone_item.result
+    (λ h. h ∙ ap (λ code. followed c.args.self.now code (made_by e)) (one_alone c.args.self.now.constants e c.args.whole c.args.items c.args.target c.args.self.now.made c.args.line w)) c.lone_item.ensures.code
+
+pub item-returns-clause-items : goal.item-returns-clause-items
+item-returns-clause-items t c =
+    let e = plain_exp c.args.value.now in
+    let w : waits e ≡ false = sym c.waits.ensures ∙ c.if-waits.false in
+    IfOk-weaker c.lone_item.result (λ n. n ≡ item_behind false c.args.items) (λ n. n ≡ item_behind (waits e) c.args.items) (λ n h. h ∙ ap (λ b. item_behind b c.args.items) (sym w)) c.lone_item.ensures.items
+
+pub waiting_item-returns-clause-code : goal.waiting_item-returns-clause-code
+waiting_item-returns-clause-code t c =
+    let items = c.args.items in
+    let at : c.in_ok-register.register ≡ c.args.target + 1 + items.waiting = omega (arith, c.in_ok-above.ensures, c.in_ok-register.ensures) in
+    held_written c.args.self.now c.expression.new.self c.store_full.new.self (plain_exp c.args.value.now) items.stored items.waiting c.in_ok-waiting.waiting c.in_ok-register.register c.args.target c.args.line
+    at c.in_ok-waiting.ensures c.in_ok-expression.ensures c.in_ok-behind.ensures.code
+
+pub waiting_item-returns-clause-items : goal.waiting_item-returns-clause-items
+waiting_item-returns-clause-items t c = c.in_ok-behind.ensures.items ∙ held_behind c.args.items c.in_ok-waiting.waiting c.in_ok-waiting.ensures
+
+pub lone_item-returns-clause-code : goal.lone_item-returns-clause-code
+lone_item-returns-clause-code t c =
+    let e = plain_exp c.args.value.now in
+    let items = c.args.items in
+    let r = c.store_items.new.self in
+    let field : c.item_field.result ≡ cond c.args.whole 0 2 = c.item_field.ensures in
+    let value : c.expression.new.self ≡ followed r (exp_code r.constants e (c.args.target + 1) r.made (cond c.args.whole 0 2)) (made_by e) = rw c.in_ok-above.ensures at rw field at c.in_ok-expression.ensures in
+    let stored : c.set_list.new.self ≡ listed c.expression.new.self (set_list c.args.target (cond c.args.whole 0 1) (items.stored + items.waiting) c.args.line) =
+    rw c.in_ok-count.ensures at rw c.stored_field.ensures at c.in_ok-set_list.ensures in
+    alone_written c.args.self.now r c.expression.new.self c.set_list.new.self e (cond c.args.whole 0 2) (cond c.args.whole 0 1) items.stored items.waiting (c.args.target + 1) c.args.target c.args.line
+    c.in_ok-store_items.ensures value stored
+
+pub lone_item-returns-clause-items : goal.lone_item-returns-clause-items
+lone_item-returns-clause-items t c =
+    let items = c.args.items in
+    let all : c.in_ok-stored.stored ≡ items.stored + items.waiting + 1 = omega (arith, c.in_ok-stored.ensures, c.in_ok-count.ensures) in
+    ap (λ n. so_many n 0) all
+
+pub keyed-returns-clause-code : goal.keyed-returns-clause-code
+keyed-returns-clause-code t c =
+    let r = c.store_items.new.self in
     let key = plain_exp c.args.key.now in
     let e = plain_exp c.args.value.now in
-    let s = key_seat (field_key c.args.self.now.constants (is_quiet e) key) in
+    let s = key_seat (field_key r.constants (is_quiet e) key) in
     let one = c.in_ok-above.ensures in
     let two : c.in_ok-top.top ≡ c.args.target + 2 = omega (arith, c.in_ok-above.ensures, c.in_ok-top.ensures) in
     let stands : c.key_seat-stands.result ≡ s = rw c.is_quiet-quiet.ensures at c.key_seat-stands.ensures in
-    let made : c.write_key.new.self ≡ followed c.args.self.now (seat_code s (exp_code c.args.self.now.constants key (c.args.target + 1) c.args.self.now.made 2)) (seat_made s (made_by key)) =
-    rw one at rw stands at c.in_ok-write_key.ensures in
-    let v = value_place (stored_value c.args.self.now.constants e) in
+    let made : c.write_key.new.self ≡ followed r (seat_code s (exp_code r.constants key (c.args.target + 1) r.made 2)) (seat_made s (made_by key)) = rw one at rw stands at c.in_ok-write_key.ensures in
+    let v = value_place (stored_value r.constants e) in
     let held : c.value_seat-seat.result ≡ v = c.value_seat-seat.ensures in
     let value : c.write_value.new.self ≡ followed c.write_key.new.self (place_code v (exp_code c.write_key.new.self.constants e (c.args.target + 2) c.write_key.new.self.made 2)) (place_made v (made_by e)) =
     rw two at rw held at c.in_ok-write_value.ensures in
     let store : c.put_value.new.self ≡ listed c.write_value.new.self (place_store s v c.args.target (c.args.target + 1) (c.args.target + 2) c.args.line ∷ []) =
     rw two at rw one at rw held at rw stands at c.in_ok-put_value.ensures in
-    keyed_written c.args.self.now c.write_key.new.self c.write_value.new.self c.put_value.new.self c.args.line key e c.args.target made value store
+    let before = waiting_code c.args.items.stored c.args.items.waiting c.args.target c.args.table_line in
+    listed_then c.args.self.now r c.put_value.new.self before (λ k j. keyed_code k key e c.args.target j c.args.line) (made_by key + made_by e) c.in_ok-store_items.ensures
+    (keyed_written r c.write_key.new.self c.write_value.new.self c.put_value.new.self c.args.line key e c.args.target made value store)
+
+pub keyed-returns-clause-items : goal.keyed-returns-clause-items
+keyed-returns-clause-items t c = ap (λ n. so_many n 0) c.in_ok-stored.ensures
 
 -- conditions
 

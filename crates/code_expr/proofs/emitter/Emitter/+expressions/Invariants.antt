@@ -1,5 +1,5 @@
 -- What is left of a list leads to what the whole list leads to.
-use Rattle.std.proofs.Common.{◌≡◌, ◌+◌, ◌*◌, [], ◌∷◌, length, map, drop, max, List, ℕ}
+use Rattle.std.proofs.Common.{◌≡◌, ◌+◌, ◌*◌, length, map, drop, max, List, ℕ}
 use denote.Param.Weighed.{most, w_this}
 use Rattle.tree_core.specs.declared.tree.Exp.{Exp}
 use Rattle.tree_core.specs.declared.tree.Field.{Field}
@@ -7,11 +7,8 @@ use Rattle.tree_core.proofs.tree.Exp.TheLaws.{the_size}
 use Rattle.tree_core.proofs.tree.Field.TheLaws.{the_size as field_size}
 use Rattle.tree_core.specs.Tree.{exps, fields}
 use Rattle.tree_core.specs.Plain.{plain_exps, plain_field}
-use Rattle.code_core.specs.declared.opcode.Opcode.TheVariants.{NewTable, ExtraArg}
-use Rattle.code_core.specs.Instruction.{op_ax}
-use Rattle.code_of.specs.Coded.{with_abc}
-use Rattle.code_expr.specs.Listing.{listed}
-use Rattle.code_expr.proofs.Going.{list_from, fields_from}
+use Rattle.code_expr.specs.Parts.{so_many}
+use Rattle.code_expr.proofs.Going.{list_from, fields_from, opened}
 use Rattle.code_expr.proofs.emitter.Emitter.+expressions.Given as goal
 
 abbrev pub invariant-list-loop-exp : goal.invariant-list-loop-exp
@@ -22,7 +19,7 @@ invariant-list-loop-exp l =
 abbrev pub invariant-table-loop-field : goal.invariant-table-loop-field
 invariant-table-loop-field l =
     (l.left + l.field-index ≡ length l.list.items)
-    × (fields_from l.self l.items l.target l.line (fields (map plain_field (drop l.field-index l.field-items))) ≡ fields_from (listed (listed l.fn.self (with_abc NewTable l.fn.target 0 0 l.fn.line ∷ [])) ((op_ax ExtraArg 0, l.fn.line) ∷ [])) 0 l.fn.target l.fn.line (fields (map plain_field l.list.items)))
+    × (fields_from l.self l.items l.target l.line (fields (map plain_field (drop l.field-index l.field-items))) ≡ fields_from (opened l.fn.self l.fn.target l.fn.line) (so_many 0 0) l.fn.target l.fn.line (fields (map plain_field l.list.items)))
 
 -- a function with two parts of a tree is measured by the greater one
 
@@ -102,7 +99,13 @@ abbrev pub decreases-field : goal.decreases-field
 decreases-field l = 7 * field_size l.field.now
 
 abbrev pub decreases-item : goal.decreases-item
-decreases-item l = 7 * the_size l.value.now + 1
+decreases-item l = 7 * the_size l.value.now + 2
+
+abbrev pub decreases-waiting_item : goal.decreases-waiting_item
+decreases-waiting_item l = 7 * the_size l.value.now + 1
+
+abbrev pub decreases-lone_item : goal.decreases-lone_item
+decreases-lone_item l = 7 * the_size l.value.now + 1
 
 abbrev pub decreases-keyed : goal.decreases-keyed
 decreases-keyed l = 7 * max (the_size l.key.now) (the_size l.value.now) + 2

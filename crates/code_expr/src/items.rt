@@ -1,0 +1,171 @@
+// Items of a constructor (Lua 5.4 manual, 3.4.9). Those during whose evaluation nothing is asked wait in registers behind the table's, and are stored together.
+ghost use Rattle.std.specs.Prelude.{◌≡◌, ◌+◌, true, false, [], OnOk, IfOk, cond};
+ghost use Rattle.tree_core.specs.Plain.{plain_exp};
+ghost use Rattle.code_of.specs.Expressions.{exp_code, made_by, set_list, waiting_code};
+ghost use Rattle.code_of.specs.Items.{is_own, waits, is_full};
+ghost use Rattle.code_expr.specs.Listing.{listed, followed};
+ghost use Rattle.code_expr.specs.Parts.{so_many, held_code, alone_code, item_behind, one_item};
+
+use crate::emitter::{Emitter, next};
+use crate::lists::{item_field, stored_field};
+use std::alloc::AllocError;
+use tree_core::{Exp, ExpNode, Name, Place, UnOp};
+
+/// How many items of a constructor are stored, and how many wait.
+#[derive(Clone, Copy, Debug, PartialEq, Eq)]
+pub(crate) struct Items {
+    /// How many are stored.
+    pub(crate) stored: usize,
+    /// How many wait in the registers behind the table's.
+    pub(crate) waiting: usize,
+}
+
+/// The sum of two numbers. For as many things as `usize` counts there is no memory.
+pub(crate) fn plus(first: usize, second: usize) -> Result<usize, AllocError>
+    ensures { IfOk result (λ n. n ≡ first + second) }
+{
+    first.checked_add(second).ok_or(AllocError)
+}
+
+/// Whether a name is that of a local variable.
+fn is_own(name: &Name) -> bool
+    ensures { result ≡ is_own name.now.place }
+{
+    match name.place {
+        Place::Local(_) => true,
+        Place::Unset | Place::Upvalue(_) | Place::GlobalIn(_) | Place::GlobalOf(_) => false,
+    }
+}
+
+/// Whether an item waits.
+fn waits(exp: &Exp) -> bool
+    ensures { result ≡ waits (plain_exp exp.now) }
+{
+    match &exp.node {
+        ExpNode::Var(name) => is_own(name),
+        ExpNode::Unary(op, inner) => match op {
+            UnOp::Not => waits(inner),
+            UnOp::Neg | UnOp::BitNot | UnOp::Len => false,
+        },
+        ExpNode::Paren(inner) => waits(inner),
+        ExpNode::Nil | ExpNode::True | ExpNode::False | ExpNode::Int(_) | ExpNode::Str(_) => true,
+        ExpNode::Vararg
+        | ExpNode::Function(_)
+        | ExpNode::Index(_, _)
+        | ExpNode::Call(_, _)
+        | ExpNode::Method(_, _, _)
+        | ExpNode::Binary(_, _, _)
+        | ExpNode::And(_, _)
+        | ExpNode::Or(_, _)
+        | ExpNode::Table(_) => false,
+    }
+}
+
+/// Whether the items that wait are stored behind one with which there are so many.
+fn is_full(items: usize) -> bool
+    ensures { result ≡ is_full items }
+{
+    items % 50 == 0
+}
+
+impl Emitter {
+    /// Stores the items that wait, behind those that are stored.
+    pub(crate) fn store_items(
+        &mut self,
+        stored: usize,
+        waiting: usize,
+        target: usize,
+        line: u32,
+    ) -> Result<(), AllocError>
+        ensures { OnOk result (self.new ≡ listed self.old (waiting_code stored waiting target line)) }
+    {
+        if waiting == 0 {
+            return Ok(());
+        }
+        self.set_list(target, waiting, stored, line)?;
+        Ok(())
+    }
+
+    /// Stores the items that wait if there are as many as are stored at once, and answers how many there are then.
+    fn store_full(
+        &mut self,
+        stored: usize,
+        waiting: usize,
+        target: usize,
+        line: u32,
+    ) -> Result<Items, AllocError>
+        ensures code { OnOk result (self.new ≡ listed self.old (cond (is_full (stored + waiting)) (set_list target waiting stored line) [])) }
+        ensures items { IfOk result (λ n. n ≡ cond (is_full (stored + waiting)) (so_many (stored + waiting) 0) (so_many stored waiting)) }
+    {
+        let count = plus(stored, waiting)?;
+        if !is_full(count) {
+            return Ok(Items { stored, waiting });
+        }
+        self.set_list(target, waiting, stored, line)?;
+        Ok(Items {
+            stored: count,
+            waiting: 0,
+        })
+    }
+
+    /// Writes an item, of which all values are wanted or the first one, and answers how many there are then.
+    #[cycle(expressions)]
+    pub(crate) fn item(
+        &mut self,
+        value: &Exp,
+        whole: bool,
+        items: Items,
+        target: usize,
+        line: u32,
+    ) -> Result<Items, AllocError>
+        ensures code { OnOk result (self.new ≡ followed self.old (one_item self.old.constants (plain_exp value.now) whole items target self.old.made line) (made_by (plain_exp value.now))) }
+        ensures items { IfOk result (λ n. n ≡ item_behind (waits (plain_exp value.now)) items) }
+    {
+        if waits(value) {
+            return self.waiting_item(value, items, target, line);
+        }
+        self.lone_item(value, whole, items, target, line)
+    }
+
+    /// Writes an item that waits.
+    #[cycle(expressions)]
+    fn waiting_item(
+        &mut self,
+        value: &Exp,
+        items: Items,
+        target: usize,
+        line: u32,
+    ) -> Result<Items, AllocError>
+        ensures code { OnOk result (self.new ≡ followed self.old (held_code (is_full (items.stored + items.waiting + 1)) (exp_code self.old.constants (plain_exp value.now) (target + 1 + items.waiting) self.old.made 2) items.stored items.waiting target line) (made_by (plain_exp value.now))) }
+        ensures items { IfOk result (λ n. n ≡ item_behind true items) }
+    {
+        let above = next(target)?;
+        let register = plus(above, items.waiting)?;
+        let waiting = next(items.waiting)?;
+        self.expression(value, register, 2)?;
+        let behind = self.store_full(items.stored, waiting, target, line)?;
+        Ok(behind)
+    }
+
+    /// Writes an item that is stored by itself, behind those that wait.
+    #[cycle(expressions)]
+    fn lone_item(
+        &mut self,
+        value: &Exp,
+        whole: bool,
+        items: Items,
+        target: usize,
+        line: u32,
+    ) -> Result<Items, AllocError>
+        ensures code { OnOk result (self.new ≡ followed self.old (alone_code (exp_code self.old.constants (plain_exp value.now) (target + 1) self.old.made (cond whole 0 2)) items.stored items.waiting (cond whole 0 1) target line) (made_by (plain_exp value.now))) }
+        ensures items { IfOk result (λ n. n ≡ item_behind false items) }
+    {
+        let above = next(target)?;
+        let count = plus(items.stored, items.waiting)?;
+        let stored = next(count)?;
+        self.store_items(items.stored, items.waiting, target, line)?;
+        self.expression(value, above, item_field(whole))?;
+        self.set_list(target, stored_field(whole), count, line)?;
+        Ok(Items { stored, waiting: 0 })
+    }
+}
