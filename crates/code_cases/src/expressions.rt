@@ -9,7 +9,7 @@ use std::test::Fail;
 use tree_core::{Block, Body, Exp};
 
 // Sources that return an expression, the register for its value, and the words of its code.
-static WORDS: [(&[u8], u8, &[u32]); 34] = [
+static WORDS: [(&[u8], u8, &[u32]); 37] = [
     (b"return nil", 3, &[0x188]),
     (b"return 5", 0, &[0x8002_0001]),
     (b"return 65537", 1, &[0x83]),
@@ -138,6 +138,42 @@ static WORDS: [(&[u8], u8, &[u32]); 34] = [
         1,
         &[0x93, 0x52, 0x92, 0x90, 0x0102_8091],
     ),
+    // constants, locals and `not` of these wait above the table, and are stored together in front of a key and at the end
+    (
+        b"local x return {x, 7, not x, [x] = x, x}",
+        1,
+        &[
+            0x93,
+            0x52,
+            0x0100,
+            0x8003_0181,
+            0x0233,
+            0x0003_00ce,
+            0x90,
+            0x0100,
+            0x0301_00ce,
+        ],
+    ),
+    // they are stored in front of an item that asks for something
+    (
+        b"local x return {x, #x, x}",
+        1,
+        &[
+            0x93,
+            0x52,
+            0x0100,
+            0x0001_00ce,
+            0x0134,
+            0x0101_00ce,
+            0x0100,
+            0x0201_00ce,
+        ],
+    ),
+    (
+        b"local x return {x, x, ...}",
+        1,
+        &[0x93, 0x52, 0x0100, 0x0180, 0x0002_00ce, 0x0150, 0x0200_00ce],
+    ),
 ];
 
 // The expressions behind the `return` of a source.
@@ -198,6 +234,34 @@ fn open_lists_end_by_all_values(rt: HostRuntime) -> Result<(), Fail> {
     assert_eq!(rt;
         words(&emitter, alloc)?.as_slice(),
         [0x80, 0x0103, 0x01d0].as_slice()
+    );
+    Ok(())
+}
+
+// behind the fiftieth item all are stored, and the next one waits alone
+#[test]
+fn fifty_items_are_stored_at_once(rt: HostRuntime) -> Result<(), Fail> {
+    let alloc = rt.alloc();
+    let mut source = Vec::new(alloc);
+    source.extend_from_slice(b"return {")?;
+    for _ in 0..51 {
+        source.extend_from_slice(b"0,")?;
+    }
+    source.extend_from_slice(b"}")?;
+    let list = returned(alloc, source.as_slice())?;
+    let Some(exp) = list.first() else {
+        return Err(Fail::from("an empty list"));
+    };
+    let words = expression_words(alloc, exp, 0)?;
+    let code = words.as_slice();
+    assert_eq!(rt; code.len(), 55);
+    assert_eq!(rt;
+        &code[..4],
+        [0x13, 0x52, 0x7fff_8081, 0x7fff_8101].as_slice()
+    );
+    assert_eq!(rt;
+        &code[51..],
+        [0x7fff_9901, 0x0032_004e, 0x7fff_8081, 0x3201_004e].as_slice()
     );
     Ok(())
 }

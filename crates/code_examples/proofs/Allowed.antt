@@ -7,7 +7,7 @@ use Rattle.code_core.specs.Prototype.{Prototype, list_of}
 use Rattle.code_core.specs.Check.{rules, is_sized, is_described}
 use Rattle.code_examples.proofs.Vectors.{changes_operand_code, last_value_code, spreads_code, faults_code, closes_at_end_code}
 use Rattle.code_examples.proofs.LoopVectors.{repeats_code, breaks_out_code, returns_from_for_code, continues_code, jumps_about_code, leaves_scopes_code, tests_at_once_code}
-use Rattle.code_examples.proofs.MoreVectors.{globals_code, decides_code, chooses_code, calls_method_code, makes_tables_code, swaps_code, numbers_code, tests_code}
+use Rattle.code_examples.proofs.MoreVectors.{globals_code, decides_code, chooses_code, calls_method_code, makes_tables_code, holds_items_code, swaps_code, numbers_code, tests_code}
 
 abbrev places_keep : Prototype → ℕ → List Instruction → Bool
 places_keep p pc [] = true
@@ -23,7 +23,7 @@ jumps_and_calls_keep : list_all all_keep (changes_operand_code ∷ last_value_co
 unfolding opcodes number_of
 jumps_and_calls_keep = refl
 
-tables_and_tests_keep : list_all all_keep (globals_code ∷ decides_code ∷ chooses_code ∷ calls_method_code ∷ makes_tables_code ∷ swaps_code ∷ numbers_code ∷ tests_code ∷ []) ≡ true
+tables_and_tests_keep : list_all all_keep (globals_code ∷ decides_code ∷ chooses_code ∷ calls_method_code ∷ makes_tables_code ∷ holds_items_code ∷ swaps_code ∷ numbers_code ∷ tests_code ∷ []) ≡ true
 unfolding opcodes number_of
 tables_and_tests_keep = refl
 

@@ -11,7 +11,7 @@ use Rattle.int_core.specs.Value.{known, boolean, object, a_table}
 use Rattle.int_core.specs.Ask.{values}
 use Rattle.tree_core.specs.declared.operator.BinOp.TheVariants.{Sub as Minus, Concat as Join, Le as AtMost, Lt as Less, Ne, Gt}
 use Rattle.tree_core.specs.declared.operator.UnOp.TheVariants.{Not as Negation, Neg, Len as Length}
-use Rattle.tree_core.specs.Tree.{Body, If, Int, Vararg, Unary, And, Or, Method, IfElse, arms, exps, Index}
+use Rattle.tree_core.specs.Tree.{Body, If, Int, Vararg, Unary, And, Or, Method, IfElse, arms, exps, Index, Table, fields, Item}
 use Rattle.code_means.proofs.Traces.{number}
 use Rattle.tree_terms.proofs.Forms.{no_variable, of_local, loc, global, int, call, bin, block, returning, assigns, assign, fun, vararg_fun, field}
 use Rattle.code_means.proofs.Forms.{text, variable, load_int, jump, AskAlike, tree_asks, code_asks}
@@ -138,6 +138,23 @@ makes_tables_code = hand 1 false 9 (text "a" ∷ text "b" ∷ text "m" ∷ text 
 tables_code : Compiles makes_tables makes_tables_code
 unfolding opcodes number_of
 tables_code = refl
+
+-- function(o) return {o,3,not o,o.c,o} end
+abbrev holds_items : Body
+holds_items = fun ("o" ∷ []) [] (returning [] (Table 1 (fields (Item (loc "o" 0) ∷ Item (int 3) ∷ Item (Unary 1 Negation (loc "o" 0)) ∷ Item (field (loc "o" 0) "c") ∷ Item (loc "o" 0) ∷ [])) ∷ []))
+
+abbrev pub holds_items_code : Prototype
+holds_items_code = hand 1 false 5 (text "c" ∷ []) [] (variable "o" 0 11 ∷ []) []
+    (abc NewTable 1 0 0 false ∷ op_ax ExtraArg 0 ∷ abc Move 2 0 0 false ∷ load_int 3 3 ∷ abc Not 4 0 0 false ∷ abc SetList 1 3 0 false
+    ∷ abc GetField 2 0 0 false ∷ abc SetList 1 1 3 false ∷ abc Move 2 0 0 false ∷ abc SetList 1 1 4 false ∷ abc Return 1 2 0 true ∷ [])
+
+items_code : Compiles holds_items holds_items_code
+unfolding opcodes number_of
+items_code = refl
+
+items_alike : AskAlike 8 (tree_asks holds_items (object a_table 9 ∷ []) (one (number 7) ∷ [])) (code_asks holds_items_code (object a_table 9 ∷ []) (one (number 7) ∷ []))
+unfolding opcodes number_of int_wrap
+items_alike = (refl, refl)
 
 -- function(t,i) t.x,t[2],t[i]=i,t,i end
 abbrev aims : Body
