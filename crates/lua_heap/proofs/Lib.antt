@@ -1,4 +1,5 @@
 mod Finding
+mod Recalled
 mod Reading
 pub mod Equal
 mod Tables

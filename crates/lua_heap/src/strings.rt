@@ -14,6 +14,8 @@ use table_core::StrId;
 #[derive(Drop)]
 pub struct Strings {
     contents: IndexSet<Vec<u8>>,
+    /// Where strings were found last, by a number of their bytes. What stands there is compared before it is believed.
+    recent: [usize; 256],
 }
 
 impl Model for Strings {
@@ -34,6 +36,7 @@ impl Strings {
     {
         Strings {
             contents: IndexSet::new(alloc),
+            recent: [0; 256],
         }
     }
 
@@ -69,6 +72,45 @@ impl Strings {
         ensures added { OnOk result (self.new ≡ interned self.old bytes.now) }
         ensures err { OnErr result (self.new ≡ self.old) }
     {
+        let number = number_of(bytes);
+        if let Some(id) = self.recalled(number, bytes) {
+            return Ok(id);
+        }
+        let id = self.kept(bytes)?;
+        self.remember(number, id);
+        Ok(id)
+    }
+
+    /// The string with these bytes, where it was found last of those with this number.
+    fn recalled(&self, number: usize, bytes: &[u8]) -> Option<StrId>
+        requires { number < 256 }
+        ensures { IfSome result (λ id. slice_get self.now id.0 ≡ Some bytes.now) }
+    {
+        let id = StrId(self.recent[number]);
+        if id.0 >= self.len() {
+            return None;
+        }
+        if same(self.bytes(id), bytes) {
+            return Some(id);
+        }
+        None
+    }
+
+    /// Notes where a string with this number stands.
+    fn remember(&mut self, number: usize, id: StrId)
+        requires { number < 256 }
+        ensures { self.new ≡ self.old }
+    {
+        self.recent[number] = id.0;
+    }
+
+    /// The string with these bytes, found by its hash, or added. A refusal changes nothing.
+    fn kept(&mut self, bytes: &[u8]) -> Result<StrId, AllocError>
+        requires { length bytes.now ≤ greatest_string }
+        ensures named { IfOk result (λ id. slice_get self.new id.0 ≡ Some bytes.now) }
+        ensures added { OnOk result (self.new ≡ interned self.old bytes.now) }
+        ensures err { OnErr result (self.new ≡ self.old) }
+    {
         if let Some(id) = self.find(bytes) {
             return Ok(id);
         }
@@ -97,5 +139,33 @@ impl Strings {
         ensures { self.new ≡ take count self.old }
     {
         self.contents.truncate(count);
+    }
+}
+
+/// Whether two texts are the same.
+fn same(a: &[u8], b: &[u8]) -> bool
+    ensures { result ≡ bytes_eq a.now b.now }
+{
+    a == b
+}
+
+/// A number below 256 that tells most short texts apart, by their length and two of their bytes.
+fn number_of(bytes: &[u8]) -> usize
+    ensures { result < 256 }
+{
+    let first = usize::from(byte_at(bytes, 0));
+    let last = usize::from(byte_at(bytes, bytes.len().saturating_sub(1)));
+    let mixed = first
+        .wrapping_mul(37)
+        .wrapping_add(last.wrapping_mul(5))
+        .wrapping_add(bytes.len().wrapping_mul(11));
+    mixed % 256
+}
+
+/// The byte of a place, or 0 where there is none.
+fn byte_at(bytes: &[u8], at: usize) -> u8 {
+    match bytes.get(at) {
+        Some(byte) => *byte,
+        None => 0,
     }
 }
