@@ -39,7 +39,8 @@ pub fn put_in_front(
 ) -> Result<Vec<Value>, AllocError>
     ensures { IfOk result (λ all. all.items ≡ front.now ++ values.now) }
 {
-    let mut all = front.to_vec(alloc)?;
+    let mut all = Vec::with_capacity(alloc, front.len().saturating_add(values.len()))?;
+    all.extend_from_slice(front)?;
     all.extend_from_slice(values)?;
     Ok(all)
 }
