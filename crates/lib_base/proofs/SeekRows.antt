@@ -53,6 +53,22 @@ seek_sees vs H =
     by : Shape → Shape → Shape → Shape → Shape → Done
     by a b c d e = looked (seeks (a ∷ b ∷ c ∷ d ∷ e ∷ [])) vs H
 
+-- it sees no more than the first five
+pub seeks_first : (vs : List Value) (a b c d e : Shape) → a ≡ shape (nth vs 0) → b ≡ shape (nth vs 1) → c ≡ shape (nth vs 2) → d ≡ shape (nth vs 3) → e ≡ shape (nth vs 4)
+    → seeks (a ∷ b ∷ c ∷ d ∷ e ∷ []) ≡ seeks (map shape vs)
+seeks_first vs a b c d e p q r s t =
+    ap (λ x. by x b c d e) (p ∙ sym (argument_is vs 0))
+    ∙ ap (λ x. by (seen 1) x c d e) (q ∙ sym (argument_is vs 1))
+    ∙ ap (λ x. by (seen 1) (seen 2) x d e) (r ∙ sym (argument_is vs 2))
+    ∙ ap (λ x. by (seen 1) (seen 2) (seen 3) x e) (s ∙ sym (argument_is vs 3))
+    ∙ ap (λ x. by (seen 1) (seen 2) (seen 3) (seen 4) x) (t ∙ sym (argument_is vs 4))
+  where
+    seen : ℕ → Shape
+    seen i = argument (map shape vs) i
+
+    by : Shape → Shape → Shape → Shape → Shape → Look
+    by a b c d e = seeks (a ∷ b ∷ c ∷ d ∷ e ∷ [])
+
 -- rows written into a new table
 
 put : List (Plain × Plain) → List (Value × Value) → List (Value × Value)

@@ -14,8 +14,9 @@ ghost use Rattle.lib_base.specs.Matches.{numbered_rows};
 ghost use Rattle.lib_base.specs.Raw.{heap_of};
 
 use crate::answer::{Answer, argument};
-use crate::plain::{all_shapes, values_of};
+use crate::plain::values_of;
 use crate::raw::reads_alike;
+use crate::shapes::argument_shape;
 use crate::strings::string;
 use lib_string::Sought;
 use library_arguments::Fault;
@@ -46,9 +47,14 @@ fn sought(world: &World, arguments: &[Value]) -> Result<Option<Sought>, Fault>
     ensures row { IsSought result (seeks (map shape (map (value world.now.strings) arguments.now))) }
     ensures fits { IfOk result (λ found. IfSome found (λ s. list_all fits_length (map known_of s.values.items) ≡ true)) }
 {
-    let shapes = all_shapes(world, arguments)?;
-    let found = lib_string::seek(world.alloc, shapes.as_slice())?;
-    Ok(found)
+    let seen = [
+        argument_shape(world, arguments, 0),
+        argument_shape(world, arguments, 1),
+        argument_shape(world, arguments, 2),
+        argument_shape(world, arguments, 3),
+        argument_shape(world, arguments, 4),
+    ];
+    lib_string::seek(world.alloc, &seen)
 }
 
 /// A match as values.

@@ -1,4 +1,4 @@
-use Rattle.std.proofs.Common.{◌≡◌, [], ◌∷◌, ◌++◌, ap, subst, sym, ◌∙◌}
+use Rattle.std.proofs.Common.{[], ap, subst, sym, ◌∙◌}
 use Rattle.std.specs.Prelude.{map}
 use Rattle.lua_heap.specs.Reading.{value}
 use Rattle.lib_base.specs.declared.answer.Answer.TheVariants.{One, Gives, Raises}
