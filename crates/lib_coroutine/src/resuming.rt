@@ -98,11 +98,20 @@ fn go_on(world: &mut World, co: CoroId) -> Result<Ending, AllocError>
     ensures order { InOrder world.new }
     ensures err { OnErr result (ReadsSame world.old world.new) }
 {
-    let arguments = behind_first(&world.moving).to_vec(world.alloc)?;
     world.chain.reserve(1)?;
     run_suspended(world, co);
-    world.moving = arguments;
+    drop_first(&mut world.moving);
     Ok(hand_over(world))
+}
+
+/// Takes the first value away, if there is one.
+fn drop_first(values: &mut Vec<Value>)
+    ensures { values.new.items ≡ drop 1 values.old.items }
+{
+    if values.is_empty() {
+        return;
+    }
+    values.remove(0);
 }
 
 /// A coroutine that cannot be resumed: the answer is false, and why.
