@@ -1,3 +1,3 @@
-mod Moving
-mod Consulting
+pub mod Moving
+pub mod Consulting
 mod Printed

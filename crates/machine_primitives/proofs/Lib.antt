@@ -1,3 +1,3 @@
 mod Numbered
-mod Reading
+pub mod Reading
 mod Unspent

@@ -17,10 +17,10 @@ use Rattle.machine_primitives.proofs.Unspent.{called_unspent}
 
 -- all sources may be refused
 
-nothing : Builds Body
+pub nothing : Builds Body
 nothing name source = refused_at 0 None
 
-nothing_built : BuildsSources nothing
+pub nothing_built : BuildsSources nothing
 unfolding nothing
 nothing_built name source body e = absurd (cc)
 

@@ -3,4 +3,4 @@
 
 mod primitives;
 
-pub use primitives::primitive;
+pub use primitives::{library_function, primitive};

@@ -5,6 +5,8 @@ ghost use Rattle.load_rows.specs.Loading.{Builds};
 ghost use Rattle.source_builds.specs.Builds.{BuildsSources};
 ghost use Rattle.source_builds.specs.Readings.{AsRead};
 ghost use Rattle.loaded_code.specs.Laws.{library};
+ghost use Rattle.lib_base.specs.Functions.{function_row};
+ghost use Rattle.machine_core.specs.MachineStep.{look_row};
 ghost use Rattle.machine_core.specs.Moves.{traps};
 ghost use Rattle.move_laws.specs.Memory.{HasStack, InOrder, IsSafe, IsSound, Leads, ReadsSame, Steps};
 ghost use Rattle.machine_moves.specs.Ending.{ending_of};
@@ -162,5 +164,15 @@ fn call(world: &mut World, called: Called) -> Result<Ending, AllocError>
         Called::Yield => yield_running(world),
         Called::Build => load(world),
         Called::Print => print(world),
+    }
+}
+
+/// The function of a number, where it looks at values and tables alone.
+pub fn library_function(number: u16) -> Option<Function>
+    ensures { IfSome result (λ function. (builds : Builds Body) → library builds number ≡ look_row (function_row function)) }
+{
+    match of_number(number) {
+        Some(Called::Library(function)) => Some(function),
+        _ => None,
     }
 }
