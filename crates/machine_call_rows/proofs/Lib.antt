@@ -2,3 +2,4 @@ pub mod Beyond
 pub mod Keeping
 pub mod Read
 pub mod InPlace
+mod Primitive

@@ -1,2 +1,3 @@
 pub mod Rows
 pub mod Law
+pub mod Primitives

@@ -125,7 +125,7 @@ pub fn tail_call(
 }
 
 /// The values of one register fewer than `count` from one on, or for 0 those up to the end of the open list.
-fn read_values(world: &World, from: usize, count: usize) -> &[Value]
+pub(crate) fn read_values(world: &World, from: usize, count: usize) -> &[Value]
     requires sound { IsSound world.now }
     requires safe { MayReadValues world.now from count }
     ensures { ReadsValues world.now from count result.now }
@@ -137,7 +137,7 @@ fn read_values(world: &World, from: usize, count: usize) -> &[Value]
 }
 
 /// For what a frame waits that calls.
-fn wait_of_call(iterates: bool) -> Wait
+pub(crate) fn wait_of_call(iterates: bool) -> Wait
     ensures { IsWaitOfCall iterates result }
 {
     if iterates {

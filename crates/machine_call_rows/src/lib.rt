@@ -2,6 +2,10 @@
 #![tactic(auto)]
 
 mod calls;
+mod few;
 pub mod law;
+mod primitives;
 
 pub use calls::{call, tail_call};
+pub use few::Few;
+pub use primitives::{PrimitiveCall, call_primitive};

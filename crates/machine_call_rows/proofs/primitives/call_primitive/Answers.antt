@@ -1,0 +1,31 @@
+use Rattle.std.proofs.Common.{◌+◌, ◌≤◌, ap, length, sym, subst}
+use Rattle.machine_core.specs.Text.{read_register}
+use Rattle.machine_core.specs.FrameRows.{expand}
+use Rattle.lua_heap.specs.Codes.{no_code}
+use Rattle.lua_heap.specs.declared.world.World.{World as Memory}
+use Rattle.move_laws.proofs.Rows.{can_do}
+use Rattle.machine_call_rows.specs.Rows.{ReadsValues}
+use Rattle.machine_call_rows.proofs.Primitive.{calls_primitive_so}
+use Rattle.machine_call_rows.proofs.Read.{call_text, can_prepare, may_read, with_arguments}
+use Rattle.machine_call_rows.proofs.primitives.call_primitive.Goals as goal
+
+pub read_register-called-requires : goal.read_register-called-requires
+read_register-called-requires c =
+    can_do (read_register c.args.function) (λ f s. expand (with_arguments c.args.function c.args.count (call_text c.args.keeps c.args.iterates) f s)) (c.requires.safe no_code 0)
+
+pub read_values-requires-clause-safe : goal.read_values-requires-clause-safe
+read_values-requires-clause-safe c =
+    may_read c.args.function c.args.count (call_text c.args.keeps c.args.iterates) c.read_register-called.result (c.requires.safe no_code 0) c.read_register-called.ensures
+
+pub make_ready-requires-clause-order : goal.make_ready-requires-clause-order
+make_ready-requires-clause-order c = c.requires.sound.order
+
+pub make_ready-requires-clause-ready : goal.make_ready-requires-clause-ready
+make_ready-requires-clause-ready c = can_prepare c.args.world.now c.args.keeps c.requires.sound c.requires.keeps
+
+pub returns-clause-calls : goal.returns-clause-calls
+returns-clause-calls c =
+    let W = c.args.world.now in
+    calls_primitive_so W c.make_ready.new.world c.requires.keeps.place c.args.budget.now c.args.function c.args.count c.args.keeps c.args.iterates c.read_register-called.result c.in-Prim.number c.in_ok-arguments.arguments c.wait_of_call.result
+    c.requires.keeps.is c.if-budget-eq0.false c.in-Prim.is c.read_register-called.ensures (subst (ReadsValues W (c.args.function + 1) c.args.count) (sym c.in_ok-arguments.ensures.same) c.read_values.ensures) c.wait_of_call.ensures c.make_ready.ensures.ready
+    (ap (λ (W : Memory). W.strings) c.make_ready.ensures.rest) (subst (λ vs. length vs ≤ 6) (sym c.in_ok-arguments.ensures.same) c.in_ok-arguments.ensures.fits)

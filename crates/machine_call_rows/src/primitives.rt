@@ -1,0 +1,60 @@
+// Calls of primitives with few arguments, which take no memory (precallC of ldo.c).
+ghost use Rattle.std.specs.Prelude.{◌≡◌, ◌+◌, ◌-◌, ◌<◌, ◌^◌, ℕ, [], IfNone, IfSome};
+ghost use Rattle.code_core.specs.Prototype.{Prototype};
+ghost use Rattle.instruction_forms.specs.Forms.{text_of};
+ghost use Rattle.instruction_forms.specs.declared.form.Form.TheVariants.{Call};
+ghost use Rattle.machine_core.specs.FrameRows.{expand};
+ghost use Rattle.move_laws.specs.Memory.{InOrder, IsSafe, IsSound};
+ghost use Rattle.machine_call_rows.specs.Primitives.{CallsPrimitive};
+ghost use Rattle.machine_call_rows.specs.Rows.{MayKeep};
+
+use crate::calls::{read_values, wait_of_call};
+use crate::few::Few;
+use lua_heap::World;
+use machine_calls::{Prepared, make_ready};
+use machine_moves::read_register;
+use table_core::Value;
+
+/// A primitive that was called: its number, and its arguments.
+#[derive(Debug, Drop)]
+pub struct PrimitiveCall {
+    pub number: u16,
+    pub arguments: Few,
+}
+
+/// Does the call of `call` where the value is a primitive that is given at most six arguments: the frame on top waits, and the call is paid. The arguments
+/// do not move yet. `None`, with all as before, where it is another value, where there are more arguments, and where the budget is spent.
+pub fn call_primitive(
+    world: &mut World,
+    budget: &mut u64,
+    function: usize,
+    count: usize,
+    keeps: usize,
+    iterates: bool,
+) -> Option<PrimitiveCall>
+    requires sound { IsSound world.old }
+    requires keeps { MayKeep world.old keeps }
+    requires near { function + 1 < 2 ^ 64 }
+    requires safe { (p : Prototype) (pc : ℕ) → IsSafe (expand (text_of p pc (Call function count keeps iterates))) [] world.old }
+    ensures calls { IfSome result (λ called. CallsPrimitive world.old world.new budget.old function count keeps iterates called.number called.arguments) }
+    ensures paid { IfSome result (λ called. budget.new ≡ budget.old - 1) }
+    ensures kept { IfNone result ((world.new ≡ world.old) × (budget.new ≡ budget.old)) }
+    ensures order { InOrder world.new }
+    ensures rest { world.new ≡ record world.old { cells = world.new.cells; coros = world.new.coros } }
+{
+    let called = read_register(world, function);
+    let Value::Prim(number) = called else {
+        return None;
+    };
+    if *budget == 0 {
+        return None;
+    }
+    let arguments = Few::of(read_values(world, function + 1, count))?;
+    make_ready(
+        world,
+        wait_of_call(iterates),
+        Prepared::GivenUp { register: keeps },
+    );
+    *budget -= 1;
+    Some(PrimitiveCall { number, arguments })
+}
