@@ -1,0 +1,8 @@
+//! Calls of library functions by a Lua frame, done at once: the call, the function, and what the frame does with the results (luaD_precall and
+//! luaD_poscall of ldo.c of Lua 5.4). The arguments stand in an array, and no value moves through a list.
+#![tactic(auto)]
+
+mod answering;
+mod calls;
+
+pub use calls::{CallAt, call_library};
