@@ -15,6 +15,7 @@ use Rattle.machine_focus.specs.Focus.{Reaches as PlainReaches}
 use Rattle.machine_moves.specs.Ending.{ending_of}
 use Rattle.machine_moves.specs.declared.ending.Ending.{Ending as Kept}
 use Rattle.machine_moves.specs.declared.ending.Ending.TheVariants.{Go}
+use Rattle.machine_library_calls.specs.Calls.{Comes}
 use Rattle.step_laws.specs.Steps.{Does, IsReady}
 use Rattle.running_frame.proofs.Chained.{steps_then}
 use Rattle.lua_driver.specs.Turns.{GoesFurther, Reaches}
@@ -82,13 +83,18 @@ pub ready_to_go : {W : Memory} {ending : Kept} → ending ≡ Go → IsReady (le
 ready_to_go {W} e r = subst (λ e. IsReady (length all_entries) (ending_of e) W) e r
 
 pub at_once : {rows : ℕ → Row} {from to : Ending} {old new : Memory} {fuel left : ℕ} → IsReady (length all_entries) from old → Does rows from old fuel new left to → GoesFurther rows from old fuel new left to
-at_once {old = old} {fuel = fuel} r d = record { mid = old; rest = fuel; reaches = reached_none; ready = r; does = d }
+at_once {from = from} {old = old} {fuel = fuel} r d = record { mid = old; rest = fuel; at = from; goes_on = λ h. h; reaches = reached_none; ready = r; does = d }
+
+pub further_so : {rows : ℕ → Row} {to : Ending} {old new : Memory} {fuel left : ℕ} → Comes rows old fuel new left to → GoesFurther rows go old fuel new left to
+further_so c = record { mid = c.mid; rest = c.rest; at = c.at; goes_on = λ h. c.goes_on; reaches = record { count = c.count; is = c.is }; ready = c.ready; does = c.does }
 
 pub went_further : {rows : ℕ → Row} {ending : Kept} {to : Ending} {old mid new : Memory} {fuel rest left : ℕ} → ending ≡ Go → PlainReaches rows (plain old fuel) (plain mid rest) → GoesFurther rows go mid rest new left to
     → GoesFurther rows (ending_of ending) old fuel new left to
 went_further {rows = rows} {to = to} {old} {mid} {new} {fuel} {rest} {left} e x g = subst (λ e. GoesFurther rows (ending_of e) old fuel new left to) (sym e) (record {
   mid = g.mid;
   rest = g.rest;
+  at = g.at;
+  goes_on = g.goes_on;
   reaches = reached_further (record { count = x.0; is = x.1 }) g.reaches;
   ready = g.ready;
   does = g.does;
@@ -103,8 +109,10 @@ pub comes_nearer_so : StepsFall → (build : Row) (most : ℕ) → FallsWithin m
 comes_nearer_so falls build most within e d old new fuel less f w g =
     let mid = g.mid in
     let left = g.rest in
-    let k = no_further falls build most within g.reaches.count e e (plain old fuel) (plain mid left) g.reaches.is f w in
-    let n = comes_nearer falls build most within e d mid new left less f k.0 g.does in
-    let at_mid : distance most e (plain mid left) ≡ suc (measure most e (plain mid left)) = ap (λ b. cond b 0 (suc (measure most e (plain mid left)))) f in
+    let at = g.at in
+    let h : is_end at ≡ false = g.goes_on f in
+    let k = no_further falls build most within g.reaches.count e at (plain old fuel) (plain mid left) g.reaches.is h w in
+    let n = comes_nearer falls build most within at d mid new left less h k.0 g.does in
+    let at_mid : distance most at (plain mid left) ≡ suc (measure most at (plain mid left)) = ap (λ b. cond b 0 (suc (measure most at (plain mid left)))) h in
     let at_old : distance most e (plain old fuel) ≡ suc (measure most e (plain old fuel)) = ap (λ b. cond b 0 (suc (measure most e (plain old fuel)))) f in
     (n.0, let l = n.1 in let m = k.1 in omega (arith, l, m, at_mid, at_old))

@@ -202,6 +202,8 @@ module _ (W gone : Memory) (values : List Kept) (r : Returns W values) (ready : 
       left_and_gone_on last to g rows fuel = record {
         mid = M;
         rest = fuel;
+        at = go;
+        goes_on = λ h. h;
         reaches = reached_more rows reached_none (one_step rows fuel);
         ready = ready_moving;
         does = (goes_on waits_at wakes g).is rows fuel;

@@ -1,11 +1,11 @@
 -- Turns of a world in memory.
-use Rattle.std.specs.Prelude.{◌≡◌, ℕ, length}
+use Rattle.std.specs.Prelude.{◌≡◌, ℕ, false, length}
 use Rattle.library_rows.specs.Library.{all_entries}
 use Rattle.machine_core.specs.Moves.{Ending, Row, ends}
 use Rattle.machine_core.specs.MachineStep.{steps}
 use Rattle.machine_sound.specs.Sound.{Sound}
 use Rattle.machine_runs.specs.Laws.{MayTurn}
-use Rattle.machine_runs.specs.Runs.{turn}
+use Rattle.machine_runs.specs.Runs.{is_end, turn}
 use Rattle.lua_heap.specs.declared.world.World.{World as Memory}
 use Rattle.lua_heap.specs.Plain.{plain}
 use Rattle.move_laws.specs.Memory.{InOrder}
@@ -16,13 +16,15 @@ pub record Reaches (rows : ℕ → Row) (from : Ending) (old : Memory) (fuel : �
   pub count : ℕ
   pub is : steps rows count from (plain old fuel) ≡ ends to (plain new left)
 
--- some steps that end as the one before, and one more
+-- some steps, of which none ends the turn where the one before did not, and one more
 pub record GoesFurther (rows : ℕ → Row) (from : Ending) (old : Memory) (fuel : ℕ) (new : Memory) (left : ℕ) (to : Ending) : Type 0 where
   pub mid : Memory
   pub rest : ℕ
-  pub reaches : Reaches rows from old fuel mid rest from
-  pub ready : IsReady (length all_entries) from mid
-  pub does : Does rows from mid rest new left to
+  pub at : Ending
+  pub goes_on : is_end from ≡ false → is_end at ≡ false
+  pub reaches : Reaches rows from old fuel mid rest at
+  pub ready : IsReady (length all_entries) at mid
+  pub does : Does rows at mid rest new left to
 
 -- the script may be resumed: it has not begun, or has yielded
 pub record MayGoOn (W : Memory) : Type 0 where

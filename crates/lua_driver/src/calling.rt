@@ -1,5 +1,5 @@
-// Calls of values at a CALL of the Lua frame on top, without its form (OP_CALL of lvm.c).
-ghost use Rattle.std.specs.Prelude.{◌≡◌, true, IfOk, length};
+// Calls of values at a CALL or a TFORCALL of the Lua frame on top, without its form (OP_CALL and OP_TFORCALL of lvm.c).
+ghost use Rattle.std.specs.Prelude.{IfOk, IfSome, length};
 ghost use Rattle.library_rows.specs.Library.{all_entries};
 ghost use Rattle.machine_core.specs.Moves.{go};
 ghost use Rattle.machine_moves.specs.Ending.{ending_of};
@@ -14,36 +14,53 @@ ghost use Rattle.lua_driver.specs.Turns.{GoesFurther};
 use code_core::Opcode;
 use lua_heap::World;
 use machine_call_rows::call;
+use machine_library_calls::{CallAt, call_library};
 use machine_moves::Ending;
 use running_frame::Here;
 use std::alloc::AllocError;
 
-/// Whether a frame that runs is at a CALL.
-pub(crate) fn is_call(here: Here) -> bool
-    ensures { result ≡ true → CallsHere here }
+/// The call at which a frame runs.
+pub(crate) fn call_at(here: Here) -> Option<CallAt>
+    ensures { IfSome result (λ at. CallsHere here at) }
 {
     if !here.runs {
-        return false;
+        return None;
     }
+    let function = usize::from(here.word.a());
+    let count = usize::from(here.word.b());
     match here.word.opcode() {
-        Some(Opcode::Call) => true,
-        _ => false,
+        Some(Opcode::Call) => Some(CallAt {
+            function,
+            count,
+            keeps: function,
+            iterates: false,
+        }),
+        Some(Opcode::TForCall) => Some(CallAt {
+            function,
+            count: 3,
+            keeps: function + 4,
+            iterates: true,
+        }),
+        _ => None,
     }
 }
 
-/// The frame on top does its CALL.
+/// The frame on top does its call. What a function of the libraries gives goes to its registers at once.
 pub(crate) fn call_here(
     world: &mut World,
     budget: &mut u64,
     here: Here,
+    at: CallAt,
 ) -> Result<Ending, AllocError>
     requires ready { IsReady (length all_entries) go world.old }
     requires here { IsHere world.old here }
-    requires calls { CallsHere here }
+    requires calls { CallsHere here at }
     ensures goes { IfOk result (λ next. AsRead (λ builds. GoesFurther (library builds) go world.old budget.old world.new budget.new (ending_of next))) }
     ensures order { InOrder world.new }
 {
-    let function = usize::from(here.word.a());
-    let count = usize::from(here.word.b());
-    call(world, budget, function, count, function, false)
+    let done = call_library(world, budget, here, at)?;
+    match done {
+        Some(ending) => Ok(ending),
+        None => call(world, budget, at.function, at.count, at.keeps, at.iterates),
+    }
 }

@@ -29,7 +29,7 @@ turn-preserved c =
     let some = read_some c.in_ok-ending.ensures.goes in
     let goes = some.2 in
     record {
-      ready = c.steps_stay_ready.ensures.steps (length all_entries) (library some.0) (c.loading_is_safe.ensures.safe some.0 some.1) (ending_of c.turn.ending) (ending_of c.in_ok-ending.ending) goes.mid c.go_further.new.world goes.rest c.go_further.new.budget goes.ready goes.does c.in_ok-ending.ensures.order;
+      ready = c.steps_stay_ready.ensures.steps (length all_entries) (library some.0) (c.loading_is_safe.ensures.safe some.0 some.1) goes.at (ending_of c.in_ok-ending.ending) goes.mid c.go_further.new.world goes.rest c.go_further.new.budget goes.ready goes.does c.in_ok-ending.ensures.order;
       reached = read_both (λ builds are r g. reached_so r g) c.turn.invariant.reached c.in_ok-ending.ensures.goes;
       within = (comes_nearer_so c.steps_fall.ensures (load_by some.0) (most_in c.args.world.now) (falls_in (load_by some.0) (c.loading_is_safe.ensures.falls some.0 some.1) c.args.world.now) (ending_of c.turn.ending) (ending_of c.in_ok-ending.ending)
           c.turn.world c.go_further.new.world c.turn.budget c.go_further.new.budget e (c.turn.invariant.within e) goes).0;
