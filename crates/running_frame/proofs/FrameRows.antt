@@ -1,25 +1,31 @@
 -- CALL of a Lua function and returns to a Lua frame that waits for them, with the frame that runs held apart: each is steps of the machine.
-use Rattle.std.proofs.Common.{◌≡◌, ℕ, zero, suc, ◌+◌, List, [], ◌∷◌, ◌++◌, length, drop, Option, Some, None, refl, ap, sym, ◌∙◌, true}
+use Rattle.std.proofs.Common.{arith, ◌≡◌, ℕ, zero, suc, ◌+◌, List, [], ◌∷◌, ◌++◌, length, drop, Option, Some, None, refl, ap, sym, ◌∙◌, true}
 use Rattle.std.specs.Prelude.{◌==◌, ◌-◌, cond, filter, nat_le, nat_lt, slice_get}
 use Rattle.code_core.specs.Check.{at}
 use Rattle.code_core.specs.Instruction.{a_of, b_of, c_of, opcode_of}
 use Rattle.code_core.specs.declared.instruction.Instruction.{Instruction}
 use Rattle.code_core.specs.declared.opcode.Opcode.{Opcode}
-use Rattle.code_core.specs.declared.opcode.Opcode.TheVariants.{Call, Return, TailCall}
+use Rattle.code_core.specs.declared.opcode.Opcode.TheVariants.{Call, Return, TForCall, TailCall}
 use Rattle.int_core.specs.Limits.{greatest_depth}
 use Rattle.int_core.specs.Heap.{Heap}
 use Rattle.int_core.specs.Operations.{callee, callee_of, greatest_chain}
 use Rattle.int_core.specs.Value.{Value, Shape, a_function, bind, boolean, is_known, nil, nth, object, range, write_all}
-use Rattle.machine_core.specs.World.{Function, Cell, for_call, returning, Activation, LuaFrame, Frame, lua, close_from, Place, World}
+use Rattle.machine_core.specs.World.{Function, Cell, Wait, running, for_call, for_iterator, returning, Activation, LuaFrame, Frame, lua, close_from, Place, World}
 use Rattle.machine_core.specs.Text.{Arg, arg, Own, behind, blanked, call, tail_call, close, cut_from, drop_pending, fits, is_there, last_pending, leave, own, read, read_register, read_registers, reads, results, see_pending, tells, Text, trap, value_if, write_registers, written}
 use Rattle.machine_core.specs.FrameRows.{after_call, at_once, expand, expand_by}
-use Rattle.machine_core.specs.InstructionRows.{counted, is_true, next, read_values, rest_at, rest_by, returned_so, returns, row_of, text_at, text_by, write_values}
-use Rattle.machine_core.specs.MachineStep.{from_world, step, steps}
+use Rattle.machine_core.specs.InstructionRows.{arrived, counted, is_true, next, read_values, rest, rest_at, rest_by, returned_so, returns, row_of, text_at, text_by, write_values}
+use Rattle.machine_core.specs.MachineStep.{and_then, from_world, step, steps}
 use Rattle.machine_core.specs.Moves.{CallShape, Made, called_tail, enter_tail, enters, go, is_entered, made, new_frame, not_paid, on_own, popped, Row, ends, run}
 use Rattle.machine_focus.specs.Focus.{Context, Held, Stands, held_own, local, place, stacked, top, with_pc, world}
-use Rattle.machine_focus.proofs.Calls.{began, call_is, entered_is, inner, pop_is, returned}
+use Rattle.machine_focus.proofs.Calls.{began, call_is, entered_is, inner, leave_is, pop_is}
 use Rattle.machine_focus.proofs.Local.{drop_front, made_is}
 use Rattle.machine_focus.proofs.Places.{own_move, place_is, step_is}
+use Rattle.table_core.specs.declared.value.Value.{Value as Kept}
+use Rattle.lua_stack.specs.declared.frame.Wait.{Wait as KeptWait}
+use Rattle.lua_stack.specs.Frames.{wait_of}
+use Rattle.running_frame.specs.declared.returning.Taker.{Taker}
+use Rattle.running_frame.specs.Returning.{Wants, by_call, by_iterator}
+use Rattle.running_frame.proofs.Waking.{before_it, woken_step}
 
 module _ (c : Context) (s : Stands c) (h : Held) where
   -- a move on the frame, and what follows it
@@ -126,21 +132,51 @@ module _ (c : Context) (s : Stands c) (h : Held) (w : Instruction) (at_pc : at c
 
 -- returns
 
--- what is left of the instruction of the frame below: the values go to its registers
-module _ (d : Context) (v : Instruction) (wanted : ℕ) (H : Held) where
-  abbrev pub handed : List Value → Held
-  handed vs = record H { own = record H.own { registers = write_all (a_of v) (range 0 wanted vs) H.own.registers; pc = H.own.pc + 1 } }
+-- what is left of the instruction of a frame that waits: the values go to its registers
 
-  pub takes : (vs : List Value) (u : Instruction) → at d.closure.code H.own.pc ≡ Some v → opcode_of v ≡ Some Call → c_of v ≡ suc wanted → nat_le (behind (a_of v) wanted) (length H.own.registers) ≡ true
-      → at d.closure.code (H.own.pc + 1) ≡ Some u → local d (rest_at {V = Value} for_call d.closure.code H.own.pc) vs H ≡ Some (handed vs)
-  takes vs u at_pc is_call wants there behind_is =
-      let p = d.closure.code in
-      let written = record H { own = record H.own { registers = write_all (a_of v) (range 0 wanted vs) H.own.registers } } in
-      ap (λ (o : Option Instruction). local d (elim o [ None ↦ trap | Some w ↦ rest_by {V = Value} for_call p H.own.pc w (opcode_of w) ]) vs H) at_pc
-      ∙ ap (λ o. local d (rest_by {V = Value} for_call p H.own.pc v o) vs H) is_call
-      ∙ ap (λ n. local d (write_values (a_of v) n 0) vs H) wants
-      ∙ ap (λ b. cond b (local d next (vs ++ []) (held_own d (write_registers (a_of v) wanted 0) vs H)) None) there
+one_more : (n m : ℕ) → m ≡ n → n + 1 ≡ suc m
+one_more n m e = omega (arith, e)
+
+module _ (d : Context) (t : Taker) (H : Held) where
+  abbrev pub handed : List Value → Held
+  handed vs = record H { own = record H.own { registers = write_all t.register (range 0 t.count vs) H.own.registers; pc = H.own.pc + 1 } }
+
+  writes : (vs : List Value) (u : Instruction) → nat_le (behind t.register t.count) (length H.own.registers) ≡ true → at d.closure.code (H.own.pc + 1) ≡ Some u
+      → local d (write_values t.register (suc t.count) 0) vs H ≡ Some (handed vs)
+  writes vs u there behind_is =
+      let written = record H { own = record H.own { registers = write_all t.register (range 0 t.count vs) H.own.registers } } in
+      ap (λ b. cond b (local d next (vs ++ []) (held_own d (write_registers t.register t.count 0) vs H)) None) there
       ∙ ap (λ (o : Option Instruction). elim o as (λ _. Option Held) [ None ↦ None | Some _ ↦ Some (with_pc written (H.own.pc + 1)) ]) behind_is
+
+  module _ (v : Instruction) (at_pc : at d.closure.code H.own.pc ≡ Some v) where
+    rest_there : (op : Opcode) (wait : Wait Value) → opcode_of v ≡ Some op → (vs : List Value) → local d (rest_at {V = Value} wait d.closure.code H.own.pc) vs H ≡ local d (rest {V = Value} wait d.closure.code H.own.pc op v) vs H
+    rest_there op wait is vs =
+        let p = d.closure.code in
+        ap (λ (o : Option Instruction). local d (elim o [ None ↦ trap | Some w ↦ rest_by {V = Value} wait p H.own.pc w (opcode_of w) ]) vs H) at_pc
+        ∙ ap (λ o. local d (rest_by {V = Value} wait p H.own.pc v o) vs H) is
+
+    pub takes : {w : KeptWait} (f : Kept → Value) → Wants v t w → (vs : List Value) (u : Instruction) → nat_le (behind t.register t.count) (length H.own.registers) ≡ true → at d.closure.code (H.own.pc + 1) ≡ Some u
+        → local d (rest_at {V = Value} (wait_of f w) d.closure.code H.own.pc) vs H ≡ Some (handed vs)
+    takes f (by_call o r n) vs u there behind_is =
+        rest_there Call for_call o vs
+        ∙ ap (λ n. local d (write_values (a_of v) n 0) vs H) n
+        ∙ ap (λ a. local d (write_values a (suc t.count) 0) vs H) (sym r)
+        ∙ writes vs u there behind_is
+    takes f (by_iterator o r n) vs u there behind_is =
+        rest_there TForCall for_iterator o vs
+        ∙ ap (λ n. local d (write_values (a_of v + 4) n 0) vs H) (one_more (c_of v) t.count n)
+        ∙ ap (λ a. local d (write_values a (suc t.count) 0) vs H) (sym r)
+        ∙ writes vs u there behind_is
+
+-- it waits, and takes all that came
+
+pub still_waits : {v : Instruction} {t : Taker} {w : KeptWait} (f : Kept → Value) → Wants v t w → wait_of f w ≡ running → ⊥
+still_waits f (by_call o r n) e = absurd (cc)
+still_waits f (by_iterator o r n) e = absurd (cc)
+
+pub takes_all : {v : Instruction} {t : Taker} {w : KeptWait} (f : Kept → Value) (vs : List Value) → Wants v t w → arrived (wait_of f w) vs ≡ vs
+takes_all f vs (by_call o r n) = refl
+takes_all f vs (by_iterator o r n) = refl
 
 -- the context in the frame below
 abbrev pub outer : Context → List Frame → ℕ → Function → Context
@@ -185,17 +221,19 @@ module _ (c : Context) (s : Stands c) (h : Held) (w : Instruction) (op : Opcode)
   leaves : (rows : ℕ → Row) → step rows go (world c h) ≡ from_world (world c h) (run (expand (leave (results (length (env ++ []))))) (env ++ [] ++ values) (world c h))
   leaves rows = row_is c s h w op at_pc is_opcode rows ∙ ap (from_world (world c h)) (row ∙ gives c s h from count there none env)
 
-  module _ (bs : List Frame) (n : ℕ) (q : Function) (a : Activation) (below : c.below ≡ bs ++ lua (record { function = n; wait = for_call; own = a }) ∷ []) (fn : slice_get c.base.functions n ≡ Some q)
-      (v u : Instruction) (wanted : ℕ) where
-    abbrev waiting : Held
+  module _ (bs : List Frame) (n : ℕ) (q : Function) (a : Activation) (wait : Wait Value) (waits : wait ≡ running → ⊥) (below : c.below ≡ bs ++ lua (record { function = n; wait = wait; own = a }) ∷ []) (fn : slice_get c.base.functions n ≡ Some q) where
+    abbrev pub waiting : Held
     waiting = record { heap = h.heap; cells = h.cells; fuel = h.fuel; own = a }
 
-    pub return_steps : at q.code a.pc ≡ Some v → opcode_of v ≡ Some Call → c_of v ≡ suc wanted → nat_le (behind (a_of v) wanted) (length a.registers) ≡ true → at q.code (a.pc + 1) ≡ Some u → (rows : ℕ → Row)
-        → steps rows 2 go (world c h) ≡ ends go (world (outer c bs n q) (handed (outer c bs n q) v wanted waiting values))
-    return_steps at_call is_call wants room behind_is rows =
+    pub return_steps : (k : Held) → arrived wait values ≡ values → local (outer c bs n q) (rest_at {V = Value} wait q.code a.pc) values waiting ≡ Some k → (rows : ℕ → Row) → steps rows 2 go (world c h) ≡ ends go (world (outer c bs n q) k)
+    return_steps k all e rows =
         let d = outer c bs n q in
-        let after = λ (cs : List Cell). local d (rest_at {V = Value} for_call q.code a.pc) (drop (length (env ++ [])) (env ++ [] ++ values)) (record { heap = h.heap; cells = cs; fuel = h.fuel; own = a }) in
-        let taken = λ (vs : List Value). local d (rest_at {V = Value} for_call q.code a.pc) vs (record { heap = h.heap; cells = h.cells; fuel = h.fuel; own = a }) in
-        returned c d s (record { chain = s.chain; there = s.there; function = fn }) h (env ++ [] ++ values) (length (env ++ [])) a (handed d v wanted waiting values) rows refl refl below
-        (ap after closed ∙ ap taken (drop_front (env ++ []) values) ∙ takes d v wanted waiting values u at_call is_call wants room behind_is)
-        (world c h) (leaves rows)
+        let moved = env ++ [] ++ values in
+        let slot = length (env ++ []) in
+        let left = λ (cs : List Cell) (vs : List Value). before_it d (record { chain = s.chain; there = s.there; function = fn }) a h.heap cs h.fuel vs wait in
+        ap (λ o. and_then o (steps rows 1)) (
+        leaves rows
+        ∙ ap (from_world (world c h)) (leave_is c s h moved slot bs (record { function = n; wait = wait; own = a }) below)
+        ∙ ap (λ (cs : List Cell). ends go (left cs (drop slot moved))) closed
+        ∙ ap (λ (vs : List Value). ends go (left h.cells vs)) (drop_front (env ++ []) values))
+        ∙ ap (λ o. and_then o (steps rows 0)) (woken_step d (record { chain = s.chain; there = s.there; function = fn }) a h.heap h.cells h.fuel values wait waits all k rows e)

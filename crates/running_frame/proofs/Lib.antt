@@ -5,6 +5,7 @@ pub mod Chained
 mod OnStack
 mod OpenRead
 mod FoundFields
+mod Waking
 mod FrameRows
 mod Closed
 mod Calls

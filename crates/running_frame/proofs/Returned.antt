@@ -1,5 +1,5 @@
 -- A return on a stack is two steps of the machine: the frame is left, and the frame below goes on with what it returned.
-use Rattle.std.proofs.Common.{◌≡◌, inl, inr, ℕ, zero, suc, ◌+◌, ◌-◌, ◌≤◌, List, [], ◌∷◌, ◌++◌, length, map, take, Option, Some, None, refl, ap, sym, subst, ◌∙◌, arith, true, false}
+use Rattle.std.proofs.Common.{◌≡◌, inl, inr, ℕ, suc, ◌+◌, ◌-◌, ◌≤◌, List, [], ◌∷◌, ◌++◌, length, map, take, Option, Some, None, refl, ap, sym, subst, ◌∙◌, arith, true, false}
 use Rattle.std.proofs.lemmas.Bool.Decides.{nat_tests}
 use Rattle.std.specs.Prelude.{IfNone, IfSome, ◌==◌, cond, nat_le, slice_get}
 use Rattle.std.proofs.lemmas.List.{length-map}
@@ -8,8 +8,8 @@ use Rattle.code_core.specs.Instruction.{a_of, b_of, opcode_of}
 use Rattle.code_core.specs.declared.instruction.Instruction.{Instruction}
 use Rattle.code_core.specs.declared.opcode.Opcode.{Opcode}
 use Rattle.code_core.specs.declared.opcode.Opcode.TheVariants.{Return, Return0, Return1}
-use Rattle.int_core.specs.Value.{Value, known, last, nil, range, without_last, write_all}
-use Rattle.machine_core.specs.World.{for_call, running, Activation, close_from, Wait, LuaFrame, Frame, lua, World}
+use Rattle.int_core.specs.Value.{Value, last, range, without_last, write_all}
+use Rattle.machine_core.specs.World.{running, Activation, close_from, Wait, LuaFrame, Frame, lua, World}
 use Rattle.machine_core.specs.Text.{behind, last_pending}
 use Rattle.machine_core.specs.InstructionRows.{returns, row_of}
 use Rattle.machine_core.specs.FrameRows.{expand}
@@ -18,11 +18,9 @@ use Rattle.machine_core.specs.MachineStep.{steps}
 use Rattle.machine_focus.specs.Focus.{Context, Held, Reaches, Stands, stacked, world}
 use Rattle.machine_sound.proofs.Values.{le_true}
 use Rattle.machine_sound.proofs.Lists.{get_there, last_push, last_splits, some_is, without_push}
-use Rattle.machine_view.proofs.Rows.{nth_map}
 use Rattle.table_core.specs.Table.{Contents}
 use Rattle.table_core.specs.declared.value.FuncId.{FuncId}
 use Rattle.table_core.specs.declared.value.Value.{Value as Kept}
-use Rattle.table_core.specs.declared.value.Value.TheVariants.{Nil}
 use Rattle.lua_stack.proofs.Parts.{map_take}
 use Rattle.lua_stack.specs.Frames.{KeptStack, frame_of, frames, kept_lua, lua_of, wait_of}
 use Rattle.lua_heap.specs.declared.codes.Codes.{Codes}
@@ -34,15 +32,15 @@ use Rattle.machine_arms_tables.specs.Frame.{Code}
 use Rattle.machine_loop.specs.Running.{Running}
 use Rattle.machine_loop.proofs.Closing.{stays}
 use Rattle.running_frame.specs.Calling.{AreFunctions, KnownFunction}
-use Rattle.running_frame.specs.Returning.{Crosses, IsGiven, ReturnsIn, count_of}
+use Rattle.running_frame.specs.Returning.{Crosses, ReturnsIn, count_of}
 use Rattle.running_frame.specs.Standing.{RunsAt, standing}
 use Rattle.running_frame.proofs.Calls.{less_is}
 use Rattle.running_frame.proofs.Called.{behind_within, called_so, held_on, own_now, ready_held, shape_known, standing_is, tail_called_so, word_is}
 use Rattle.running_frame.proofs.Chained.{reaches_none}
 use Rattle.running_frame.proofs.Closed.{closes_nothing}
-use Rattle.running_frame.proofs.FrameRows.{given, return_row, return_steps}
+use Rattle.running_frame.proofs.FrameRows.{given, handed, outer, return_row, return_steps, still_waits, takes, takes_all}
 use Rattle.running_frame.proofs.Listed.{listed_so}
-use Rattle.running_frame.proofs.Takers.{map_more}
+use Rattle.running_frame.proofs.Takers.{map_more, two_range}
 
 -- without its last item, item by item
 map_without : {A B : Type 0} (f : A → B) (xs : List A) → map f (without_last xs) ≡ without_last (map f xs)
@@ -80,18 +78,6 @@ row_returns c s h w count there (Some Return1) e = record {
   row = ap (λ n. run (expand (returns (a_of w) n)) [] (world c h)) (some_is {o = Some 1} refl e);
 }
 row_returns c s h w count there _ e = absurd (cc)
-
--- what is given is what the frame below takes
-given_is : (f : Kept → Value) → f Nil ≡ known nil → (registers : List Kept) (register count : ℕ) (v : Kept) → IsGiven registers register count v → (wanted : ℕ) → wanted ≤ 1
-    → range 0 wanted (range register count (map f registers)) ≡ range 0 wanted (f v ∷ [])
-given_is f z registers register count v g zero l = refl
-given_is f z registers register zero v g (suc zero) l = ap (λ v. v ∷ []) (sym z ∙ ap f (sym g))
-given_is f z registers register (suc n) v g (suc zero) l = ap (λ v. v ∷ []) (nth_map f registers register v g.1)
-given_is f z registers register count v g (suc (suc n)) l = absurd (omega (arith, l))
-
-fits_given : (registers : List Kept) (register count : ℕ) (v : Kept) → IsGiven registers register count v → behind register count ≤ length registers
-fits_given registers register zero v g = omega arith
-fits_given registers register (suc n) v g = g.0
 
 module _ (g : Running) (k : Code) (s : KeptStack) (ts : List Contents) (cs : List KeptCell) (fuel pc : ℕ) (r : RunsAt g k s ts cs fuel pc) (u : KeptStack) (funcs : List Func) (codes : Codes) (w : Instruction)
     (x : ReturnsIn s u funcs codes w) (a : AreFunctions g.around.context.base.functions funcs codes) where
@@ -135,12 +121,15 @@ module _ (g : Running) (k : Code) (s : KeptStack) (ts : List Contents) (cs : Lis
   abbrev number : ℕ
   number = x.caller.function.0
 
-  waits_so : waiting ≡ caller_at number for_call waiting.own
+  abbrev wait_is : Wait Value
+  wait_is = wait_of read x.caller.wait
+
+  waits_so : waiting ≡ caller_at number wait_is waiting.own
   waits_so =
       ap (λ (id : FuncId). caller_at id.0 (wait_of read x.calls.frame.wait) waiting.own) x.calls.knows.function
       ∙ ap (λ w. caller_at number (wait_of read w) waiting.own) x.calls.knows.waits
 
-  below_is : ctx.below ≡ lower ++ lua (caller_at number for_call waiting.own) ∷ []
+  below_is : ctx.below ≡ lower ++ lua (caller_at number wait_is waiting.own) ∷ []
   below_is = splits ∙ ap (λ (t : LuaFrame). lower ++ lua t ∷ []) waits_so
 
   -- its CALL
@@ -163,13 +152,12 @@ module _ (g : Running) (k : Code) (s : KeptStack) (ts : List Contents) (cs : Lis
   at_next : at known_function.function.code (waiting.own.pc + 1) ≡ Some behind_call.0
   at_next = ap (λ ws. slice_get ws (waiting.own.pc + 1)) (sym known_function.words) ∙ ap (slice_get x.takes.code.words.items) (sym to_is) ∙ behind_call.1
 
-  room : nat_le (behind (a_of call_word) x.taker.count) (length waiting.own.registers) ≡ true
+  room : nat_le (behind x.taker.register x.taker.count) (length waiting.own.registers) ≡ true
   room =
       let l = x.takes.takes.room in
-      let m = x.takes.takes.register in
       let n = x.calls.knows.size in
       let o = length-map x.calls.frame.registers read in
-      le_true (behind (a_of call_word) x.taker.count) (length waiting.own.registers) (behind_within (a_of call_word) x.taker.count (length waiting.own.registers) (omega (arith, l, m, n, o)))
+      le_true (behind x.taker.register x.taker.count) (length waiting.own.registers) (behind_within x.taker.register x.taker.count (length waiting.own.registers) (omega (arith, l, n, o)))
 
   -- the frame on top
 
@@ -179,7 +167,7 @@ module _ (g : Running) (k : Code) (s : KeptStack) (ts : List Contents) (cs : Lis
   there : nat_le (behind (a_of w) x.count) (length own.registers) ≡ true
   there =
       le_true (behind (a_of w) x.count) (length own.registers)
-      (subst (λ n. behind (a_of w) x.count ≤ n) (sym (length-map x.registers read) ∙ ap length registers_are) (fits_given x.registers (a_of w) x.count x.value x.gives))
+      (subst (λ n. behind (a_of w) x.count ≤ n) (sym (length-map x.registers read) ∙ ap length registers_are) x.gives.room)
 
   none_pending : last_pending 0 own.pending ≡ None
   none_pending = x.closed.pending read ctx.below r.may.top r.may.is
@@ -201,29 +189,32 @@ module _ (g : Running) (k : Code) (s : KeptStack) (ts : List Contents) (cs : Lis
       ∙ without_push ctx.below (lua r.may.top)
       ∙ splits
 
-  values_are : range 0 x.taker.count (read x.value ∷ []) ≡ range 0 x.taker.count (range (a_of w) x.count own.registers)
+  values_are : range 0 x.taker.count (read x.given.first ∷ read x.given.second ∷ []) ≡ range 0 x.taker.count (range (a_of w) x.count own.registers)
   values_are =
-      sym (given_is read refl x.registers (a_of w) x.count x.value x.gives x.taker.count x.takes.takes.few)
+      sym (two_range (range (a_of w) x.count (map read x.registers)) (read x.given.first) (read x.given.second) (x.gives.two read refl) x.taker.count x.takes.takes.few)
       ∙ ap (λ rs. range 0 x.taker.count (range (a_of w) x.count rs)) registers_are
 
-  standing_after : standing g u ts cs fuel ≡ after number (a_of call_word) (range 0 x.taker.count (range (a_of w) x.count own.registers)) (waiting.own.pc + 1)
+  standing_after : standing g u ts cs fuel ≡ after number x.taker.register (range 0 x.taker.count (range (a_of w) x.count own.registers)) (waiting.own.pc + 1)
   standing_after =
       ap (λ fs. stacked ctx.base ctx.coroutine fs (heap g.around.texts ts g.string_metatable) (map (cell g.around.texts) cs) fuel []) (x.hands.top read refl lower waiting popped_is)
-      ∙ ap (λ (id : FuncId). after id.0 x.taker.register (range 0 x.taker.count (read x.value ∷ [])) x.taker.to) x.calls.knows.function
-      ∙ ap (λ n. after number n (range 0 x.taker.count (read x.value ∷ [])) x.taker.to) x.takes.takes.register
-      ∙ ap (λ vs. after number (a_of call_word) vs x.taker.to) values_are
-      ∙ ap (after number (a_of call_word) (range 0 x.taker.count (range (a_of w) x.count own.registers))) to_is
+      ∙ ap (λ (id : FuncId). after id.0 x.taker.register (range 0 x.taker.count (read x.given.first ∷ read x.given.second ∷ [])) x.taker.to) x.calls.knows.function
+      ∙ ap (λ vs. after number x.taker.register vs x.taker.to) values_are
+      ∙ ap (after number x.taker.register (range 0 x.taker.count (range (a_of w) x.count own.registers))) to_is
 
   pub returned_so : slice_get k.words pc ≡ Some w → Reaches g.around.rows (standing g s ts cs fuel) (standing g u ts cs fuel)
   returned_so word =
       let stands = (ready_held g k s ts cs fuel pc r).stands in
       let h = held_on g k s ts cs fuel pc r fuel own in
-      let o = row_returns ctx stands h w x.count there (opcode_of w) x.is in (
+      let o = row_returns ctx stands h w x.count there (opcode_of w) x.is in
+      let d = outer ctx lower number known_function.function in
+      let held : Held = record { heap = h.heap; cells = h.cells; fuel = h.fuel; own = waiting.own } in
+      let given_values = range (a_of w) x.count own.registers in (
         2,
         ap (steps g.around.rows 2 go) (standing_is g k s ts cs fuel pc r)
             ∙ return_steps ctx stands h w o.op (word_is g k s ts cs fuel pc r w word) o.is (a_of w) x.count o.env o.row
-            none_pending there none_closed lower number known_function.function waiting.own below_is known_function.is call_word behind_call.0 x.taker.count
-            at_call x.takes.takes.is_call x.takes.takes.count room at_next g.around.rows
+            none_pending there none_closed lower number known_function.function waiting.own wait_is (still_waits read x.takes.takes.wants) below_is known_function.is
+            (handed d x.taker held given_values) (takes_all read given_values x.takes.takes.wants)
+            (takes d x.taker held call_word at_call read x.takes.takes.wants given_values behind_call.0 room at_next) g.around.rows
             ∙ ap (ends go) (sym standing_after),
       )
 

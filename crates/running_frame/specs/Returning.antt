@@ -1,15 +1,17 @@
--- Returns to a Lua frame that waits for a call and takes at most one value, as changes of a stack.
-use Rattle.std.specs.Prelude.{◌≡◌, ◌⊎◌, ◌+◌, ◌<◌, ◌≤◌, ℕ, zero, suc, [], ◌∷◌, ◌++◌, List, Option, Some, None, length, map, slice_get}
+-- Returns to a Lua frame that waits for a call and takes at most two values, as changes of a stack.
+use Rattle.std.specs.Prelude.{◌≡◌, ◌⊎◌, ◌+◌, ◌<◌, ◌≤◌, ℕ, suc, [], ◌∷◌, ◌++◌, List, Option, Some, None, length, map, slice_get}
 use Rattle.code_core.specs.declared.instruction.Instruction.{Instruction}
 use Rattle.code_core.specs.declared.opcode.Opcode.{Opcode}
-use Rattle.code_core.specs.declared.opcode.Opcode.TheVariants.{Call, Return, Return0, Return1}
+use Rattle.code_core.specs.declared.opcode.Opcode.TheVariants.{Call, Return, Return0, Return1, TForCall}
 use Rattle.code_core.specs.Instruction.{a_of, b_of, c_of, opcode_of}
-use Rattle.int_core.specs.Value.{Value, last, range, without_last, write_all}
+use Rattle.int_core.specs.Value.{Value, known, last, nil, nth, range, without_last, write_all}
 use Rattle.machine_core.specs.World.{running, LuaFrame}
+use Rattle.machine_core.specs.Text.{behind}
 use Rattle.table_core.specs.declared.value.Value.{Value as Kept}
 use Rattle.table_core.specs.declared.value.Value.TheVariants.{Nil}
 use Rattle.lua_stack.specs.declared.frame.LuaState.{LuaState}
-use Rattle.lua_stack.specs.declared.frame.Wait.TheVariants.{ForCall}
+use Rattle.lua_stack.specs.declared.frame.Wait.{Wait as KeptWait}
+use Rattle.lua_stack.specs.declared.frame.Wait.TheVariants.{ForCall, ForIterator}
 use Rattle.lua_stack.specs.Frames.{KeptFrame, KeptLua, KeptStack, OnTop, TopBecomes, kept_lua, with_pc, with_registers, with_wait}
 use Rattle.lua_heap.specs.declared.codes.Code.{Code}
 use Rattle.lua_heap.specs.declared.codes.Codes.{Codes}
@@ -17,6 +19,7 @@ use Rattle.lua_heap.specs.declared.world.Func.{Func}
 use Rattle.running_frame.specs.Calling.{CallsIn, TailCallsIn, one_less}
 use Rattle.running_frame.specs.Listing.{ListsVarargs}
 use Rattle.running_frame.specs.Standing.{IsClosedFrom}
+use Rattle.running_frame.specs.declared.returning.Given.{Given}
 use Rattle.running_frame.specs.declared.returning.Taker.{Taker}
 
 -- how many values an instruction returns, where it says so
@@ -26,14 +29,22 @@ count_of (Some Return0) b = Some 0
 count_of (Some Return1) b = Some 1
 count_of _ b = None
 
--- the first of so many registers, or nil where none is returned
-abbrev pub IsGiven : List Kept → (register count : ℕ) → Kept → Type 0
-IsGiven registers register zero v = v ≡ Nil
-IsGiven registers register (suc n) v = (register + suc n ≤ length registers) × (slice_get registers register ≡ Some v)
+-- the first two of some values, nil where there are fewer, by each reading of the values
+abbrev pub AreFirst : (values : (Kept → Value) → List Value) → Given → Type 0
+AreFirst values g = (f : Kept → Value) → f Nil ≡ known nil → range 0 2 (values f) ≡ f g.first ∷ f g.second ∷ []
 
--- what is known of a frame that waits for a call
+-- the value at a place of a list, nil where there is none
+abbrev pub ReadsAt : List Kept → (at : ℕ) → Kept → Type 0
+ReadsAt values at v = (f : Kept → Value) → f Nil ≡ known nil → nth (map f values) at ≡ f v
+
+-- they are those of so many registers from one on
+pub record IsGiven (registers : List Kept) (register count : ℕ) (g : Given) : Type 0 where
+  pub room : behind register count ≤ length registers
+  pub two : AreFirst (λ f. range register count (map f registers)) g
+
+-- what is known of a frame that waits
 pub record IsCallerIn (t : KeptLua) (c : LuaState) : Type 0 where
-  pub waits : t.wait ≡ ForCall
+  pub waits : t.wait ≡ c.wait
   pub function : t.function ≡ c.function
   pub pc : t.pc ≡ c.pc
   pub size : length t.registers ≡ c.size
@@ -44,14 +55,17 @@ pub record IsCaller (s : KeptStack) (c : LuaState) : Type 0 where
   pub at : last (without_last s.frames) ≡ Some (kept_lua frame)
   pub knows : IsCallerIn frame c
 
--- the CALL at its place wants at most one value, in a register of its own
+-- what an instruction wants for which a frame waits: a CALL one value fewer than it says, a TFORCALL as many, in the registers behind its own four
+pub data Wants (w : Instruction) (t : Taker) : KeptWait → Type 0 where
+  by_call : opcode_of w ≡ Some Call → t.register ≡ a_of w → c_of w ≡ suc t.count → Wants w t ForCall
+  by_iterator : opcode_of w ≡ Some TForCall → t.register ≡ a_of w + 4 → t.count ≡ c_of w → Wants w t ForIterator
+
+-- the one at its place wants at most two values, in registers of the frame
 pub record IsTaker (words : List Instruction) (c : LuaState) (t : Taker) : Type 0 where
   pub word : Instruction
   pub at_pc : slice_get words c.pc ≡ Some word
-  pub is_call : opcode_of word ≡ Some Call
-  pub register : t.register ≡ a_of word
-  pub count : c_of word ≡ suc t.count
-  pub few : t.count ≤ 1
+  pub wants : Wants word t c.wait
+  pub few : t.count ≤ 2
   pub room : t.register + t.count ≤ c.size
   pub next : t.to ≡ c.pc + 1
   pub within : t.to < length words
@@ -70,26 +84,26 @@ pub record HasKept (s : KeptStack) (count : ℕ) : Type 0 where
   pub is : s.frames ≡ below ++ kept_lua top ∷ []
   pub room : count ≤ length top.registers
 
--- the frame gets a value where it wants one, and runs on
-abbrev pub taken : Taker → Value → LuaFrame → LuaFrame
-taken taker v t = with_pc taker.to (with_wait running (with_registers (write_all taker.register (range 0 taker.count (v ∷ [])) t.own.registers) t))
+-- the frame gets what it wants of two values, and runs on
+abbrev pub taken : Taker → (first second : Value) → LuaFrame → LuaFrame
+taken taker v w t = with_pc taker.to (with_wait running (with_registers (write_all taker.register (range 0 taker.count (v ∷ w ∷ [])) t.own.registers) t))
 
--- the frame on top, in which nothing is open or to be closed, is gone, and the one below has taken its value
+-- the frame on top, in which nothing is open or to be closed, is gone, and the one below has taken its values
 pub record ReturnsIn (s u : KeptStack) (funcs : List Func) (codes : Codes) (w : Instruction) : Type 0 where
   pub count : ℕ
   pub is : count_of (opcode_of w) (b_of w) ≡ Some count
   pub closed : IsClosedFrom s 0
   pub registers : List Kept
   pub are : OnTop s (λ f t. map f registers ≡ t.own.registers)
-  pub value : Kept
-  pub gives : IsGiven registers (a_of w) count value
+  pub given : Given
+  pub gives : IsGiven registers (a_of w) count given
   pub caller : LuaState
   pub calls : IsCaller s caller
   pub taker : Taker
   pub takes : TakesIn funcs codes caller taker
   pub popped : KeptStack
   pub pops : popped.frames ≡ without_last s.frames
-  pub hands : TopBecomes popped u (λ f t. taken taker (f value) t)
+  pub hands : TopBecomes popped u (λ f t. taken taker (f given.first) (f given.second) t)
   pub listed : u.open_cells ≡ s.open_cells
 
 -- a tail call or a return

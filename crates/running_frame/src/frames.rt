@@ -14,7 +14,7 @@ ghost use Rattle.running_frame.specs.Upvalues.{ListsOpen};
 use crate::calling::call_function;
 use crate::listing::list_varargs;
 use crate::place::Here;
-use crate::returning::return_value;
+use crate::returning::return_values;
 use crate::stack::{Stop, run_stack};
 use crate::storing::store_open;
 use crate::tail_calling::tail_call_function;
@@ -161,6 +161,6 @@ fn leave(
 {
     match tail_call_function(stack, funcs, codes, budget, stop.here.word, stop.closed) {
         Some(()) => Some(()),
-        None => return_value(stack, funcs, codes, stop.here.word, stop.closed),
+        None => return_values(stack, funcs, codes, stop.here.word, stop.closed),
     }
 }

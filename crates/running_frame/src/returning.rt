@@ -1,10 +1,11 @@
-// Returns to a Lua frame below that waits for a call and takes at most one value, which change nothing but the stack (luaD_poscall of ldo.c).
-ghost use Rattle.std.specs.Prelude.{◌≡◌, ◌+◌, ◌≤◌, [], ◌∷◌, IfNone, IfSome, Some, true};
+// Returns to a Lua frame below that waits for a call and takes at most two values, which change nothing but the stack (luaD_poscall of ldo.c).
+ghost use Rattle.std.specs.Prelude.{◌≡◌, ◌+◌, ◌≤◌, [], ◌∷◌, IfNone, IfSome, Some, slice_get, true};
 ghost use Rattle.code_core.specs.Instruction.{b_of, opcode_of};
 ghost use Rattle.int_core.specs.Value.{range, write_all};
 ghost use Rattle.lua_stack.specs.Frames.{HasLuaTop, HasRegisters, TopBecomes, with_registers};
+ghost use Rattle.lua_stack.specs.declared.frame.Wait.TheVariants.{ForCall, ForIterator};
 ghost use Rattle.running_frame.specs.Calling.{HaveCode};
-ghost use Rattle.running_frame.specs.Returning.{HasKept, IsCaller, IsGiven, IsTaker, ReturnsIn, TakesIn, count_of, taken};
+ghost use Rattle.running_frame.specs.Returning.{HasKept, IsCaller, IsGiven, IsTaker, ReturnsIn, TakesIn, Wants, count_of, taken};
 ghost use Rattle.running_frame.specs.Standing.{IsClosedFrom};
 
 use crate::calling::{is_call, one_less, register_of};
@@ -14,7 +15,7 @@ use lua_stack::{LuaState, Stack, Wait};
 use object_pool::Pool;
 use table_core::Value;
 
-/// What its CALL wants: at most one value, in a register, and where it goes on.
+/// What the instruction wants at which a frame waits: at most two values, in registers, and where it goes on.
 #[derive(Clone, Copy, Debug)]
 pub(crate) struct Taker {
     register: usize,
@@ -22,9 +23,16 @@ pub(crate) struct Taker {
     to: usize,
 }
 
-/// A return to a Lua frame whose CALL wants at most one value: that frame runs again, behind the CALL. `None`, with all as before, at any other instruction, where
-/// more are wanted, and where the return takes more than the stack. From the register `closed` on nothing of the frame on top is open or to be closed.
-pub(crate) fn return_value(
+/// The first two values that come to it, nil where there are fewer.
+#[derive(Clone, Copy, Debug)]
+pub(crate) struct Given {
+    pub(crate) first: Value,
+    pub(crate) second: Value,
+}
+
+/// A return to a Lua frame whose CALL or TFORCALL wants at most two values: that frame runs again, behind it. `None`, with all as before, at any other instruction,
+/// where more are wanted, and where the return takes more than the stack. From the register `closed` on nothing of the frame on top is open or to be closed.
+pub(crate) fn return_values(
     stack: &mut Stack,
     funcs: &Pool<Func>,
     codes: &Codes,
@@ -42,11 +50,11 @@ pub(crate) fn return_value(
     if !is_first(closed) {
         return None;
     }
-    let value = given(stack.registers(), i.a() as usize, count)?;
+    let given = returned_from(stack.registers(), i.a() as usize, count)?;
     let caller = caller_of(stack)?;
     let taker = taker_of(funcs, codes, caller)?;
     stack.pop();
-    hand(stack, taker, value);
+    hand(stack, taker, given);
     Some(())
 }
 
@@ -72,32 +80,47 @@ pub(crate) fn is_first(closed: Option<usize>) -> bool
     }
 }
 
-/// The first of `count` registers, or nil where none is returned.
-fn given(registers: &[Value], register: usize, count: usize) -> Option<Value>
-    ensures { IfSome result (λ v. IsGiven registers.now register count v) }
+/// The first two of the values of `count` registers.
+fn returned_from(registers: &[Value], register: usize, count: usize) -> Option<Given>
+    ensures { IfSome result (λ g. IsGiven registers.now register count g) }
 {
     if count == 0 {
-        return Some(Value::Nil);
+        return Some(Given {
+            first: Value::Nil,
+            second: Value::Nil,
+        });
     }
     let end = register.checked_add(count)?;
     if end > registers.len() {
         return None;
     }
-    register_of(registers, register)
+    let first = register_of(registers, register)?;
+    if count == 1 {
+        return Some(Given {
+            first,
+            second: Value::Nil,
+        });
+    }
+    let second = second_of(registers, register)?;
+    Some(Given { first, second })
 }
 
-/// The frame below, where it is a Lua frame that waits for a call.
+/// The value of the register behind one.
+fn second_of(registers: &[Value], register: usize) -> Option<Value>
+    ensures { IfSome result (λ v. slice_get registers.now (register + 1) ≡ Some v) }
+{
+    let next = register.checked_add(1)?;
+    register_of(registers, next)
+}
+
+/// The frame below, where it is a Lua frame.
 fn caller_of(stack: &Stack) -> Option<LuaState>
     ensures { IfSome result (λ c. IsCaller stack.now c) }
 {
-    let state = stack.below_top()?;
-    match state.wait {
-        Wait::ForCall => Some(state),
-        _ => None,
-    }
+    stack.below_top()
 }
 
-/// What its CALL wants.
+/// What a frame that waits wants.
 pub(crate) fn taker_of(funcs: &Pool<Func>, codes: &Codes, caller: LuaState) -> Option<Taker>
     requires { HaveCode funcs.now.objects codes.now }
     ensures { IfSome result (λ t. TakesIn funcs.now.objects codes.now caller t) }
@@ -109,7 +132,7 @@ pub(crate) fn taker_of(funcs: &Pool<Func>, codes: &Codes, caller: LuaState) -> O
     taker_in(&code.words, caller)
 }
 
-/// What the CALL at its place in these words wants.
+/// What the instruction at its place in these words wants.
 fn taker_in(words: &[Instruction], caller: LuaState) -> Option<Taker>
     ensures { IfSome result (λ t. IsTaker words.now caller t) }
 {
@@ -117,44 +140,80 @@ fn taker_in(words: &[Instruction], caller: LuaState) -> Option<Taker>
     if to >= words.len() {
         return None;
     }
-    let i = fetch(words, caller.pc);
+    let taker = wanted(fetch(words, caller.pc), caller.wait, to)?;
+    if taker.count > 2 {
+        return None;
+    }
+    let end = taker.register.checked_add(taker.count)?;
+    if end > caller.size {
+        return None;
+    }
+    Some(taker)
+}
+
+/// What an instruction wants at which a frame waits so.
+fn wanted(i: Instruction, wait: Wait, to: usize) -> Option<Taker>
+    ensures { IfSome result (λ t. Wants i t wait × (t.to ≡ to)) }
+{
+    match wait {
+        Wait::ForCall => wanted_by_call(i, to),
+        Wait::ForIterator => wanted_by_iterator(i, to),
+        _ => None,
+    }
+}
+
+/// What a CALL wants.
+fn wanted_by_call(i: Instruction, to: usize) -> Option<Taker>
+    ensures { IfSome result (λ t. Wants i t ForCall × (t.to ≡ to)) }
+{
     if !is_call(i) {
         return None;
     }
     let count = one_less(i.c())?;
-    let register = i.a() as usize;
-    if count > 1 {
-        return None;
-    }
-    if register + count > caller.size {
-        return None;
-    }
     Some(Taker {
-        register,
+        register: i.a() as usize,
         count,
         to,
     })
 }
 
-/// The Lua frame on top gets a value where it wants one, and runs on.
-pub(crate) fn hand(stack: &mut Stack, taker: Taker, value: Value)
-    requires few { taker.count ≤ 1 }
-    requires room { HasKept stack.old (taker.register + taker.count) }
-    ensures { TopBecomes stack.old stack.new (λ f t. taken taker (f value) t) }
+/// What a TFORCALL wants.
+fn wanted_by_iterator(i: Instruction, to: usize) -> Option<Taker>
+    ensures { IfSome result (λ t. Wants i t ForIterator × (t.to ≡ to)) }
 {
-    put(stack, taker, value);
+    match i.opcode() {
+        Some(Opcode::TForCall) => Some(Taker {
+            register: i.a() as usize + 4,
+            count: i.c() as usize,
+            to,
+        }),
+        _ => None,
+    }
+}
+
+/// The Lua frame on top gets what it wants, and runs on.
+pub(crate) fn hand(stack: &mut Stack, taker: Taker, given: Given)
+    requires few { taker.count ≤ 2 }
+    requires room { HasKept stack.old (taker.register + taker.count) }
+    ensures { TopBecomes stack.old stack.new (λ f t. taken taker (f given.first) (f given.second) t) }
+{
+    put(stack, taker, given);
     stack.set_wait(Wait::Running);
     stack.set_pc(taker.to);
 }
 
-/// Puts the value where it is wanted.
-fn put(stack: &mut Stack, taker: Taker, value: Value)
-    requires few { taker.count ≤ 1 }
+/// Puts the values where they are wanted.
+fn put(stack: &mut Stack, taker: Taker, given: Given)
+    requires few { taker.count ≤ 2 }
     requires room { HasRegisters stack.old (taker.register + taker.count) }
-    ensures { TopBecomes stack.old stack.new (λ f t. with_registers (write_all taker.register (range 0 taker.count (f value ∷ [])) t.own.registers) t) }
+    ensures { TopBecomes stack.old stack.new (λ f t. with_registers (write_all taker.register (range 0 taker.count (f given.first ∷ f given.second ∷ [])) t.own.registers) t) }
 {
     if taker.count == 0 {
         return;
     }
-    stack.set(taker.register, value);
+    if taker.count == 1 {
+        stack.set(taker.register, given.first);
+        return;
+    }
+    stack.write_registers(taker.register, &[given.first, given.second]);
 }

@@ -1,5 +1,5 @@
-// Results that move to a Lua frame which waits for a call and takes at most one value: it goes on with them (luaD_poscall of ldo.c).
-ghost use Rattle.std.specs.Prelude.{◌≡◌, ℕ, [], IfNone, IfSome, length, true};
+// Results that move to a Lua frame which waits for a call and takes at most two values: it goes on with them (luaD_poscall of ldo.c).
+ghost use Rattle.std.specs.Prelude.{◌≡◌, ℕ, [], IfNone, IfSome, length, map, true};
 ghost use Rattle.lua_heap.specs.Plain.{plain};
 ghost use Rattle.lua_stack.specs.Frames.{HasLuaTop};
 ghost use Rattle.library_rows.specs.Library.{all_entries};
@@ -8,13 +8,15 @@ ghost use Rattle.machine_focus.specs.Focus.{Reaches};
 ghost use Rattle.move_laws.specs.Memory.{InOrder};
 ghost use Rattle.step_laws.specs.Steps.{IsReady};
 ghost use Rattle.running_frame.specs.Calling.{HaveCode};
-ghost use Rattle.running_frame.specs.Taking.{IsWaiting, Takes, TakesOnTop, first};
+ghost use Rattle.running_frame.specs.Returning.{AreFirst, ReadsAt};
+ghost use Rattle.running_frame.specs.Taking.{IsWaiting, Takes, TakesOnTop};
 
 use crate::calling::register_of;
-use crate::returning::{hand, taker_of};
+use crate::place::is_none;
+use crate::returning::{Given, hand, taker_of};
 use lua_heap::law::checked_code_is_there;
 use lua_heap::{Codes, Coro, Func, World};
-use lua_stack::{LuaState, Stack, Wait};
+use lua_stack::{LuaState, Stack};
 use machine_moves::running;
 use object_pool::Pool;
 use table_core::Value;
@@ -42,8 +44,8 @@ fn is_still(world: &World) -> bool
     true
 }
 
-/// The Lua frame on top takes the first value that moves, or nil where none does, and runs on; nothing moves then. `None`, with all as before, where it does not
-/// wait for a call, or wants more values.
+/// The Lua frame on top takes the first values that move, nil where there are fewer, and runs on; nothing moves then. `None`, with all as before, where it does not
+/// wait for a call, or wants more than two values.
 fn take_moving(world: &mut World) -> Option<()>
     requires ready { IsReady (length all_entries) go world.old }
     ensures reaches { IfSome result (λ _. (rows : ℕ → Row) (fuel : ℕ) → Reaches rows (plain world.old fuel) (plain world.new fuel)) }
@@ -52,66 +54,76 @@ fn take_moving(world: &mut World) -> Option<()>
     ensures order { InOrder world.new }
 {
     checked_code_is_there();
-    let value = first_of(&world.moving);
-    take_on_top(world, value)?;
+    let given = first_two(&world.moving);
+    take_on_top(world, given)?;
     world.moving.clear();
     Some(())
 }
 
-/// The first of some values, or nil.
-fn first_of(values: &[Value]) -> Value
-    ensures { result ≡ first values.now }
+/// The first two of some values, nil where there are fewer.
+fn first_two(values: &[Value]) -> Given
+    ensures { AreFirst (λ f. map f values.now) result }
 {
-    match register_of(values, 0) {
+    let first = value_or_nil(values, 0);
+    let second = value_or_nil(values, 1);
+    Given { first, second }
+}
+
+/// The value at a place, or nil.
+fn value_or_nil(values: &[Value], at: usize) -> Value
+    ensures { ReadsAt values.now at result }
+{
+    match register_of(values, at) {
         Some(value) => value,
         None => Value::Nil,
     }
 }
 
-/// The frame on top of the stack that runs takes a value.
-fn take_on_top(world: &mut World, value: Value) -> Option<()>
+/// The frame on top of the stack that runs takes what it wants of two values.
+fn take_on_top(world: &mut World, given: Given) -> Option<()>
     requires ready { IsReady (length all_entries) go world.old }
-    ensures takes { IfSome result (λ _. TakesOnTop world.old world.new value) }
+    ensures takes { IfSome result (λ _. TakesOnTop world.old world.new given) }
     ensures kept { IfNone result (world.new ≡ world.old) }
     ensures order { InOrder world.new }
 {
     checked_code_is_there();
     let co = running(world);
     match world.coros.get_mut(co.0) {
-        Coro::Running(stack) => take_value(stack, &world.funcs, &world.codes, value),
+        Coro::Running(stack) => take_values(stack, &world.funcs, &world.codes, given),
         _ => unreachable!(),
     }
 }
 
-/// The frame on top of a stack takes a value.
-fn take_value(stack: &mut Stack, funcs: &Pool<Func>, codes: &Codes, value: Value) -> Option<()>
+/// The frame on top of a stack takes them.
+fn take_values(stack: &mut Stack, funcs: &Pool<Func>, codes: &Codes, given: Given) -> Option<()>
     requires top { HasLuaTop stack.old }
     requires codes { HaveCode funcs.now.objects codes.now }
-    ensures takes { IfSome result (λ _. Takes stack.old stack.new funcs.now.objects codes.now value) }
+    ensures takes { IfSome result (λ _. Takes stack.old stack.new funcs.now.objects codes.now given) }
     ensures kept { IfNone result (stack.new ≡ stack.old) }
     ensures listed { stack.new.open_cells ≡ stack.old.open_cells }
 {
     let caller = waiting_top(stack)?;
     let taker = taker_of(funcs, codes, caller)?;
-    hand(stack, taker, value);
+    hand(stack, taker, given);
     Some(())
 }
 
-/// The frame on top, where it waits for a call.
+/// The frame on top, where it waits.
 fn waiting_top(stack: &Stack) -> Option<LuaState>
     requires { HasLuaTop stack.now }
     ensures { IfSome result (λ c. IsWaiting stack.now c) }
 {
+    let wait = stack.wait();
+    if is_none(wait) {
+        return None;
+    }
     let id = stack.function();
     let place = stack.pc();
     let size = stack.registers().len();
-    match stack.wait() {
-        Wait::ForCall => Some(LuaState {
-            function: id,
-            wait: Wait::ForCall,
-            pc: place,
-            size,
-        }),
-        _ => None,
-    }
+    Some(LuaState {
+        function: id,
+        wait,
+        pc: place,
+        size,
+    })
 }

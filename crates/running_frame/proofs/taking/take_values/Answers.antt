@@ -1,5 +1,5 @@
 use Rattle.running_frame.proofs.Taken.{waiting_kept}
-use Rattle.running_frame.proofs.taking.take_value.Goals as goal
+use Rattle.running_frame.proofs.taking.take_values.Goals as goal
 
 pub hand-requires-clause-few : goal.hand-requires-clause-few
 hand-requires-clause-few c = c.in_ok-taker.ensures.takes.few

@@ -3,7 +3,7 @@ use Rattle.std.specs.Prelude.{IfSome}
 use Rattle.running_frame.specs.Returning.{IsGiven}
 use Rattle.running_frame.specs.Standing.{IsClosedFrom}
 use Rattle.running_frame.proofs.Takers.{caller_kept, frames_there}
-use Rattle.running_frame.proofs.returning.return_value.Goals as goal
+use Rattle.running_frame.proofs.returning.return_values.Goals as goal
 
 pub pop-requires-clause-there : goal.pop-requires-clause-there
 pop-requires-clause-there c = frames_there c.requires.top
@@ -29,8 +29,8 @@ returns-clause-returns c =
       closed = subst (λ o. IfSome o (λ register. IsClosedFrom c.args.stack.now register)) (c.is_first.ensures yes) c.requires.closed;
       registers = c.registers.result.now;
       are = c.registers.ensures;
-      value = c.in_ok-value.value;
-      gives = subst (λ a. IsGiven c.registers.result.now a c.in_ok-count.count c.in_ok-value.value) c.a.ensures c.in_ok-value.ensures;
+      given = c.in_ok-given.given;
+      gives = subst (λ a. IsGiven c.registers.result.now a c.in_ok-count.count c.in_ok-given.given) c.a.ensures c.in_ok-given.ensures;
       caller = c.in_ok-caller.caller;
       calls = c.in_ok-caller.ensures;
       taker = c.in_ok-taker.taker;

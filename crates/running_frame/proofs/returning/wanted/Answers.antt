@@ -1,0 +1,10 @@
+use Rattle.std.proofs.Common.{sym, subst}
+use Rattle.std.proofs.lemmas.Option.{IfSome_then}
+use Rattle.running_frame.specs.Returning.{Wants}
+use Rattle.running_frame.proofs.returning.wanted.Goals as goal
+
+pub returns-in-ForCall : goal.returns-in-ForCall
+returns-in-ForCall c = IfSome_then c.wanted_by_call.result c.wanted_by_call.ensures (λ t w. (subst (Wants c.args.i t) (sym c.in-ForCall.is) w.0, w.1))
+
+pub returns-in-ForIterator : goal.returns-in-ForIterator
+returns-in-ForIterator c = IfSome_then c.wanted_by_iterator.result c.wanted_by_iterator.ensures (λ t w. (subst (Wants c.args.i t) (sym c.in-ForIterator.is) w.0, w.1))
