@@ -24,7 +24,7 @@ use Rattle.lua_parse.specs.Moves.{Piece, a_line, a_name, some_names, some_params
 use Rattle.lua_parse.specs.Grammar.{expects, name_move, constant_move, operand, right_operand, operator_move, unary_move, string_move, item_move, stat_move, pass_if}
 use Rattle.grammar_laws.proofs.Operands.{operand_has, right_has}
 use Rattle.grammar_laws.proofs.Nesting.{nesting, nesting_in_exps, nesting_in_fields, nesting_in_field, nesting_in_stat, nesting_in_arms, nesting_in_stats, nesting_in_block, nesting_in_body}
-use Rattle.grammar_laws.proofs.Walk.{Keeps, picks, passes, refuses, reads, ends, either, passes_if, only_reads, on_a_line, on_a_name, on_some_names, on_some_params, on_a_declared, on_some_declared, on_an_exp, on_maybe_exp, on_some_exps, on_a_field, on_some_fields, on_a_target, on_an_arm, on_some_arms, on_some_items, on_a_stat, on_a_block, on_maybe_block, on_a_body}
+use Rattle.grammar_laws.proofs.Walk.{AnyToken, Keeps, picks, passes, refuses, reads, ends, either, passes_if, only_reads, on_a_line, on_a_name, on_some_names, on_some_params, on_a_declared, on_some_declared, on_an_exp, on_maybe_exp, on_some_exps, on_a_field, on_some_fields, on_a_target, on_an_arm, on_some_arms, on_some_items, on_a_stat, on_a_block, on_maybe_block, on_a_body}
 
 abbrev pub MaybeNests : ℕ → Option tree.Exp → Type 0
 MaybeNests room None = Unit {0}
@@ -76,9 +76,6 @@ StandsNested (path left height) room = nesting left ≤ room
 StandsNested (assignment line first height) room = nesting first ≤ room
 StandsNested (more_targets ts height) room = nesting_in_exps (tree.exps ts) ≤ room
 StandsNested _ room = Unit {0}
-
-abbrev pub AnyToken : Lexeme → Type 0
-AnyToken t = Unit {0}
 
 abbrev KeepsNesting : Part → ℕ → Move → Type 0
 KeepsNesting part room move = Keeps AnyToken StandsNested Nests part room move

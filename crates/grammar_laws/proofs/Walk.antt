@@ -15,6 +15,14 @@ abbrev pub AreKnown : (Lexeme → Type 0) → List Lexeme → Type 0
 AreKnown Known [] = Unit {0}
 AreKnown Known (t ∷ ts) = Known t × AreKnown Known ts
 
+-- where nothing has to be known of a token
+abbrev pub AnyToken : Lexeme → Type 0
+AnyToken t = Unit {0}
+
+pub any_tokens : (tokens : List Lexeme) → AreKnown AnyToken tokens
+any_tokens [] = tt
+any_tokens (t ∷ tokens) = (tt, any_tokens tokens)
+
 module _ (Known : Lexeme → Type 0) (Ready : Part → (room : ℕ) → Type 0) (Holds : Part → (room : ℕ) → Piece → Type 0) where
   -- in whatever way it goes on over known tokens, what holds of the part with this room holds of what it gives
   pub data Keeps (part : Part) (room : ℕ) : Move → Type 0 where
@@ -54,6 +62,11 @@ module _ {Known : Lexeme → Type 0} {Ready : Part → ℕ → Type 0} {Holds : 
   pub either : {here other : Move} (b : Bool) → Keeps Known Ready Holds goal limit here → Keeps Known Ready Holds goal limit other → Keeps Known Ready Holds goal limit (if b then here else other)
   either true h o = h
   either false h o = o
+
+  pub either_by : {here other : Move} (b : Bool) → (b ≡ true → Keeps Known Ready Holds goal limit here) → Keeps Known Ready Holds goal limit other
+      → Keeps Known Ready Holds goal limit (if b then here else other)
+  either_by true h o = h refl
+  either_by false h o = o
 
   pub passes_if : {next : Move} (b : Bool) → Keeps Known Ready Holds goal limit next → Keeps Known Ready Holds goal limit (pass_if b next)
   passes_if true h = passes h

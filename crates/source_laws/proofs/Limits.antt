@@ -1,5 +1,5 @@
 -- The texts and integers in the tree of a source fit, and its functions are nested at most 400 deep.
-use Rattle.std.proofs.Common.{ℕ, ◌≤◌, ◌<◌, List, [], ◌∷◌, length, Option, refl, arith}
+use Rattle.std.proofs.Common.{ℕ, ◌≤◌, ◌<◌, List, [], length, Option, refl, arith}
 use Rattle.tree_core.specs.Tree.{Block}
 use Rattle.token_cursor.specs.Words.{Lexeme}
 use Rattle.lua_lex.specs.Lexical.{TokensOf}
@@ -10,11 +10,11 @@ use Rattle.code_core.specs.Writable.{depth, greatest_depth}
 use Rattle.code_of.specs.CodeOf.{from_body}
 use Rattle.source_laws.proofs.Texts.{BlockTextsFit, BodyTextsFit}
 use Rattle.grammar_laws.proofs.Nesting.{nesting_in_block}
-use Rattle.grammar_laws.proofs.Walk.{AreKnown, goes}
+use Rattle.grammar_laws.proofs.Walk.{any_tokens, goes}
 use Rattle.source_laws.proofs.TextParts.{part_fits}
 use Rattle.source_laws.proofs.TokenTexts.{tokens_fit}
 use Rattle.source_laws.proofs.PlacedTexts.{placed_fits}
-use Rattle.grammar_laws.proofs.NestingParts.{AnyToken, part_nests}
+use Rattle.grammar_laws.proofs.NestingParts.{part_nests}
 use Rattle.grammar_laws.proofs.PlacedNesting.{placed_nests}
 use Rattle.source_laws.proofs.Deep.{deep_body}
 
@@ -23,10 +23,6 @@ tree_fits source tokens tree small t d = (goes part_fits (a_block tree) d.height
 
 pub texts_fit : (source : List ℕ) (tokens : List Lexeme) (tree : Block) → length source ≤ 1048576 → TokensOf source tokens → Derives tokens tree → BodyTextsFit (placed tree)
 texts_fit source tokens tree small t d = placed_fits tree (tree_fits source tokens tree small t d)
-
-any_tokens : (tokens : List Lexeme) → AreKnown AnyToken tokens
-any_tokens [] = tt
-any_tokens (t ∷ tokens) = (tt, any_tokens tokens)
 
 tree_nests : (tokens : List Lexeme) (tree : Block) → Derives tokens tree → nesting_in_block tree ≤ 400
 tree_nests tokens tree d = (goes part_nests (a_block tree) d.height [] d.reads refl (part_nests chunk 400 tt) (any_tokens tokens)).holds
