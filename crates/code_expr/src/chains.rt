@@ -15,25 +15,7 @@ use tree_core::{BinOp, Exp, ExpNode};
 pub(crate) fn joins(op: BinOp) -> bool
     ensures { result ≡ joins op }
 {
-    match op {
-        BinOp::Concat => true,
-        BinOp::Add
-        | BinOp::Sub
-        | BinOp::Mul
-        | BinOp::Mod
-        | BinOp::Idiv
-        | BinOp::Band
-        | BinOp::Bor
-        | BinOp::Bxor
-        | BinOp::Shl
-        | BinOp::Shr
-        | BinOp::Eq
-        | BinOp::Ne
-        | BinOp::Lt
-        | BinOp::Le
-        | BinOp::Gt
-        | BinOp::Ge => false,
-    }
+    matches!(op, BinOp::Concat)
 }
 
 /// Whether an operator on one line goes on with a chain on another.

@@ -44,13 +44,7 @@ impl Constants {
             | BinOp::Bor
             | BinOp::Bxor => self.add_numeral(exp),
             BinOp::Eq | BinOp::Ne => self.add_literal(alloc, exp),
-            BinOp::Shl
-            | BinOp::Shr
-            | BinOp::Concat
-            | BinOp::Lt
-            | BinOp::Le
-            | BinOp::Gt
-            | BinOp::Ge => Ok(()),
+            _ => Ok(()),
         }
     }
 
@@ -168,13 +162,7 @@ impl Constants {
             | BinOp::Bor
             | BinOp::Bxor => self.numeral_number(exp),
             BinOp::Eq | BinOp::Ne => self.literal_number(exp),
-            BinOp::Shl
-            | BinOp::Shr
-            | BinOp::Concat
-            | BinOp::Lt
-            | BinOp::Le
-            | BinOp::Gt
-            | BinOp::Ge => None,
+            _ => None,
         }
     }
 

@@ -18,20 +18,10 @@ use tree_core::{BinOp, Exp, ExpNode};
 fn computes(op: BinOp) -> bool
     ensures { result ≡ computes op }
 {
-    match op {
-        BinOp::Add
-        | BinOp::Sub
-        | BinOp::Mul
-        | BinOp::Mod
-        | BinOp::Idiv
-        | BinOp::Band
-        | BinOp::Bor
-        | BinOp::Bxor
-        | BinOp::Shl
-        | BinOp::Shr => true,
-        BinOp::Concat | BinOp::Eq | BinOp::Ne | BinOp::Lt | BinOp::Le | BinOp::Gt | BinOp::Ge =>
-            false,
-    }
+    !matches!(
+        op,
+        BinOp::Concat | BinOp::Eq | BinOp::Ne | BinOp::Lt | BinOp::Le | BinOp::Gt | BinOp::Ge
+    )
 }
 
 /// Whether the value of an expression is written by one instruction at its end.

@@ -129,30 +129,17 @@ impl Emitter {
 fn is_compared(op: BinOp) -> bool
     ensures { result ≡ is_compared op }
 {
-    match op {
-        BinOp::Eq | BinOp::Ne | BinOp::Lt | BinOp::Le | BinOp::Gt | BinOp::Ge => true,
-        BinOp::Add
-        | BinOp::Sub
-        | BinOp::Mul
-        | BinOp::Mod
-        | BinOp::Idiv
-        | BinOp::Band
-        | BinOp::Bor
-        | BinOp::Bxor
-        | BinOp::Shl
-        | BinOp::Shr
-        | BinOp::Concat => false,
-    }
+    matches!(
+        op,
+        BinOp::Eq | BinOp::Ne | BinOp::Lt | BinOp::Le | BinOp::Gt | BinOp::Ge
+    )
 }
 
 /// Whether a prefix operator is `not`.
 fn is_not(op: UnOp) -> bool
     ensures { result ≡ is_not op }
 {
-    match op {
-        UnOp::Not => true,
-        UnOp::Neg | UnOp::BitNot | UnOp::Len => false,
-    }
+    matches!(op, UnOp::Not)
 }
 
 /// Whether an expression is a comparison or `not`, without brackets.

@@ -75,13 +75,7 @@ fn greatest(op: BinOp) -> Option<usize>
         | BinOp::Gt
         | BinOp::Ge => Some(128),
         BinOp::Sub | BinOp::Shl => Some(127),
-        BinOp::Mul
-        | BinOp::Mod
-        | BinOp::Idiv
-        | BinOp::Band
-        | BinOp::Bor
-        | BinOp::Bxor
-        | BinOp::Concat => None,
+        _ => None,
     }
 }
 
@@ -143,22 +137,7 @@ pub(crate) fn operand_numeral(op: BinOp, exp: &Exp) -> Option<usize>
 {
     match op {
         BinOp::Shl => from_one(numeral_of(exp, greatest(op))),
-        BinOp::Add
-        | BinOp::Sub
-        | BinOp::Mul
-        | BinOp::Mod
-        | BinOp::Idiv
-        | BinOp::Band
-        | BinOp::Bor
-        | BinOp::Bxor
-        | BinOp::Shr
-        | BinOp::Concat
-        | BinOp::Eq
-        | BinOp::Ne
-        | BinOp::Lt
-        | BinOp::Le
-        | BinOp::Gt
-        | BinOp::Ge => numeral_of(exp, greatest(op)),
+        _ => numeral_of(exp, greatest(op)),
     }
 }
 

@@ -41,19 +41,7 @@ pub(crate) fn number_opcode(op: BinOp) -> Opcode
         BinOp::Le => Opcode::LeI,
         BinOp::Gt => Opcode::GtI,
         BinOp::Ge => Opcode::GeI,
-        BinOp::Eq
-        | BinOp::Ne
-        | BinOp::Add
-        | BinOp::Sub
-        | BinOp::Mul
-        | BinOp::Mod
-        | BinOp::Idiv
-        | BinOp::Band
-        | BinOp::Bor
-        | BinOp::Bxor
-        | BinOp::Shl
-        | BinOp::Shr
-        | BinOp::Concat => Opcode::EqI,
+        _ => Opcode::EqI,
     }
 }
 

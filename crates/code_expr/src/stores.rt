@@ -68,25 +68,7 @@ fn object_at(key: KeySeat, quiet: bool, object: &Exp) -> Option<usize>
 pub fn is_field(target: &Exp) -> bool
     ensures { result ≡ is_field (plain_exp target.now) }
 {
-    match &target.node {
-        ExpNode::Index(_, _) => true,
-        ExpNode::Nil
-        | ExpNode::True
-        | ExpNode::False
-        | ExpNode::Int(_)
-        | ExpNode::Str(_)
-        | ExpNode::Vararg
-        | ExpNode::Function(_)
-        | ExpNode::Var(_)
-        | ExpNode::Call(_, _)
-        | ExpNode::Method(_, _, _)
-        | ExpNode::Unary(_, _)
-        | ExpNode::Binary(_, _, _)
-        | ExpNode::And(_, _)
-        | ExpNode::Or(_, _)
-        | ExpNode::Paren(_)
-        | ExpNode::Table(_) => false,
-    }
+    matches!(&target.node, ExpNode::Index(_, _))
 }
 
 impl Emitter {
