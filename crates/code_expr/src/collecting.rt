@@ -113,21 +113,7 @@ impl Constants {
         match &target.node {
             ExpNode::Var(name) => self.add_global(alloc, name, value),
             ExpNode::Index(_, _) => self.add_literal(alloc, value),
-            ExpNode::Nil
-            | ExpNode::True
-            | ExpNode::False
-            | ExpNode::Int(_)
-            | ExpNode::Str(_)
-            | ExpNode::Vararg
-            | ExpNode::Function(_)
-            | ExpNode::Call(_, _)
-            | ExpNode::Method(_, _, _)
-            | ExpNode::Unary(_, _)
-            | ExpNode::Binary(_, _, _)
-            | ExpNode::And(_, _)
-            | ExpNode::Or(_, _)
-            | ExpNode::Paren(_)
-            | ExpNode::Table(_) => Ok(()),
+            _ => Ok(()),
         }
     }
 

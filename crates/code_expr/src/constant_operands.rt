@@ -54,22 +54,7 @@ impl Constants {
     {
         match &exp.node {
             ExpNode::Int(integer) => self.add_integer(*integer),
-            ExpNode::Nil
-            | ExpNode::True
-            | ExpNode::False
-            | ExpNode::Str(_)
-            | ExpNode::Vararg
-            | ExpNode::Function(_)
-            | ExpNode::Var(_)
-            | ExpNode::Index(_, _)
-            | ExpNode::Call(_, _)
-            | ExpNode::Method(_, _, _)
-            | ExpNode::Unary(_, _)
-            | ExpNode::Binary(_, _, _)
-            | ExpNode::And(_, _)
-            | ExpNode::Or(_, _)
-            | ExpNode::Paren(_)
-            | ExpNode::Table(_) => Ok(()),
+            _ => Ok(()),
         }
     }
 
@@ -83,18 +68,7 @@ impl Constants {
             ExpNode::False => self.add_false(),
             ExpNode::Int(integer) => self.add_integer(*integer),
             ExpNode::Str(bytes) => self.add_text(alloc, bytes),
-            ExpNode::Vararg
-            | ExpNode::Function(_)
-            | ExpNode::Var(_)
-            | ExpNode::Index(_, _)
-            | ExpNode::Call(_, _)
-            | ExpNode::Method(_, _, _)
-            | ExpNode::Unary(_, _)
-            | ExpNode::Binary(_, _, _)
-            | ExpNode::And(_, _)
-            | ExpNode::Or(_, _)
-            | ExpNode::Paren(_)
-            | ExpNode::Table(_) => Ok(()),
+            _ => Ok(()),
         }
     }
 
@@ -104,22 +78,7 @@ impl Constants {
     {
         match &exp.node {
             ExpNode::Int(integer) => self.short(self.number_of_integer(*integer)),
-            ExpNode::Nil
-            | ExpNode::True
-            | ExpNode::False
-            | ExpNode::Str(_)
-            | ExpNode::Vararg
-            | ExpNode::Function(_)
-            | ExpNode::Var(_)
-            | ExpNode::Index(_, _)
-            | ExpNode::Call(_, _)
-            | ExpNode::Method(_, _, _)
-            | ExpNode::Unary(_, _)
-            | ExpNode::Binary(_, _, _)
-            | ExpNode::And(_, _)
-            | ExpNode::Or(_, _)
-            | ExpNode::Paren(_)
-            | ExpNode::Table(_) => None,
+            _ => None,
         }
     }
 
@@ -133,18 +92,7 @@ impl Constants {
             ExpNode::False => self.short(self.number_of_false()),
             ExpNode::Int(integer) => self.short(self.number_of_integer(*integer)),
             ExpNode::Str(bytes) => self.short(self.number_of_text(bytes)),
-            ExpNode::Vararg
-            | ExpNode::Function(_)
-            | ExpNode::Var(_)
-            | ExpNode::Index(_, _)
-            | ExpNode::Call(_, _)
-            | ExpNode::Method(_, _, _)
-            | ExpNode::Unary(_, _)
-            | ExpNode::Binary(_, _, _)
-            | ExpNode::And(_, _)
-            | ExpNode::Or(_, _)
-            | ExpNode::Paren(_)
-            | ExpNode::Table(_) => None,
+            _ => None,
         }
     }
 

@@ -55,22 +55,7 @@ fn target_local(target: &Exp) -> Option<usize>
 {
     match &target.node {
         ExpNode::Var(name) => local_at(name),
-        ExpNode::Nil
-        | ExpNode::True
-        | ExpNode::False
-        | ExpNode::Int(_)
-        | ExpNode::Str(_)
-        | ExpNode::Vararg
-        | ExpNode::Function(_)
-        | ExpNode::Index(_, _)
-        | ExpNode::Call(_, _)
-        | ExpNode::Method(_, _, _)
-        | ExpNode::Unary(_, _)
-        | ExpNode::Binary(_, _, _)
-        | ExpNode::And(_, _)
-        | ExpNode::Or(_, _)
-        | ExpNode::Paren(_)
-        | ExpNode::Table(_) => None,
+        _ => None,
     }
 }
 

@@ -43,21 +43,7 @@ pub(crate) fn local_of(exp: &Exp) -> Option<usize>
     match &exp.node {
         ExpNode::Var(name) => local_at(name),
         ExpNode::Paren(inner) => local_of(inner),
-        ExpNode::Nil
-        | ExpNode::True
-        | ExpNode::False
-        | ExpNode::Int(_)
-        | ExpNode::Str(_)
-        | ExpNode::Vararg
-        | ExpNode::Function(_)
-        | ExpNode::Index(_, _)
-        | ExpNode::Call(_, _)
-        | ExpNode::Method(_, _, _)
-        | ExpNode::Unary(_, _)
-        | ExpNode::Binary(_, _, _)
-        | ExpNode::And(_, _)
-        | ExpNode::Or(_, _)
-        | ExpNode::Table(_) => None,
+        _ => None,
     }
 }
 
@@ -100,22 +86,7 @@ pub(crate) fn numeral_of(exp: &Exp, most: Option<usize>) -> Option<usize>
 {
     match &exp.node {
         ExpNode::Int(integer) => up_to(most?, *integer),
-        ExpNode::Nil
-        | ExpNode::True
-        | ExpNode::False
-        | ExpNode::Str(_)
-        | ExpNode::Vararg
-        | ExpNode::Function(_)
-        | ExpNode::Var(_)
-        | ExpNode::Index(_, _)
-        | ExpNode::Call(_, _)
-        | ExpNode::Method(_, _, _)
-        | ExpNode::Unary(_, _)
-        | ExpNode::Binary(_, _, _)
-        | ExpNode::And(_, _)
-        | ExpNode::Or(_, _)
-        | ExpNode::Paren(_)
-        | ExpNode::Table(_) => None,
+        _ => None,
     }
 }
 

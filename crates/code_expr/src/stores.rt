@@ -78,22 +78,7 @@ impl Emitter {
     {
         match &key.node {
             ExpNode::Str(bytes) => short(self.constants().number_of_text(bytes)),
-            ExpNode::Nil
-            | ExpNode::True
-            | ExpNode::False
-            | ExpNode::Int(_)
-            | ExpNode::Vararg
-            | ExpNode::Function(_)
-            | ExpNode::Var(_)
-            | ExpNode::Index(_, _)
-            | ExpNode::Call(_, _)
-            | ExpNode::Method(_, _, _)
-            | ExpNode::Unary(_, _)
-            | ExpNode::Binary(_, _, _)
-            | ExpNode::And(_, _)
-            | ExpNode::Or(_, _)
-            | ExpNode::Paren(_)
-            | ExpNode::Table(_) => None,
+            _ => None,
         }
     }
 
@@ -260,22 +245,7 @@ impl Emitter {
     {
         match &target.node {
             ExpNode::Index(object, key) => self.store_field(object, key, value, free, target.line),
-            ExpNode::Nil
-            | ExpNode::True
-            | ExpNode::False
-            | ExpNode::Int(_)
-            | ExpNode::Str(_)
-            | ExpNode::Vararg
-            | ExpNode::Function(_)
-            | ExpNode::Var(_)
-            | ExpNode::Call(_, _)
-            | ExpNode::Method(_, _, _)
-            | ExpNode::Unary(_, _)
-            | ExpNode::Binary(_, _, _)
-            | ExpNode::And(_, _)
-            | ExpNode::Or(_, _)
-            | ExpNode::Paren(_)
-            | ExpNode::Table(_) => Ok(()),
+            _ => Ok(()),
         }
     }
 }

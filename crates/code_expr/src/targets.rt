@@ -189,22 +189,7 @@ impl Emitter {
     {
         match &target.node {
             ExpNode::Var(name) => self.name_store(name, value, target.line),
-            ExpNode::Nil
-            | ExpNode::True
-            | ExpNode::False
-            | ExpNode::Int(_)
-            | ExpNode::Str(_)
-            | ExpNode::Vararg
-            | ExpNode::Function(_)
-            | ExpNode::Index(_, _)
-            | ExpNode::Call(_, _)
-            | ExpNode::Method(_, _, _)
-            | ExpNode::Unary(_, _)
-            | ExpNode::Binary(_, _, _)
-            | ExpNode::And(_, _)
-            | ExpNode::Or(_, _)
-            | ExpNode::Paren(_)
-            | ExpNode::Table(_) => None,
+            _ => None,
         }
     }
 }
