@@ -10,7 +10,9 @@ mod Walk
 pub mod Added
 mod Listed
 mod Placed
+mod NextLine
 pub mod Resumed
 pub mod Captured
+mod OpenedCell
 pub mod Closed
 pub mod TextsThere
