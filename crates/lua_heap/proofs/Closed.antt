@@ -23,7 +23,7 @@ use Rattle.lua_heap.specs.Plain.{cell, coroutine, plain}
 use Rattle.lua_heap.specs.Cells.{AreListed, CellsAreListed, IsOnce, open_cells_in}
 use Rattle.lua_heap.specs.Closing.{TakesOnTop, ClosesAll, ClosesSome, NoneIsOpen, count_in, open_count}
 use Rattle.lua_heap.proofs.Captured.{is_at, at_is, by_test, list_stays, open_same, running_same, self_at}
-use Rattle.lua_heap.proofs.Resumed.{set_cases}
+use Rattle.lua_heap.proofs.Resumed.{set_cases, set_own}
 
 eq_or : (m n : ℕ) → (m ≡ n) ⊎ (m ≢ n)
 eq_or zero zero = inl refl
@@ -285,6 +285,17 @@ module _ (W : Memory) (co : CoroId) (register : ℕ) (id : CellId) (v : Kept) (k
       let more : open_count W co ≡ length k.open_cells = ap count_in there in
       let l = ap length split ∙ length-append o.after.open_cells (o.open_cell ∷ []) in
       omega (arith, less, more, l)
+
+-- the coroutine that was looked at is the one that runs, and where it stays as it is so does the world
+
+pub running_takes : (W : Memory) (co : CoroId) (register : ℕ) (id : CellId) (v : Kept) (k : KeptStack) (now d : Coro) → slice_get W.coros.objects co.0 ≡ Some now → slice_get W.coros.objects co.0 ≡ Some (Running k)
+    → TakesOnTop now d register id v → TakesOnTop (Running k) d register id v
+running_takes W co register id v k now d got there = subst (λ c. TakesOnTop c d register id v) (some_same _ _ (sym got ∙ there))
+
+pub kept_world : (W : Memory) (co : CoroId) (now d : Coro) → slice_get W.coros.objects co.0 ≡ Some now → d ≡ now → W ≡ record W { coros = record W.coros { objects = slice_set W.coros.objects co.0 d } }
+kept_world W co now d got kept =
+    let own : slice_get W.coros.objects co.0 ≡ Some d = got ∙ ap (λ (k : Coro). Some k) (sym kept) in
+    ap (λ (cs : List Coro). record W { coros = record W.coros { objects = cs } }) (sym (set_own W.coros.objects co.0 d own))
 
 -- one after another
 

@@ -51,6 +51,9 @@ frame_line W f = bind (kept_place (Some f)) (place_in W)
 
 -- one frame
 
+pub place_read : (W : Memory) (frames : List KeptFrame) (n : ℕ) (f : KeptFrame) (o : Option (FuncId × ℕ)) → slice_get frames n ≡ Some f → o ≡ kept_place (slice_get frames n) → bind (kept_place (Some f)) (place_in W) ≡ bind o (place_in W)
+place_read W frames n f o there is = ap (λ (o : Option KeptFrame). bind (kept_place o) (place_in W)) (sym there) ∙ ap (λ (o : Option (FuncId × ℕ)). bind o (place_in W)) (sym is)
+
 line_case : (name : List ℕ) (o : Option ℕ) → bind o (λ line. Some (position name line)) ≡ option_map text_of_line (bind o (λ line. Some (name, line)))
 line_case name None = refl
 line_case name (Some line) = refl
