@@ -20,6 +20,7 @@ use Rattle.machine_means.specs.Joined.{TalkFrame, TalkWorld, Dressed, Pair, Join
 use Rattle.machine_means.specs.Works.{Works}
 use Rattle.machine_means.specs.Stands.{refused_under, Stands, call_asked, error_raised, error_leaves, primitive_called, budget_spent, code_runs, ComesTo, AtRest, IsLua, AskedSteps}
 use Rattle.machine_means.proofs.Pending.{both_first}
+use Rattle.machine_means.proofs.Rejoined.{rejoined}
 use Rattle.machine_means.proofs.Handing.{told_now}
 use Rattle.machine_means.proofs.Loosened.{loosened}
 use Rattle.machine_means.proofs.AtRest.{stack_now, only, top}
@@ -28,17 +29,7 @@ use Rattle.machine_means.proofs.Entered.{works}
 
 -- nothing that joins the worlds looks at what moves, and both have paid the same
 pub paid : (M : machine.World) (T : TalkWorld) (lax : Bool) (fuel : ℕ) (mv : List Value) → Joined lax M T → Joined lax (record M { fuel = fuel; moving = mv }) (record T { fuel = fuel })
-paid M T lax fuel mv k = record {
-  heap = k.heap;
-  globals = k.globals;
-  printed = k.printed;
-  fuel = refl;
-  chain = k.chain;
-  functions = k.functions;
-  held = k.held;
-  cells = k.cells;
-  coroutines = k.coroutines;
-}
+paid M T lax fuel mv k = rejoined lax lax M T k M.cells M.coroutines M.chain mv fuel T.cells T.coroutines T.chain T.frames T.now fuel k.held refl k.chain k.cells k.coroutines
 
 pub room_over : (n d : ℕ) → nat_le (n + 1) d ≡ true → n < d
 room_over n d e = grind (arith, Rattle.std.proofs.lemmas.Bool.Decides.nat_tests)

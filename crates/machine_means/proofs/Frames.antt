@@ -17,6 +17,7 @@ use Rattle.machine_means.specs.Joined.{TalkFrame, TalkWorld, Pair, under, Below,
 use Rattle.machine_means.proofs.Held.{reverse_is}
 use Rattle.machine_means.proofs.CellWrites.{all3_first}
 use Rattle.machine_means.proofs.Switches.{OnlyRuns, co_put, set_same, running_is}
+use Rattle.machine_means.proofs.Rejoined.{rejoined}
 
 abbrev pub HoldsSame : List Held → List Held → Type 0
 HoldsSame hs hs' = ((f r c : ℕ) → Holds f r c hs → Holds f r c hs') × ((f r c : ℕ) → Holds f r c hs' → Holds f r c hs)
@@ -66,20 +67,11 @@ module _ (M : machine.World) (T : TalkWorld) (co : ℕ) (frames : List Frame) (l
       let p = found in
       let r = running_is M.functions T.cells run frames p.0 p.1 p.4 in
       let talks : slice_get T.coroutines co ≡ Some talk.running = p.2 ∙ ap Some r.0 in
-      record {
-        heap = k.heap;
-        globals = k.globals;
-        printed = k.printed;
-        fuel = k.fuel;
-        chain = k.chain;
-        functions = k.functions;
-        held = slice_set k.held co hs';
-        cells = cells_hold M.cells T.cells k.held k.cells co hs hs' e s;
-        coroutines =
-            subst (λ ds. CoroutinesPair M.functions T.cells (λ fr hs. Stacks lax' M.functions T.cells fr ts' hs) (slice_set M.coroutines co (in_progress frames')) ds (slice_set k.held co hs')) (set_same T.coroutines co talk.running talks)
-            (co_put M.functions T.cells run (λ fr hs. Stacks lax' M.functions T.cells fr ts' hs) M.coroutines T.coroutines k.held co (in_progress frames) (in_progress frames') talk.running talk.running hs hs'
-            (λ j fr e n. n (sym (only j fr e))) runs talks e st k.coroutines);
-      }
+      rejoined lax lax' M T k M.cells (slice_set M.coroutines co (in_progress frames')) M.chain M.moving M.fuel T.cells T.coroutines T.chain ts' T.now T.fuel (slice_set k.held co hs') k.fuel k.chain
+      (cells_hold M.cells T.cells k.held k.cells co hs hs' e s)
+      (subst (λ ds. CoroutinesPair M.functions T.cells (λ fr hs. Stacks lax' M.functions T.cells fr ts' hs) (slice_set M.coroutines co (in_progress frames')) ds (slice_set k.held co hs')) (set_same T.coroutines co talk.running talks)
+      (co_put M.functions T.cells run (λ fr hs. Stacks lax' M.functions T.cells fr ts' hs) M.coroutines T.coroutines k.held co (in_progress frames) (in_progress frames') talk.running talk.running hs hs'
+      (λ j fr e n. n (sym (only j fr e))) runs talks e st k.coroutines))
 
   -- a frame that holds nothing is pushed
   pub pushed : (m : Frame) (t : TalkFrame) → Pair false M.functions T.cells m t [] → under m ≡ lax → suc (length frames) ≤ greatest_depth

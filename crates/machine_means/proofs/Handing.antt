@@ -7,6 +7,7 @@ use Rattle.machine_core.specs.FrameRows.{handed, hand_over}
 use Rattle.lua_meaning.specs.World.{Now, gives_back, now_in}
 use Rattle.machine_means.specs.Joined.{TalkWorld, Joined}
 use Rattle.machine_means.specs.Laws.{GivesBack}
+use Rattle.machine_means.proofs.Rejoined.{rejoined}
 
 abbrev pub ending_of : TopShape → Ending
 ending_of lua_top = go
@@ -23,30 +24,10 @@ hand_over_is W s env e =
 
 -- nothing that joins the worlds looks at what moves
 pub moved : (lax : Bool) (M : World) (T : TalkWorld) (mv : List Value) → Joined lax M T → Joined lax (record M { moving = mv }) T
-moved lax M T mv k = record {
-  heap = k.heap;
-  globals = k.globals;
-  printed = k.printed;
-  fuel = k.fuel;
-  chain = k.chain;
-  functions = k.functions;
-  held = k.held;
-  cells = k.cells;
-  coroutines = k.coroutines;
-}
+moved lax M T mv k = rejoined lax lax M T k M.cells M.coroutines M.chain mv M.fuel T.cells T.coroutines T.chain T.frames T.now T.fuel k.held k.fuel k.chain k.cells k.coroutines
 
 pub told_now : (lax : Bool) (M : World) (T : TalkWorld) (now : Now) → Joined lax M T → Joined lax M (now_in T now)
-told_now lax M T now k = record {
-  heap = k.heap;
-  globals = k.globals;
-  printed = k.printed;
-  fuel = k.fuel;
-  chain = k.chain;
-  functions = k.functions;
-  held = k.held;
-  cells = k.cells;
-  coroutines = k.coroutines;
-}
+told_now lax M T now k = rejoined lax lax M T k M.cells M.coroutines M.chain M.moving M.fuel T.cells T.coroutines T.chain T.frames now T.fuel k.held k.fuel k.chain k.cells k.coroutines
 
 pub gives : (W : World) (T : TalkWorld) (s : Stack) (env : List Value) → stack_of W ≡ Some s → Joined false W T → T.now ≡ gives_back W.moving → GivesBack (run hand_over env W) T
 gives W T s env e k n = record {

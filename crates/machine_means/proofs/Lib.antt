@@ -9,6 +9,7 @@ pub mod Pending
 pub mod Switches
 pub mod Resuming
 pub mod Running
+pub mod Rejoined
 pub mod Handing
 pub mod Shutting
 pub mod Giving

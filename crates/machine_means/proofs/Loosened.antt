@@ -10,6 +10,7 @@ use Rattle.lua_meaning.specs.World as talk
 use Rattle.lua_meaning.specs.World.{waiting, protected, handled_by, handling}
 use Rattle.machine_means.specs.Joined.{TalkFrame, TalkWorld, Pair, Below, Stacks, CoroutinePair, Joined}
 use Rattle.machine_means.proofs.CellWrites.{all3_map}
+use Rattle.machine_means.proofs.Rejoined.{rejoined}
 
 pub pair_lax : (lax : Bool) (fs : List machine.Function) (vs : List Value) (m : Frame) (t : TalkFrame) (h : Held) → Pair false fs vs m t h → Pair lax fs vs m t h
 pair_lax lax fs vs (lua fr) (waiting asker) h k = k
@@ -37,18 +38,9 @@ co_runs fs vs run run' (machine.failed e p) (talk.failed d q) hs g k = k
 co_runs fs vs run run' _ _ hs g k = absurd k
 
 pub loosened : (lax : Bool) (M : machine.World) (T : TalkWorld) → Joined false M T → Joined lax M T
-loosened lax M T k = record {
-  heap = k.heap;
-  globals = k.globals;
-  printed = k.printed;
-  fuel = k.fuel;
-  chain = k.chain;
-  functions = k.functions;
-  held = k.held;
-  cells = k.cells;
-  coroutines = λ j. all3_map
-      (CoroutinePair M.functions T.cells (λ frames hs. Stacks false M.functions T.cells frames T.frames hs)) (CoroutinePair M.functions T.cells (λ frames hs. Stacks lax M.functions T.cells frames T.frames hs))
-      (slice_get M.coroutines j) (slice_get T.coroutines j) (slice_get k.held j)
-      (λ x y hs _ _ p. co_runs M.functions T.cells (λ frames hs. Stacks false M.functions T.cells frames T.frames hs) (λ frames hs. Stacks lax M.functions T.cells frames T.frames hs) x y hs (λ frames s. stacks_lax lax M.functions T.cells frames T.frames hs s) p)
-      (k.coroutines j);
-}
+loosened lax M T k =
+    rejoined false lax M T k M.cells M.coroutines M.chain M.moving M.fuel T.cells T.coroutines T.chain T.frames T.now T.fuel k.held k.fuel k.chain k.cells (λ j. all3_map
+    (CoroutinePair M.functions T.cells (λ frames hs. Stacks false M.functions T.cells frames T.frames hs)) (CoroutinePair M.functions T.cells (λ frames hs. Stacks lax M.functions T.cells frames T.frames hs))
+    (slice_get M.coroutines j) (slice_get T.coroutines j) (slice_get k.held j)
+    (λ x y hs _ _ p. co_runs M.functions T.cells (λ frames hs. Stacks false M.functions T.cells frames T.frames hs) (λ frames hs. Stacks lax M.functions T.cells frames T.frames hs) x y hs (λ frames s. stacks_lax lax M.functions T.cells frames T.frames hs s) p)
+    (k.coroutines j))

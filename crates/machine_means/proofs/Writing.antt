@@ -13,6 +13,7 @@ use Rattle.machine_means.specs.Joined.{TalkWorld, Stacks, CoroutinePair, HoldsIn
 use Rattle.machine_means.specs.Laws.{WritesJoined}
 use Rattle.machine_means.proofs.FrameWrites.{cells_put, stack_values}
 use Rattle.machine_means.proofs.CellWrites.{stack_write, all3_map, co_values, cos_write}
+use Rattle.machine_means.proofs.Rejoined.{rejoined}
 
 abbrev Runs : Bool → machine.World → TalkWorld → List Value → List Frame → List Held → Type 0
 Runs lax M T vs frames hs = Stacks lax M.functions vs frames T.frames hs
@@ -49,22 +50,15 @@ module _ (ws : List Cell) (vs : List Value) (hss : List (List Held)) (k : CellsP
 
 module _ (lax : Bool) (M : machine.World) (T : TalkWorld) (k : Joined lax M T) (c : ℕ) (v : Value) where
   write_shut : (u : Value) → slice_get M.cells c ≡ Some (closed u) → Joined lax (record M { cells = slice_set M.cells c (closed v) }) (record T { cells = slice_set T.cells c v })
-  write_shut u e = record {
-    heap = k.heap;
-    globals = k.globals;
-    printed = k.printed;
-    fuel = k.fuel;
-    chain = k.chain;
-    functions = k.functions;
-    held = k.held;
-    cells = cells_set M.cells T.cells k.held k.cells c u v e;
-    coroutines = λ j. all3_map (CoroutinePair M.functions T.cells (Runs lax M T T.cells)) (CoroutinePair M.functions (slice_set T.cells c v) (Runs lax M T (slice_set T.cells c v)))
-        (slice_get M.coroutines j) (slice_get T.coroutines j) (slice_get k.held j)
-        (λ x y hs _ at_j p.
-        let no : (f q : ℕ) → Holds f q c hs → ⊥ = λ f q m. free M.cells T.cells k.held k.cells c u v e j f q (subst (λ o. HoldsOf o f q c) (sym at_j) m) in
-        co_values M.functions T.cells c v (Runs lax M T T.cells) (Runs lax M T (slice_set T.cells c v)) x y hs no (λ frames s. stack_values M.functions T.cells c v lax frames T.frames hs no s) p)
-        (k.coroutines j);
-  }
+  write_shut u e =
+      rejoined lax lax M T k (slice_set M.cells c (closed v)) M.coroutines M.chain M.moving M.fuel (slice_set T.cells c v) T.coroutines T.chain T.frames T.now T.fuel k.held k.fuel k.chain
+      (cells_set M.cells T.cells k.held k.cells c u v e)
+      (λ j. all3_map (CoroutinePair M.functions T.cells (Runs lax M T T.cells)) (CoroutinePair M.functions (slice_set T.cells c v) (Runs lax M T (slice_set T.cells c v)))
+      (slice_get M.coroutines j) (slice_get T.coroutines j) (slice_get k.held j)
+      (λ x y hs _ at_j p.
+      let no : (f q : ℕ) → Holds f q c hs → ⊥ = λ f q m. free M.cells T.cells k.held k.cells c u v e j f q (subst (λ o. HoldsOf o f q c) (sym at_j) m) in
+      co_values M.functions T.cells c v (Runs lax M T T.cells) (Runs lax M T (slice_set T.cells c v)) x y hs no (λ frames s. stack_values M.functions T.cells c v lax frames T.frames hs no s) p)
+      (k.coroutines j))
 
   reads_so : (f r : ℕ) (o : Option (List Frame))
       → bind o (λ frames. bind (bind (slice_get frames f) lua_frame) (λ fr. slice_get fr.own.registers r)) ≡ bind (bind o (λ frames. bind (slice_get frames f) lua_frame)) (λ fr. slice_get fr.own.registers r)
@@ -75,20 +69,13 @@ module _ (lax : Bool) (M : machine.World) (T : TalkWorld) (k : Joined lax M T) (
       → bind (frames_of x) (λ frames. bind (bind (slice_get frames f) lua_frame) (λ fr. slice_get fr.own.registers r)) ≡ Some was
       → Joined lax (record M { coroutines = slice_set M.coroutines i (write_in_coroutine f r v x) }) (record T { cells = slice_set T.cells c v })
   write_open i f r x was e there reads =
-      let l : c < length T.cells = (let a = slice_get_within M.cells c (open_at i f r) e in let s = k.cells.size in omega (arith, a, s)) in record {
-        heap = k.heap;
-        globals = k.globals;
-        printed = k.printed;
-        fuel = k.fuel;
-        chain = k.chain;
-        functions = k.functions;
-        held = k.held;
-        cells = cells_put M.cells T.cells k.held k.cells c i f r v e;
-        coroutines = cos_write M.functions T.cells M.cells M.coroutines T.coroutines k.held k.cells (Runs lax M T T.cells) (Runs lax M T (slice_set T.cells c v)) c i f r v was e x there (sym (reads_so f r (frames_of x)) ∙ reads)
-            (λ frames hs no s. stack_values M.functions T.cells c v lax frames T.frames hs no s)
-            (λ frames hs m apart h at_f value s. stack_write lax M.functions T.cells frames T.frames hs f r c v was m at_f value l apart h s)
-            k.coroutines;
-      }
+      let l : c < length T.cells = (let a = slice_get_within M.cells c (open_at i f r) e in let s = k.cells.size in omega (arith, a, s)) in
+      rejoined lax lax M T k M.cells (slice_set M.coroutines i (write_in_coroutine f r v x)) M.chain M.moving M.fuel (slice_set T.cells c v) T.coroutines T.chain T.frames T.now T.fuel k.held k.fuel k.chain
+      (cells_put M.cells T.cells k.held k.cells c i f r v e)
+      (cos_write M.functions T.cells M.cells M.coroutines T.coroutines k.held k.cells (Runs lax M T T.cells) (Runs lax M T (slice_set T.cells c v)) c i f r v was e x there (sym (reads_so f r (frames_of x)) ∙ reads)
+      (λ frames hs no s. stack_values M.functions T.cells c v lax frames T.frames hs no s)
+      (λ frames hs m apart h at_f value s. stack_write lax M.functions T.cells frames T.frames hs f r c v was m at_f value l apart h s)
+      k.coroutines)
 
 pub writes_joined : WritesJoined
 unfolding write_cell
