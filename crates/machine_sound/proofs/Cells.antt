@@ -17,6 +17,7 @@ use Rattle.machine_sound.proofs.Grow.{Grows, grows_self, values_on, table_on, fu
 use Rattle.machine_sound.proofs.Frames.{the_place, place_is, function_ok, registers_top}
 use Rattle.machine_sound.proofs.Moves.{made_so}
 use Rattle.machine_sound.proofs.Outside.{OutsideOk, goes_outside, goes_still, quick_is, QuickGood}
+use Rattle.machine_sound.proofs.Tops.{same_top}
 
 -- reading a cell
 
@@ -195,25 +196,12 @@ module _ (n : ℕ) (t : Top) (W : World) (h : TopIs n t W) (s : Solid n W) (r : 
       }
 
   pub cell_top : TopIs n (record t { captured = r ∷ t.captured }) V
-  cell_top = record {
-    coroutine = h.coroutine;
-    base = h.base;
-    top = h.top;
-    function = h.function;
-    last = h.last;
-    frames = h.frames;
-    there = h.there;
-    below = each_waits_on (sizes n W) (sizes n V) cell_grows h.base h.below;
-    code = h.code;
-    pc = h.pc;
-    size = h.size;
-    opened = h.opened;
-    pending = h.pending;
-    cells = λ i q x. ⊎_elim (λ o. h.cells i q o) (λ o. (let p : r ≡ q = (let w = o.1 in cc) in omega arith)) (push_cases W.cells new (open_at h.coroutine (length h.base) q) i x);
-    captured = each_cons (λ r. IsSome (find_open h.coroutine (length h.base) r V.cells)) r t.captured (find_new 0 h.coroutine (length h.base) r W.cells)
-        (each_on (λ r. IsSome (find_open h.coroutine (length h.base) r W.cells)) (λ r. IsSome (find_open h.coroutine (length h.base) r V.cells)) (λ q x. find_push 0 h.coroutine (length h.base) q W.cells (new ∷ []) x) t.captured h.captured);
-    wait = waits t.runs h.wait;
-  }
+  cell_top =
+      same_top n t W V h t.pending t.cells (r ∷ t.captured) h.last h.frames h.there
+      (each_waits_on (sizes n W) (sizes n V) cell_grows h.base h.below) h.pending
+      (λ i q x. ⊎_elim (λ o. h.cells i q o) (λ o. (let p : r ≡ q = (let w = o.1 in cc) in omega arith)) (push_cases W.cells new (open_at h.coroutine (length h.base) q) i x))
+      (each_cons (λ r. IsSome (find_open h.coroutine (length h.base) r V.cells)) r t.captured (find_new 0 h.coroutine (length h.base) r W.cells)
+      (each_on (λ r. IsSome (find_open h.coroutine (length h.base) r W.cells)) (λ r. IsSome (find_open h.coroutine (length h.base) r V.cells)) (λ q x. find_push 0 h.coroutine (length h.base) q W.cells (new ∷ []) x) t.captured h.captured)) (waits t.runs h.wait)
     where
       waits : (b : Bool) → RunsOrWaits b (sizes n W) h.top → RunsOrWaits b (sizes n V) h.top
       waits true k = k
@@ -221,24 +209,9 @@ module _ (n : ℕ) (t : Top) (W : World) (h : TopIs n t W) (s : Solid n W) (r : 
 
 -- the register has one already
 cell_known : (n : ℕ) (t : Top) (W : World) (h : TopIs n t W) (r : ℕ) → IsSome (find_open h.coroutine (length h.base) r W.cells) → TopIs n (record t { captured = r ∷ t.captured }) W
-cell_known n t W h r e = record {
-  coroutine = h.coroutine;
-  base = h.base;
-  top = h.top;
-  function = h.function;
-  last = h.last;
-  frames = h.frames;
-  there = h.there;
-  below = h.below;
-  code = h.code;
-  pc = h.pc;
-  size = h.size;
-  opened = h.opened;
-  pending = h.pending;
-  cells = h.cells;
-  captured = each_cons (λ r. IsSome (find_open h.coroutine (length h.base) r W.cells)) r t.captured e h.captured;
-  wait = h.wait;
-}
+cell_known n t W h r e =
+    same_top n t W W h t.pending t.cells (r ∷ t.captured) h.last h.frames h.there h.below h.pending h.cells
+    (each_cons (λ r. IsSome (find_open h.coroutine (length h.base) r W.cells)) r t.captured e h.captured) h.wait
 
 pub open_register_move : (n r : ℕ) (t : Top) (env : List Value) (W : World) → Is n (on_lua t) env W → TopReady t env (open_register r) → MoveGood n (on_lua t) env (open_register r) W
 open_register_move n r t env W i l = from (find_open h.coroutine (length h.base) r W.cells) refl

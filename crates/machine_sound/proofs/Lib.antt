@@ -4,6 +4,7 @@ pub mod Grow
 pub mod Own
 pub mod OwnReads
 pub mod Frames
+pub mod Tops
 pub mod Moves
 pub mod Heaps
 pub mod Outside

@@ -28,6 +28,7 @@ use Rattle.machine_sound.proofs.RowsOfCode.{text_safe}
 use Rattle.machine_sound.proofs.Rests.{rest_text_safe}
 use Rattle.machine_sound.proofs.Asking.{asking_safe}
 use Rattle.machine_sound.proofs.All.{all_rows_good}
+use Rattle.machine_sound.proofs.Tops.{same_top}
 
 -- a step that costs a unit while none is left changes nothing
 pub from_world_good : (n : ℕ) (W : World) (o : Outcome) → Sound n W → Good n o → StepGood n (from_world W o)
@@ -81,24 +82,8 @@ module _ (n : ℕ) (t : Top) (W : World) (h : TopIs n t W) (s : Solid n W) where
   usual_is l =
       let k = own_known n t W h s in
       let q = ap (λ (p : Prototype). p.own.stack) h.code in
-      record {
-        coroutine = h.coroutine;
-        base = h.base;
-        top = h.top;
-        function = h.function;
-        last = h.last;
-        frames = h.frames;
-        there = h.there;
-        below = h.below;
-        code = h.code;
-        pc = h.pc;
-        size = h.size;
-        opened = h.opened;
-        pending = subst (λ m. Each (λ r. r < m) h.top.own.pending) q k.pending;
-        cells = λ i r e. (let a = h.cells i r e in omega arith);
-        captured = h.captured;
-        wait = h.wait;
-      }
+      same_top n t W W h t.code.own.stack t.code.own.stack t.captured h.last h.frames h.there h.below (subst (λ m. Each (λ r. r < m) h.top.own.pending) q k.pending)
+      (λ i r e. (let a = h.cells i r e in omega arith)) h.captured h.wait
 
   -- a frame that runs
   pub runs_good : t.runs ≡ true → Fits t → Good n (run (expand (text_at h.function.code h.top.own.pc)) [] W)

@@ -15,6 +15,7 @@ use Rattle.machine_sound.proofs.Grow.{Grows, grows_self, values_on, table_on, fu
 use Rattle.machine_sound.proofs.Heaps.{HeapOk, HeapStays, does_ok, handler_ok, filled_ok, SettledOk}
 use Rattle.machine_sound.proofs.Frames.{the_place, place_is}
 use Rattle.machine_sound.proofs.Moves.{made_so}
+use Rattle.machine_sound.proofs.Tops.{same_top}
 
 -- the world with another heap, other functions, other values on their way and other fuel
 abbrev pub with_outside : World → Heap → List Function → List Value → ℕ → World
@@ -47,24 +48,9 @@ module _ (n : ℕ) (W : World) (H : Heap) (functions : List Function) (moving : 
   }
 
   pub outside_top : (t : Top) → TopIs n t W → TopIs n t (with_outside W H functions moving fuel)
-  outside_top t h = record {
-    coroutine = h.coroutine;
-    base = h.base;
-    top = h.top;
-    function = h.function;
-    last = h.last;
-    frames = h.frames;
-    there = o.grows.functions h.top.function h.function h.there;
-    below = each_waits_on (sizes n W) (sizes n V) o.grows h.base h.below;
-    code = h.code;
-    pc = h.pc;
-    size = h.size;
-    opened = h.opened;
-    pending = h.pending;
-    cells = h.cells;
-    captured = h.captured;
-    wait = waits t.runs h.wait;
-  }
+  outside_top t h =
+      same_top n t W V h t.pending t.cells t.captured h.last h.frames (o.grows.functions h.top.function h.function h.there)
+      (each_waits_on (sizes n W) (sizes n V) o.grows h.base h.below) h.pending h.cells h.captured (waits t.runs h.wait)
     where
       waits : (b : Bool) → RunsOrWaits b (sizes n W) h.top → RunsOrWaits b (sizes n V) h.top
       waits true k = k

@@ -15,6 +15,7 @@ use Rattle.machine_sound.proofs.Frames.{the_place}
 use Rattle.machine_sound.proofs.Moves.{made_so}
 use Rattle.machine_sound.proofs.Outside.{quick_is, QuickGood}
 use Rattle.machine_sound.proofs.Cells.{Stands, stands, cell_read, own_cell_there}
+use Rattle.machine_sound.proofs.Tops.{same_top}
 
 -- a closed cell
 
@@ -56,24 +57,10 @@ waits_on' z y g false f k = lua_waits_on z y g f k
 closed_top : (n : ℕ) (W : World) (m : ℕ) (v : Value) (t : Top) → TopIs n t W → TopIs n (record t { captured = [] }) (closed_world W m v)
 closed_top n W m v t h =
     let g = closed_grows n W m v in
-    record {
-      coroutine = h.coroutine;
-      base = h.base;
-      top = h.top;
-      function = h.function;
-      last = h.last;
-      frames = h.frames;
-      there = h.there;
-      below = each_waits_on (sizes n W) (sizes n (closed_world W m v)) g h.base h.below;
-      code = h.code;
-      pc = h.pc;
-      size = h.size;
-      opened = h.opened;
-      pending = h.pending;
-      cells = λ i r e. h.cells i r (closed_open W.cells m v i h.coroutine (length h.base) r e);
-      captured = each_none (λ r. IsSome (find_open h.coroutine (length h.base) r (slice_set W.cells m (closed v))));
-      wait = waits_on' (sizes n W) (sizes n (closed_world W m v)) g t.runs h.top h.wait;
-    }
+    same_top n t W (closed_world W m v) h t.pending t.cells [] h.last h.frames h.there
+    (each_waits_on (sizes n W) (sizes n (closed_world W m v)) g h.base h.below) h.pending
+    (λ i r e. h.cells i r (closed_open W.cells m v i h.coroutine (length h.base) r e))
+    (each_none (λ r. IsSome (find_open h.coroutine (length h.base) r (slice_set W.cells m (closed v))))) (waits_on' (sizes n W) (sizes n (closed_world W m v)) g t.runs h.top h.wait)
 
 -- an open cell
 

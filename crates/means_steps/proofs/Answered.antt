@@ -31,7 +31,7 @@ use Rattle.machine_means.proofs.Handing.{moved, told_now}
 use Rattle.machine_means.proofs.Places.{below_places}
 use Rattle.machine_means.proofs.Lists.{set_twice}
 use Rattle.machine_means.proofs.Sharing.{shared_append, flush_on, flush_off, shared_length, share_in, brought_own}
-use Rattle.means_steps.proofs.Middle.{Around, MiddleOf, Middle, frame, framed, others_values, once, top_range, not_below, not_apart, not_shut}
+use Rattle.means_steps.proofs.Middle.{Around, MiddleOf, Middle, frame, framed, still_middle, others_values, once, top_range, not_below, not_apart, not_shut}
 use Rattle.means_steps.proofs.Closes.{closes_from}
 use Rattle.means_steps.proofs.Rests.{waits_joined}
 use Rattle.means_steps.proofs.TopMoves.{with_top, with_done, stack_now, leaving_move}
@@ -78,29 +78,16 @@ module _ (chain : List ℕ) (fs : List Function) (ws : List Cell) (cs : List Cor
       → MiddleOf chain fs ws cs gs ds (shared_in (shared_by h a.registers) vs) co n g g' w own h below ts × RegistersPair (shared_in (shared_by h a.registers) vs) h a.registers own.registers
   flushed_top h e k =
       let vs1 : List Value = shared_in (shared_by h a.registers) vs in (
-        record {
-          functions = k.functions;
-          there = k.there;
-          talks_there = k.talks_there;
-          in_range = k.in_range;
-          not_own = k.not_own;
-          last = k.last;
-          runs = k.runs;
-          talks = k.talks;
-          held = k.held;
-          more = k.more;
-          holds = k.holds;
-          cells = record {
-            size = k.cells.size ∙ sym (shared_length (shared_by h a.registers) vs);
-            shut = λ c v d. flush_off h a.registers vs c (not_shut ws vs k.held k.cells co h k.more k.holds c v d) ∙ k.cells.shut c v d;
-            opened = k.cells.opened;
-            held_open = k.cells.held_open;
-            one = k.cells.one;
-          };
-          waits = below_values false fs vs vs1 below ts k.more (λ f r c m. flush_off h a.registers vs c (not_below ws vs k.held k.cells co h k.more k.holds f r c m)) k.waits;
-          depth = k.depth;
-          others = others_values fs vs vs1 co cs ds k.held (λ j f r c n m. flush_off h a.registers vs c (not_apart ws vs k.held k.cells co h k.more k.holds j f r c n m)) k.others;
-        },
+        still_middle k ws cs vs1 w own below k.in_range k.runs
+            (record {
+              size = k.cells.size ∙ sym (shared_length (shared_by h a.registers) vs);
+              shut = λ c v d. flush_off h a.registers vs c (not_shut ws vs k.held k.cells co h k.more k.holds c v d) ∙ k.cells.shut c v d;
+              opened = k.cells.opened;
+              held_open = k.cells.held_open;
+              one = k.cells.one;
+            })
+            (below_values false fs vs vs1 below ts k.more (λ f r c m. flush_off h a.registers vs c (not_below ws vs k.held k.cells co h k.more k.holds f r c m)) k.waits) k.depth
+            (others_values fs vs vs1 co cs ds k.held (λ j f r c n m. flush_off h a.registers vs c (not_apart ws vs k.held k.cells co h k.more k.holds j f r c n m)) k.others),
         record { size = e.size; off = λ r. inl (e.values r); on = λ r c m. flush_on h a.registers vs r c (once ws vs k.held k.cells co h k.more k.holds) (top_range ws vs k.held k.cells co h k.more k.holds) m ∙ e.values r },
       )
 

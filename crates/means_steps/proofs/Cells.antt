@@ -22,7 +22,7 @@ use Rattle.machine_means.proofs.FrameWrites.{below_length, below_values, below_w
 use Rattle.machine_means.proofs.CellWrites.{all3_first, all3_at, co_write}
 use Rattle.machine_means.proofs.Switches.{Never}
 use Rattle.machine_means.proofs.Writing.{free, cells_set}
-use Rattle.means_steps.proofs.Middle.{Around, Middle, frame, values_at, others_frames, others_values, own_holds, below_holds}
+use Rattle.means_steps.proofs.Middle.{Around, Middle, frame, still_middle, values_at, others_frames, others_values, own_holds, below_holds}
 
 -- reads
 
@@ -100,23 +100,10 @@ module _ (M : machine.World) (T : TalkWorld) (vs : List Value) (co n : ℕ) (g :
         record {
           below' = below;
           around' = record { heap = around.heap; globals = around.globals; printed = around.printed; fuel = around.fuel; chain = around.chain };
-          middle = record {
-            functions = k.functions;
-            there = k.there;
-            talks_there = k.talks_there;
-            in_range = λ u d y. (let i = k.in_range u d y in let l = length_set M.cells c (closed v) in omega (arith, i, l));
-            not_own = k.not_own;
-            last = k.last;
-            runs = k.runs;
-            talks = k.talks;
-            held = k.held;
-            more = k.more;
-            holds = k.holds;
-            cells = cells_set M.cells vs k.held k.cells c x v e;
-            waits = below_values false M.functions vs (slice_set vs c v) below ts k.more (λ f r d m. nth_set_other c v vs d (λ q. nobody co f r (below_holds M.cells vs k.held k.cells co h k.more k.holds f r c (subst (λ d. Holds f r d k.more) q m)))) k.waits;
-            depth = k.depth;
-            others = others_values M.functions vs (slice_set vs c v) co M.coroutines T.coroutines k.held (λ j f r d _ m. nth_set_other c v vs d (λ q. nobody j f r (subst (λ d. HoldsIn k.held j f r d) q m))) k.others;
-          };
+          middle = still_middle k (slice_set M.cells c (closed v)) M.coroutines (slice_set vs c v) w own below (λ u d y. (let i = k.in_range u d y in let l = length_set M.cells c (closed v) in omega (arith, i, l))) k.runs
+              (cells_set M.cells vs k.held k.cells c x v e)
+              (below_values false M.functions vs (slice_set vs c v) below ts k.more (λ f r d m. nth_set_other c v vs d (λ q. nobody co f r (below_holds M.cells vs k.held k.cells co h k.more k.holds f r c (subst (λ d. Holds f r d k.more) q m)))) k.waits) k.depth
+              (others_values M.functions vs (slice_set vs c v) co M.coroutines T.coroutines k.held (λ j f r d _ m. nth_set_other c v vs d (λ q. nobody j f r (subst (λ d. HoldsIn k.held j f r d) q m))) k.others);
           pair' = still_pair v;
         }
 
@@ -147,26 +134,15 @@ module _ (M : machine.World) (T : TalkWorld) (vs : List Value) (co n : ℕ) (g :
       write_below = record {
         below' = put;
         around' = record { heap = around.heap; globals = around.globals; printed = around.printed; fuel = around.fuel; chain = around.chain };
-        middle = record {
-          functions = k.functions;
-          there = k.there;
-          talks_there = k.talks_there;
-          in_range = k.in_range;
-          not_own = k.not_own;
-          last = k.last;
-          runs = get_set_same M.coroutines co (in_progress frames) (in_progress (upward (lua (frame n w own) ∷ put))) k.runs;
-          talks = k.talks;
-          held = k.held;
-          more = k.more;
-          holds = k.holds;
-          cells = cells_put M.cells vs k.held k.cells c co f r v e;
-          waits = below_write false M.functions vs below ts k.more f r c v was (ap (λ o. value_in o r) (sym (frame_below below (lua (frame n w own)) f number)) ∙ reads) (within co f r e)
-              (apart_less h k.more (apart_in M.cells vs k.held k.cells co (h ∷ k.more) k.holds)) in_below k.waits;
-          depth = (let l = length_put f r v below in let d = k.depth in omega (arith, l, d));
-          others = others_frames M.functions (slice_set vs c v) co M.coroutines T.coroutines k.held (in_progress (upward (lua (frame n w own) ∷ put)))
-              (others_values M.functions vs (slice_set vs c v) co M.coroutines T.coroutines k.held
-              (λ j f' r' d q m. nth_set_other c v vs d (λ z. q (one_owner M.cells vs k.held k.cells co f r j f' r' c (k.cells.opened c co f r e) (subst (λ d. HoldsIn k.held j f' r' d) z m)).0)) k.others);
-        };
+        middle = still_middle k M.cells (slice_set M.coroutines co (in_progress (upward (lua (frame n w own) ∷ put_frame f r v below)))) (slice_set vs c v) w own put k.in_range
+            (get_set_same M.coroutines co (in_progress frames) (in_progress (upward (lua (frame n w own) ∷ put))) k.runs)
+            (cells_put M.cells vs k.held k.cells c co f r v e)
+            (below_write false M.functions vs below ts k.more f r c v was (ap (λ o. value_in o r) (sym (frame_below below (lua (frame n w own)) f number)) ∙ reads) (within co f r e)
+            (apart_less h k.more (apart_in M.cells vs k.held k.cells co (h ∷ k.more) k.holds)) in_below k.waits)
+            (let l = length_put f r v below in let d = k.depth in omega (arith, l, d))
+            (others_frames M.functions (slice_set vs c v) co M.coroutines T.coroutines k.held (in_progress (upward (lua (frame n w own) ∷ put)))
+            (others_values M.functions vs (slice_set vs c v) co M.coroutines T.coroutines k.held
+            (λ j f' r' d q m. nth_set_other c v vs d (λ z. q (one_owner M.cells vs k.held k.cells co f r j f' r' c (k.cells.opened c co f r e) (subst (λ d. HoldsIn k.held j f' r' d) z m)).0)) k.others));
         pair' = still_pair v;
       }
 
@@ -201,23 +177,11 @@ module _ (M : machine.World) (T : TalkWorld) (vs : List Value) (co n : ℕ) (g :
       write_apart = record {
         below' = below;
         around' = record { heap = around.heap; globals = around.globals; printed = around.printed; fuel = around.fuel; chain = around.chain };
-        middle = record {
-          functions = k.functions;
-          there = k.there;
-          talks_there = k.talks_there;
-          in_range = k.in_range;
-          not_own = k.not_own;
-          last = k.last;
-          runs = get_set_other M.coroutines i co (write_in_coroutine f r v x) (λ q. apart (sym q)) ∙ k.runs;
-          talks = k.talks;
-          held = k.held;
-          more = k.more;
-          holds = k.holds;
-          cells = cells_put M.cells vs k.held k.cells c i f r v e;
-          waits = below_values false M.functions vs (slice_set vs c v) below ts k.more (λ f' r' d m. other_cell co f' r' d (λ q. apart (sym q)) (below_holds M.cells vs k.held k.cells co h k.more k.holds f' r' d m)) k.waits;
-          depth = k.depth;
-          others = others_written;
-        };
+        middle = still_middle k M.cells (slice_set M.coroutines i (write_in_coroutine f r v x)) (slice_set vs c v) w own below k.in_range
+            (get_set_other M.coroutines i co (write_in_coroutine f r v x) (λ q. apart (sym q)) ∙ k.runs)
+            (cells_put M.cells vs k.held k.cells c i f r v e)
+            (below_values false M.functions vs (slice_set vs c v) below ts k.more (λ f' r' d m. other_cell co f' r' d (λ q. apart (sym q)) (below_holds M.cells vs k.held k.cells co h k.more k.holds f' r' d m)) k.waits) k.depth
+            others_written;
         pair' = still_pair v;
       }
 

@@ -178,24 +178,34 @@ module _ (ws : List Cell) (vs : List Value) (hss : List (List Held)) (k : CellsP
   pub not_shut : (c : ℕ) (v : Value) → slice_get ws c ≡ Some (closed v) → (q : ℕ) → Has q c h → ⊥
   not_shut c v g q n = let d : Some (closed v) ≡ Some (open_at co (length more) q) = sym g ∙ k.held_open c co (length more) q (top_holds q c n) in cc
 
--- the frame on top gets another wait and other registers
-module _ (chain : List ℕ) (fs : List Function) (ws : List Cell) (cs : List Coroutine) (gs : List (talk.Function Prototype)) (ds : List (talk.Coroutine State)) (vs : List Value)
-    (co n : ℕ) (g : Function) (g' : talk.Function Prototype) (w : Wait Value) (own : Activation) (h : Held) (below : List Frame) (ts : List TalkFrame) (k : MiddleOf chain fs ws cs gs ds vs co n g g' w own h below ts) where
-  pub framed : (w' : Wait Value) (own' : Activation) → MiddleOf chain fs ws (slice_set cs co (in_progress (upward (lua (frame n w' own') ∷ below)))) gs ds vs co n g g' w' own' h below ts
-  framed w' own' = record {
+-- the frame on top holds what it held, whatever became of its wait, its registers, the frames below and the cells
+module _ {chain : List ℕ} {fs : List Function} {ws : List Cell} {cs : List Coroutine} {gs : List (talk.Function Prototype)} {ds : List (talk.Coroutine State)} {vs : List Value}
+    {co n : ℕ} {g : Function} {g' : talk.Function Prototype} {w : Wait Value} {own : Activation} {h : Held} {below : List Frame} {ts : List TalkFrame} (k : MiddleOf chain fs ws cs gs ds vs co n g g' w own h below ts) where
+  pub still_middle : (ws' : List Cell) (cs' : List Coroutine) (vs' : List Value) (w' : Wait Value) (own' : Activation) (below' : List Frame) → ((u d : ℕ) → slice_get g.cells u ≡ Some d → d < length ws')
+      → slice_get cs' co ≡ Some (in_progress (upward (lua (frame n w' own') ∷ below'))) → CellsPair ws' vs' k.held → Below false fs vs' below' ts k.more → length below' < greatest_depth
+      → ((j : ℕ) → co ≢ j → AllThree (CoroutinePair fs vs' Never) (slice_get cs' j) (slice_get ds j) (slice_get k.held j)) → MiddleOf chain fs ws' cs' gs ds vs' co n g g' w' own' h below' ts
+  still_middle ws' cs' vs' w' own' below' in_range runs cells waits depth others = record {
     functions = k.functions;
     there = k.there;
     talks_there = k.talks_there;
-    in_range = k.in_range;
+    in_range = in_range;
     not_own = k.not_own;
     last = k.last;
-    runs = get_set_same cs co (in_progress (upward (lua (frame n w own) ∷ below))) (in_progress (upward (lua (frame n w' own') ∷ below))) k.runs;
+    runs = runs;
     talks = k.talks;
     held = k.held;
     more = k.more;
     holds = k.holds;
-    cells = k.cells;
-    waits = k.waits;
-    depth = k.depth;
-    others = others_frames fs vs co cs ds k.held (in_progress (upward (lua (frame n w' own') ∷ below))) k.others;
+    cells = cells;
+    waits = waits;
+    depth = depth;
+    others = others;
   }
+
+-- the frame on top gets another wait and other registers
+module _ (chain : List ℕ) (fs : List Function) (ws : List Cell) (cs : List Coroutine) (gs : List (talk.Function Prototype)) (ds : List (talk.Coroutine State)) (vs : List Value)
+    (co n : ℕ) (g : Function) (g' : talk.Function Prototype) (w : Wait Value) (own : Activation) (h : Held) (below : List Frame) (ts : List TalkFrame) (k : MiddleOf chain fs ws cs gs ds vs co n g g' w own h below ts) where
+  pub framed : (w' : Wait Value) (own' : Activation) → MiddleOf chain fs ws (slice_set cs co (in_progress (upward (lua (frame n w' own') ∷ below)))) gs ds vs co n g g' w' own' h below ts
+  framed w' own' = still_middle k ws (slice_set cs co (in_progress (upward (lua (frame n w' own') ∷ below)))) vs w' own' below k.in_range
+      (get_set_same cs co (in_progress (upward (lua (frame n w own) ∷ below))) (in_progress (upward (lua (frame n w' own') ∷ below))) k.runs) k.cells k.waits k.depth
+      (others_frames fs vs co cs ds k.held (in_progress (upward (lua (frame n w' own') ∷ below))) k.others)
