@@ -4,7 +4,7 @@ use Rattle.std.proofs.Common.{◌≡◌, ℕ, zero, suc, List, [], ◌∷◌, Op
 use Rattle.std.specs.Prelude.{pos, codes, slice_get}
 use Rattle.int_core.specs.Value.{string, integer, Kind, a_table, a_function, a_coroutine, Value, object}
 use Rattle.machine_core.specs.World.{running, Activation, Frame, lua, Cell, closed, open_at, suspended, in_progress, World, OneEach}
-use Rattle.machine_core.proofs.Machine.{int, text, counted, counts}
+use Rattle.machine_core.proofs.Machine.{int, text, started, counted, counts}
 use Rattle.machine_alike.specs.Agree.{Pairs, SameNumber, SameCellNumber, Both, SameTable, SameFunction, SameCoroutine, SameCell, Loose, IsFirst, same_known, same_object, same_running, same_lua, same_in_progress, kept_closed, kept_apart, same_place, same_content, AgreeInTurn, IsSecond}
 
 abbrev own : List Value → Activation
@@ -15,41 +15,23 @@ frame n registers = lua (record { function = n; wait = running; own = own regist
 
 -- the globals are table 0, the function with the two shared locals is function 1
 abbrev left : World
-left = record {
-  heap = record { tables = record { rows = (text (codes "t"), object a_table 1) ∷ []; metatable = None } ∷ record { rows = []; metatable = Some 0 } ∷ []; string_metatable = None };
-  functions = record { code = counted; cells = [] } ∷ record { code = counts; cells = 0 ∷ 1 ∷ [] } ∷ [];
-  cells = open_at 0 0 1 ∷ closed (int 5) ∷ [];
-  coroutines = in_progress (frame 0 (object a_function 1 ∷ int 7 ∷ []) ∷ []) ∷ [];
-  globals = 0;
-  prelude_environment = 0;
-  prelude_functions = [];
-  special_key = [];
-  max_depth = pos 0;
-  main = Some 0;
-  chain = 0 ∷ [];
-  moving = object a_table 1 ∷ [];
-  printed = [];
-  fuel = 9;
-}
+left = record (started 9 (record { code = counted; cells = [] } ∷ record { code = counts; cells = 0 ∷ 1 ∷ [] } ∷ []) (open_at 0 0 1 ∷ closed (int 5) ∷ [])
+    (record { rows = (text (codes "t"), object a_table 1) ∷ []; metatable = None } ∷ record { rows = []; metatable = Some 0 } ∷ []) []) {
+      coroutines = in_progress (frame 0 (object a_function 1 ∷ int 7 ∷ []) ∷ []) ∷ [];
+      moving = object a_table 1 ∷ [];
+    }
 
 -- the same with the globals as table 2; coroutine 0 is one that nothing reaches
 abbrev right : World
-right = record {
-  heap = record { tables = record { rows = []; metatable = Some 2 } ∷ record { rows = []; metatable = None } ∷ record { rows = (text (codes "t"), object a_table 0) ∷ []; metatable = None } ∷ []; string_metatable = None };
-  functions = record { code = counts; cells = 2 ∷ 0 ∷ [] } ∷ record { code = counted; cells = [] } ∷ [];
-  cells = open_at 0 0 0 ∷ closed (int 1) ∷ open_at 1 0 1 ∷ [];
-  coroutines = suspended (frame 1 (int 5 ∷ []) ∷ []) ∷ in_progress (frame 1 (object a_function 0 ∷ int 7 ∷ []) ∷ []) ∷ [];
-  globals = 2;
-  prelude_environment = 2;
-  prelude_functions = [];
-  special_key = [];
-  max_depth = pos 0;
-  main = Some 1;
-  chain = 1 ∷ [];
-  moving = object a_table 0 ∷ [];
-  printed = [];
-  fuel = 9;
-}
+right = record (started 9 (record { code = counts; cells = 2 ∷ 0 ∷ [] } ∷ record { code = counted; cells = [] } ∷ []) (open_at 0 0 0 ∷ closed (int 1) ∷ open_at 1 0 1 ∷ [])
+    (record { rows = []; metatable = Some 2 } ∷ record { rows = []; metatable = None } ∷ record { rows = (text (codes "t"), object a_table 0) ∷ []; metatable = None } ∷ []) []) {
+      coroutines = suspended (frame 1 (int 5 ∷ []) ∷ []) ∷ in_progress (frame 1 (object a_function 0 ∷ int 7 ∷ []) ∷ []) ∷ [];
+      globals = 2;
+      prelude_environment = 2;
+      main = Some 1;
+      chain = 1 ∷ [];
+      moving = object a_table 0 ∷ [];
+    }
 
 abbrev table_number : ℕ → Option ℕ
 table_number zero = Some 2

@@ -15,6 +15,7 @@ use Rattle.machine_core.specs.InstructionRows.{row_of}
 use Rattle.machine_core.specs.FrameRows.{expand}
 use Rattle.machine_core.specs.Moves.{Ending, go, main_returned, Outcome, trapped, ends, run, with_own, back_to_resumer, popped, bury, suspend_running, wait_for_another, go_into, put_coroutine}
 use Rattle.machine_core.specs.MachineStep.{steps, error_row}
+use Rattle.machine_core.proofs.Machine.{started}
 use Rattle.machine_sound.specs.Sound.{Solid, Settled, on_top, sizes, Valid, TableOk, FunctionOk, LuaOk, FrameOk, FrameWaits, CoroutineOk, CellOk, runs, resumed_another}
 use Rattle.machine_sound.specs.Laws.{SoundAfter}
 use Rattle.machine_sound.proofs.Lists.{each_none, each_one}
@@ -47,22 +48,7 @@ abbrev frame : LuaFrame
 frame = record { function = 0; wait = running; own = record { pc = 0; registers = known nil ∷ known nil ∷ []; varargs = []; pending = []; opened = 0 } }
 
 abbrev pub world : World
-world = record {
-  heap = record { tables = record { rows = []; metatable = None } ∷ []; string_metatable = None };
-  functions = function ∷ [];
-  cells = [];
-  coroutines = in_progress (lua frame ∷ []) ∷ [];
-  globals = 0;
-  prelude_environment = 0;
-  prelude_functions = [];
-  special_key = [];
-  max_depth = pos 0;
-  main = Some 0;
-  chain = 0 ∷ [];
-  moving = [];
-  printed = [];
-  fuel = 0;
-}
+world = record (started 0 (function ∷ []) [] (record { rows = []; metatable = None } ∷ []) []) { coroutines = in_progress (lua frame ∷ []) ∷ [] }
 
 abbrev came : Outcome → Option (Ending × List Value)
 came trapped = None

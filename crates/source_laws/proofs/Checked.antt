@@ -1,5 +1,5 @@
 -- The tree of each source is near, and so its code is checked.
-use Rattle.std.proofs.Common.{◌≡◌, ℕ, ◌+◌, ◌≤◌, ◌^◌, List, [], length, Option, IsTrue, arith}
+use Rattle.std.proofs.Common.{◌≡◌, ℕ, ◌+◌, ◌≤◌, List, [], length, Option, IsTrue, arith}
 use Rattle.tree_core.specs.Tree.{Block}
 use Rattle.token_cursor.specs.Words.{Lexeme}
 use Rattle.lua_lex.specs.Lexical.{TokensOf}
@@ -9,14 +9,12 @@ use Rattle.scope_core.specs.Rules.{violations}
 use Rattle.code_core.specs.Check.{IsChecked}
 use Rattle.code_core.specs.Writable.{name_fits}
 use Rattle.code_of.specs.CodeOf.{code_of}
-use Rattle.tree_terms.specs.FunctionCount.{functions_in_body}
-use Rattle.tree_terms.specs.Weight.{weight_of_body}
 use Rattle.scope_laws.proofs.Main.{names_fit}
 use Rattle.grammar_laws.proofs.FormReadings.{tree_formed}
 use Rattle.grammar_laws.proofs.PlacedForms.{placed_formed}
-use Rattle.grammar_laws.proofs.WholeSizes.{weighs, takes, weighs_alike, lines}
+use Rattle.grammar_laws.proofs.WholeSizes.{lines}
 use Rattle.source_laws.proofs.Fields.{fits}
-use Rattle.source_laws.proofs.Fitting.{body_fits}
+use Rattle.source_laws.proofs.Meaning.{source_light, source_functions, source_fits}
 use Rattle.source_laws.proofs.Nearing.{near_body}
 use Rattle.code_checked.proofs.Keeping.{code_is_checked}
 use Rattle.source_laws.proofs.Joining.{body_written}
@@ -27,18 +25,10 @@ pub source_checked : (source : List ℕ) (tokens : List Lexeme) (tree : Block) �
     → (name : Option (List ℕ)) → IsTrue (name_fits name) → IsChecked (code_of name (placed tree))
 source_checked source tokens tree small t d keeps name named =
     let names = names_fit tree keeps in
-    let weight = weighs tokens tree d in
-    let bytes = takes source tokens tree t d in
-    let alike = weighs_alike tree in
-    let whole = weight.whole in
-    let same_weight = alike.weight in
-    let same_functions = alike.functions in
-    let few_tokens = bytes.tokens_count in
-    let few_functions = bytes.functions_count in
-    let light : weight_of_body (placed tree) ≤ 2 ^ 21 = omega (arith, small, whole, same_weight, few_tokens) in
-    let few : functions_in_body (placed tree) ≤ 2 ^ 17 = omega (arith, small, same_functions, few_functions) in
+    let light = source_light source tokens tree small t d keeps name in
+    let few = source_functions source tokens tree small t d keeps name in
     let formed = placed_formed tree (tree_formed tokens tree d) in
-    let fitting = body_fits name (placed tree) names.0 names.1 formed (alike.blocks weight.blocks) light few in
+    let fitting = source_fits source tokens tree small t d keeps name in
     let many = many_body name (placed tree) in
     code_is_checked name (placed tree) (record {
       name = named;

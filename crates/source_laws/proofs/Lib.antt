@@ -5,6 +5,7 @@ mod Alone
 pub mod Fitting
 mod FittingExample
 pub mod Meaning
+mod SourceExample
 mod MeaningExample
 mod Counting
 pub mod Nearing

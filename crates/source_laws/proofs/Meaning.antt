@@ -19,20 +19,24 @@ use Rattle.grammar_laws.proofs.WholeSizes.{weighs, takes, weighs_alike}
 use Rattle.source_laws.proofs.Fitting.{body_fits}
 
 module _ (source : List ℕ) (tokens : List Lexeme) (tree : Block) (small : length source ≤ 1048576) (t : TokensOf source tokens) (d : Derives tokens tree) (keeps : violations tree ≡ []) (name : Option (List ℕ)) where
+  pub source_light : weight_of_body (placed tree) ≤ 2 ^ 21
+  source_light =
+      let whole = (weighs tokens tree d).whole in
+      let same = (weighs_alike tree).weight in
+      let few = (takes source tokens tree t d).tokens_count in
+      omega (arith, small, whole, same, few)
+
+  pub source_functions : functions_in_body (placed tree) ≤ 2 ^ 17
+  source_functions =
+      let same = (weighs_alike tree).functions in
+      let few = (takes source tokens tree t d).functions_count in
+      omega (arith, small, same, few)
+
   pub source_fits : BodyFits name (placed tree)
   source_fits =
       let names = names_fit tree keeps in
-      let weight = weighs tokens tree d in
-      let bytes = takes source tokens tree t d in
-      let alike = weighs_alike tree in
-      let whole = weight.whole in
-      let same_weight = alike.weight in
-      let same_functions = alike.functions in
-      let few_tokens = bytes.tokens_count in
-      let few_functions = bytes.functions_count in
-      let light : weight_of_body (placed tree) ≤ 2 ^ 21 = omega (arith, small, whole, same_weight, few_tokens) in
-      let few : functions_in_body (placed tree) ≤ 2 ^ 17 = omega (arith, small, same_functions, few_functions) in
-      body_fits name (placed tree) names.0 names.1 (placed_formed tree (tree_formed tokens tree d)) (alike.blocks weight.blocks) light few
+      let blocks = (weighs_alike tree).blocks (weighs tokens tree d).blocks in
+      body_fits name (placed tree) names.0 names.1 (placed_formed tree (tree_formed tokens tree d)) blocks source_light source_functions
 
   pub source_means : Means (is_known name) (code_of name (placed tree)) (placed tree)
   source_means = means name (placed tree) source_fits
