@@ -23,7 +23,7 @@ use Rattle.move_laws.specs.Memory.{CanDo, Makes, StandsAt}
 use Rattle.move_laws.proofs.Places.{place_is}
 use Rattle.move_laws.proofs.Running.{own_read}
 use Rattle.move_laws.proofs.Standing.{pc_of, pc_written, stands_as}
-use Rattle.machine_moves.specs.Code.{HasUpvalue, IsCodeOnTop, IsUpvalue}
+use Rattle.machine_moves.specs.Code.{HasUpvalue, IsCodeOnTop, IsFunctionOnTop, IsUpvalue}
 
 -- the function on top in memory
 pub record Kept_function (W : Memory) (at : Place) (n : ℕ) : Type 0 where
@@ -40,9 +40,14 @@ function_kept W at n e same =
 pub function_there : (W : Memory) (at : Place) (n : ℕ) → Kept_function W at n → n < length W.funcs.objects
 function_there W at n k = get_within W.funcs.objects n k.func k.there
 
+pub func_is : (W : Memory) (at : Place) (n : ℕ) (f : Func) → Kept_function W at n → slice_get W.funcs.objects n ≡ Some f → function (functions W.codes) f ≡ at.function
+func_is W at n f k e = ap (function (functions W.codes)) (some_is e k.there) ∙ k.is
+
 pub code_is : (W : Memory) (at : Place) (n : ℕ) (f : Func) → Kept_function W at n → slice_get W.funcs.objects n ≡ Some f → prototype_at (functions W.codes) f.code.0 ≡ at.function.code
-code_is W at n f k e =
-    ap (λ (f : Func). prototype_at (functions W.codes) f.code.0) (some_is e k.there) ∙ ap (λ (g : Function). g.code) k.is
+code_is W at n f k e = ap (λ (g : Function). g.code) (func_is W at n f k e)
+
+pub top_code_is : (W : Memory) (at : Place) (f : Func) → place_of (plain W 0) ≡ Some at → IsFunctionOnTop W f → prototype_at (functions W.codes) f.code.0 ≡ at.function.code
+top_code_is W at f e k = ap (λ (g : Function). g.code) (k.same at e)
 
 -- constants
 
@@ -87,12 +92,19 @@ constant_made W n code v env d k e =
 
 -- upvalues
 
-cells_are : (W : Memory) (at : Place) (n : ℕ) (f : Func) → Kept_function W at n → slice_get W.funcs.objects n ≡ Some f → map (λ c. c.0) f.cells.items ≡ at.function.cells
-cells_are W at n f k e = ap (λ (f : Func). map (λ c. c.0) f.cells.items) (some_is e k.there) ∙ ap (λ (g : Function). g.cells) k.is
+cells_are : (W : Memory) (at : Place) (f : Func) → place_of (plain W 0) ≡ Some at → IsFunctionOnTop W f → map (λ c. c.0) f.cells.items ≡ at.function.cells
+cells_are W at f e k = ap (λ (g : Function). g.cells) (k.same at e)
 
-pub cell_there : (W : Memory) (at : Place) (n u : ℕ) (f : Func) (c : ℕ) → Kept_function W at n → slice_get W.funcs.objects n ≡ Some f → slice_get at.function.cells u ≡ Some c
+pub cell_there : (W : Memory) (at : Place) (u : ℕ) (f : Func) (c : ℕ) → place_of (plain W 0) ≡ Some at → IsFunctionOnTop W f → slice_get at.function.cells u ≡ Some c
     → (id : CellId) × (slice_get f.cells.items u ≡ Some id) × (id.0 ≡ c)
-cell_there W at n u f c k e h = map_get (λ c. c.0) f.cells.items u c (ap (λ l. slice_get l u) (cells_are W at n f k e) ∙ h)
+cell_there W at u f c e k h = map_get (λ c. c.0) f.cells.items u c (ap (λ l. slice_get l u) (cells_are W at f e k) ∙ h)
+
+-- and so it is where it is read
+pub cell_named : (W : Memory) (at : Place) (u : ℕ) (f : Func) (c : ℕ) (read : CellId) → place_of (plain W 0) ≡ Some at → IsFunctionOnTop W f → slice_get at.function.cells u ≡ Some c → slice_get f.cells.items u ≡ Some read
+    → slice_get at.function.cells u ≡ Some read.0
+cell_named W at u f c read e k h is =
+    let t = cell_there W at u f c e k h in
+    h ∙ ap (λ n. Some n) (sym (ap (λ (id : CellId). id.0) (some_is is t.1) ∙ t.2))
 
 cell_read : (W : World) (at : Place) (u c : ℕ) (v : Value) → slice_get at.function.cells u ≡ Some c → value_in W c ≡ Some v → (env : List Value) → do_outside (read_upvalue u) env W at ≡ made W (v ∷ []) true
 cell_read W at u c v h e env =

@@ -4,12 +4,22 @@ use Rattle.code_core.specs.Check.{IsChecked}
 use Rattle.machine_core.specs.World.{Place, place_of}
 use Rattle.table_core.specs.declared.value.CellId.{CellId}
 use Rattle.lua_heap.specs.declared.codes.Code.{Code}
+use Rattle.lua_heap.specs.declared.world.Func.{Func}
 use Rattle.lua_heap.specs.declared.world.World.{World as Memory}
-use Rattle.lua_heap.specs.Codes.{IsCode}
+use Rattle.lua_heap.specs.Codes.{functions, IsCode}
 use Rattle.lua_heap.specs.Changes.{value_in}
-use Rattle.lua_heap.specs.Plain.{plain}
+use Rattle.lua_heap.specs.Plain.{function, plain}
 
--- it is checked, as all code of a sound world
+-- a Lua function is on top
+pub record HasFunctionOnTop (W : Memory) : Type 0 where
+  pub place : Place
+  pub is : place_of (plain W 0) ≡ Some place
+
+-- and this is what is kept of it
+pub record IsFunctionOnTop (W : Memory) (f : Func) : Type 0 where
+  pub same : (place : Place) → place_of (plain W 0) ≡ Some place → function (functions W.codes) f ≡ place.function
+
+-- its code is checked, as all code of a sound world
 pub record HasCode (W : Memory) : Type 0 where
   pub place : Place
   pub is : place_of (plain W 0) ≡ Some place

@@ -6,11 +6,20 @@ ghost use Rattle.lua_heap.specs.Reading.{value as meant};
 ghost use Rattle.machine_core.specs.Text.{read_constant as reads};
 ghost use Rattle.machine_core.specs.Moves.{on_own};
 ghost use Rattle.move_laws.specs.Memory.{CanDo, Makes};
-ghost use Rattle.machine_moves.specs.Code.{HasCode, IsCodeOnTop};
+ghost use Rattle.machine_moves.specs.Code.{HasCode, HasFunctionOnTop, IsCodeOnTop, IsFunctionOnTop};
 
 use crate::chain::running_stack;
-use lua_heap::{Code, World, law};
+use lua_heap::{Code, Func, World, law};
 use table_core::Value;
+
+/// What is kept of the function of the Lua frame on top.
+pub fn function_on_top(world: &World) -> &Func
+    requires { HasFunctionOnTop world.now }
+    ensures { IsFunctionOnTop world.now result.now }
+{
+    let function = running_stack(world).function();
+    world.funcs.get(function.0)
+}
 
 /// What is kept of the code of the Lua frame on top.
 pub fn code_on_top(world: &World) -> &Code
@@ -19,8 +28,7 @@ pub fn code_on_top(world: &World) -> &Code
     ensures { IsCodeOnTop world.now result.now }
 {
     law::checked_code_is_there();
-    let function = running_stack(world).function();
-    world.code(world.funcs.get(function.0).code)
+    world.code(function_on_top(world).code)
 }
 
 /// A constant of that code.

@@ -8,7 +8,7 @@ ghost use Rattle.machine_core.specs.Moves.{outside};
 ghost use Rattle.move_laws.specs.Memory.{Makes, StandsAt};
 ghost use Rattle.machine_moves.specs.Code.{HasUpvalue, IsUpvalue};
 
-use crate::chain::running_stack;
+use crate::code::function_on_top;
 use lua_heap::World;
 use table_core::{CellId, Value};
 
@@ -39,6 +39,5 @@ fn cell_of(world: &World, upvalue: usize) -> CellId
     requires { HasUpvalue world.now upvalue }
     ensures { IsUpvalue world.now upvalue result }
 {
-    let function = running_stack(world).function();
-    world.funcs.get(function.0).cells[upvalue]
+    function_on_top(world).cells[upvalue]
 }

@@ -10,7 +10,7 @@ ghost use Rattle.machine_objects.specs.Objects.{CanMake, CanCapture, HasCell, Ha
 
 use code_core::UpDesc;
 use lua_heap::{Func, World, law};
-use machine_moves::running_stack;
+use machine_moves::{function_on_top, running_stack};
 use std::alloc::AllocError;
 use table_core::{CellId, FuncId, ProtoId};
 
@@ -36,9 +36,7 @@ pub(crate) fn inner_code(world: &World, inner: u32) -> ProtoId
     ensures { IsInner world.now inner result }
 {
     law::checked_code_is_there();
-    let function = running_stack(world).function();
-    let outer = world.funcs.get(function.0).code;
-    world.inner(outer, inner)
+    world.inner(function_on_top(world).code, inner)
 }
 
 /// The cells that a function of this code captures.
@@ -104,6 +102,5 @@ fn captured_upvalue(world: &World, upvalue: usize) -> CellId
     requires { HasOuter world.now upvalue }
     ensures { IsOuter world.now upvalue result }
 {
-    let function = running_stack(world).function();
-    world.funcs.get(function.0).cells[upvalue]
+    function_on_top(world).cells[upvalue]
 }

@@ -8,7 +8,7 @@ ghost use Rattle.machine_returns.specs.Names.{IsProtoOnTop, TellsOpen, name_in, 
 
 use code_core::{LocVar, Proto};
 use lua_heap::{World, law};
-use machine_moves::running_stack;
+use machine_moves::function_on_top;
 use std::alloc::AllocError;
 
 /// The text of the error of a variable that cannot be closed, at a place of the function on top.
@@ -32,8 +32,7 @@ fn proto_on_top(world: &World) -> &Proto
     ensures { IsProtoOnTop world.now result.now }
 {
     law::checked_code_is_there();
-    let function = running_stack(world).function();
-    world.codes.proto(world.funcs.get(function.0).code)
+    world.codes.proto(function_on_top(world).code)
 }
 
 /// The name of the variable that stands in a register where the instruction at `pc` is done.
