@@ -6,6 +6,7 @@ pub mod OwnReads
 pub mod Frames
 pub mod Tops
 pub mod Moves
+pub mod TableRows
 pub mod Heaps
 pub mod Outside
 pub mod Cells

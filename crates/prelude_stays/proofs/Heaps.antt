@@ -1,53 +1,24 @@
 -- What operations look at and leave: no value of tables that a script reaches is the environment, and its table is never written.
 use Rattle.std.proofs.Common.{ℕ, zero, suc, ◌≡◌, ◌≢◌, List, [], ◌∷◌, ◌++◌, Option, Some, None, refl, sym, subst, ◌∙◌, length, Bool, true, false, cond}
-use Rattle.std.specs.Prelude.{ℤ, pos, slice_get, slice_set, not, filter, codes, if◌then◌else◌, nat_le, nat_lt, count_by, unwrap_or, int_lt, int_le}
-use Rattle.std.specs.Map.{lookup, set_value}
-use Rattle.int_core.specs.Rows.{get, set, kept, has_row, is_filled, is_cleared, border}
-use Rattle.int_core.specs.Value.{nil, boolean, integer, string, primitive, a_table, a_function, a_coroutine, Value, known, object, same, is_nil, table_values, bind, greatest_string}
+use Rattle.std.specs.Prelude.{ℤ, pos, slice_get, slice_set, not, codes, if◌then◌else◌, nat_le, int_lt, int_le}
+use Rattle.int_core.specs.Rows.{get, set, border}
+use Rattle.int_core.specs.Value.{nil, boolean, integer, string, primitive, a_table, a_function, a_coroutine, Value, known, object, is_nil, table_values, bind, greatest_string}
 use Rattle.int_core.specs.Heap.{Table, Heap, raw_get, raw_set, metatable_of, filled}
 use Rattle.int_core.specs.Operations.{Event, of_call, of_index, of_newindex, of_len, of_eq, of_concat, handler_in, handler_of, is_function, Settled, found, ask, fault, cannot_arise, asked, greatest_chain, indexed, index_of, set_raw, stored, store_of, Callee, callee, not_callable, callee_of, arithmetic_on, joined, concat_on, raw_length, length_on, truth, equal_on, ordered, computed, number_in, text_of, of_type, by_zero, cannot_compare, event_name, Operation, index, store, arithmetic, concat, length', equal, less, less_equal, does, of_lt, before, of_le}
 use Rattle.machine_sound.specs.Sound.{Each, OptionOk}
-use Rattle.machine_sound.proofs.Lists.{get_set_other, each_none, each_cons, each_tail, each_one, each_push, each_filter, each_set}
+use Rattle.machine_sound.proofs.Lists.{get_set_other, each_none, each_cons, each_one, each_set}
+use Rattle.machine_sound.proofs.TableRows.{get_has, set_has, filled_has}
 use Rattle.prelude_stays.specs.Kept.{Home, Apart, RowOk, TableOk, HeapOk}
 
 module _ (z : ℕ) where
   pub get_apart : (rows : List (Value × Value)) (key : Value) → Each (RowOk z) rows → Apart z (get table_values rows key)
-  get_apart rows key h = go rows h
-    where
-      pick : (b : Bool) (v : Value) (o : Option Value) → Apart z v → Apart z (unwrap_or o (known nil)) → Apart z (unwrap_or (cond b (Some v) o) (known nil))
-      pick true v o h k = h
-      pick false v o h k = k
-
-      go : (rows : List (Value × Value)) → Each (RowOk z) rows → Apart z (unwrap_or (lookup (same key) rows) (known nil))
-      go [] h = tt
-      go (row ∷ rows) h = pick (same key row.0) row.1 (lookup (same key) rows) (h zero row refl).1 (go rows (each_tail (RowOk z) row rows h))
-
-  set_value_ok : (test : Value → Bool) (rows : List (Value × Value)) (v : Value) → Apart z v → Each (RowOk z) rows → Each (RowOk z) (set_value test rows v)
-  set_value_ok test [] v p h = h
-  set_value_ok test (row ∷ rows) v p h = pick (test row.0) (set_value_ok test rows v p (each_tail (RowOk z) row rows h))
-    where
-      pick : (b : Bool) → Each (RowOk z) (set_value test rows v) → Each (RowOk z) (cond b ((row.0, v) ∷ rows) (row ∷ set_value test rows v))
-      pick true k = each_cons (RowOk z) (row.0, v) rows ((h zero row refl).0, p) (each_tail (RowOk z) row rows h)
-      pick false k = each_cons (RowOk z) row (set_value test rows v) (h zero row refl) k
-
-  kept_ok : (rows : List (Value × Value)) → Each (RowOk z) rows → Each (RowOk z) (kept table_values rows)
-  kept_ok rows h = pick (nat_lt (count_by (is_filled table_values) rows) (count_by (is_cleared table_values) rows))
-    where
-      pick : (b : Bool) → Each (RowOk z) (if b then filter (is_filled table_values) rows else rows)
-      pick true = each_filter (RowOk z) (is_filled table_values) rows h
-      pick false = h
+  get_apart rows key h = get_has (Apart z) tt rows key h
 
   pub set_ok : (rows : List (Value × Value)) (key v : Value) → Apart z key → Apart z v → Each (RowOk z) rows → Each (RowOk z) (set table_values rows key v)
-  set_ok rows key v k p h = pick (has_row table_values rows key) (Rattle.int_core.specs.Rows.is_nil table_values v)
-    where
-      pick : (a b : Bool) → Each (RowOk z) (if a then set_value (same key) rows v else if b then rows else kept table_values rows ++ (key, v) ∷ [])
-      pick true b = set_value_ok (same key) rows v p h
-      pick false true = h
-      pick false false = each_push (RowOk z) (kept table_values rows) (key, v) (kept_ok rows h) (k, p)
+  set_ok rows key v k p h = set_has (Apart z) rows key v k p h
 
   pub filled_ok : (last : ℕ) (vs : List Value) (rows : List (Value × Value)) → Each (Apart z) vs → Each (RowOk z) rows → Each (RowOk z) (filled last vs rows)
-  filled_ok last [] rows h k = k
-  filled_ok last (v ∷ vs) rows h k = filled_ok (suc last) vs (set table_values rows (known (integer (pos (suc last)))) v) (each_tail (Apart z) v vs h) (set_ok rows (known (integer (pos (suc last)))) v tt (h zero v refl) k)
+  filled_ok last vs rows h k = filled_has (Apart z) (λ n. tt) last vs rows h k
 
 module _ (y : Home) (H : Heap) (h : HeapOk y H) where
   -- another table than the environment becomes a new one
