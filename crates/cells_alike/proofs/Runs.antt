@@ -8,7 +8,7 @@ use Rattle.lua_meaning.specs.World.{System, yielded, returned, failed_with, spen
 use Rattle.lua_meaning.specs.Step.{has_ended, tick, ticks}
 use Rattle.lua_meaning.specs.Meaning.{Meaning, at_end, suspends, handed_line, run_from, onward}
 use Rattle.lua_meaning.specs.Opening.{primitives}
-use Rattle.runs_alike.proofs.Endings.{gives_ended, Later, suspends_out, turn_end}
+use Rattle.runs_alike.proofs.Endings.{gives_ended, Later, later_on, suspends_out, turn_end}
 use Rattle.cells_alike.proofs.Joint.{Joint, one, two, Quiet, Stands, quiet, stopped, busy, Both}
 use Rattle.cells_alike.proofs.Answering.{first_form, second_form}
 use Rattle.cells_alike.proofs.Ticking.{behind, together, alone, Step, step_both}
@@ -248,50 +248,26 @@ module _ (builds : Builds Body) (budget : ℕ) where
       let t = first_turn k J st (gives_ended (some_ticks builds first_form k (one J)).now (some_ticks builds first_form k (one J)) suspends m given) in
       let K = t.there in
       let l = first_last K t.stands m (subst (λ U. ends_on suspends U ≡ Some m) t.same given) in
-      record {
-        count = t.count + l.count;
-        other = l.other;
-        gives = λ z within. ap (ends_on suspends) (t.gives z (omega (arith, within))) ∙ l.gives z (omega (arith, within));
-        alike = l.alike;
-        waits = l.waits;
-      }
+      later_on (AreWaiting one two) m t.count l (λ z within. ap (ends_on suspends) (t.gives z within))
   first_runs k (line ∷ input) J st m given =
       let goes = λ (U : World Body State). run_from first_form (primitives builds) k (handed_line first_form (primitives builds) U line budget) input budget in
       let on = λ (z : ℕ) (U : World Body State). run_from second_form (primitives builds) z (handed_line second_form (primitives builds) U line budget) input budget in
       let t = first_turn k J st (gives_ended (some_ticks builds first_form k (one J)).now (some_ticks builds first_form k (one J)) goes m given) in
       let l = first_end k line input t.there t.stands m (subst (λ U. ends_on goes U ≡ Some m) t.same given) (first_runs k input) in
-      record {
-        count = t.count + l.count;
-        other = l.other;
-        gives = λ z within. ap (ends_on (on z)) (t.gives z (omega (arith, within))) ∙ l.gives z (omega (arith, within));
-        alike = l.alike;
-        waits = l.waits;
-      }
+      later_on (AreWaiting one two) m t.count l (λ z within. ap (ends_on (on z)) (t.gives z within))
 
   pub second_runs : (k : ℕ) (input : List (List ℕ)) → OnLines two one second_form first_form k input
   second_runs k [] J st m given =
       let t = second_turn k J st (gives_ended (some_ticks builds second_form k (two J)).now (some_ticks builds second_form k (two J)) suspends m given) in
       let K = t.there in
       let l = second_last K t.stands m (subst (λ U. ends_on suspends U ≡ Some m) t.same given) in
-      record {
-        count = t.count + l.count;
-        other = l.other;
-        gives = λ z within. ap (ends_on suspends) (t.gives z (omega (arith, within))) ∙ l.gives z (omega (arith, within));
-        alike = l.alike;
-        waits = l.waits;
-      }
+      later_on (AreWaiting two one) m t.count l (λ z within. ap (ends_on suspends) (t.gives z within))
   second_runs k (line ∷ input) J st m given =
       let goes = λ (U : World Body State). run_from second_form (primitives builds) k (handed_line second_form (primitives builds) U line budget) input budget in
       let on = λ (z : ℕ) (U : World Body State). run_from first_form (primitives builds) z (handed_line first_form (primitives builds) U line budget) input budget in
       let t = second_turn k J st (gives_ended (some_ticks builds second_form k (two J)).now (some_ticks builds second_form k (two J)) goes m given) in
       let l = second_end k line input t.there t.stands m (subst (λ U. ends_on goes U ≡ Some m) t.same given) (second_runs k input) in
-      record {
-        count = t.count + l.count;
-        other = l.other;
-        gives = λ z within. ap (ends_on (on z)) (t.gives z (omega (arith, within))) ∙ l.gives z (omega (arith, within));
-        alike = l.alike;
-        waits = l.waits;
-      }
+      later_on (AreWaiting two one) m t.count l (λ z within. ap (ends_on (on z)) (t.gives z within))
 
   -- the first form goes on as the second one does, with whatever budget both were suspended
   pub second_onward : (k : ℕ) (input : List (List ℕ)) (U V : World Body State) → AreWaiting two one U V → (m : Meaning Body State) → onward second_form (primitives builds) k U input budget ≡ Some m

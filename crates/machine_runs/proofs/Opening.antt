@@ -18,7 +18,7 @@ use Rattle.machine_sound.proofs.Chains.{chain_beside}
 use Rattle.machine_sound.proofs.Waits.{moving_solid}
 use Rattle.machine_sound.proofs.NewCoroutines.{coroutine_within}
 use Rattle.lua_meaning.specs.Libraries.{library_tables, plain_value, primitives_from, functions_from, primitive_values, constant_values, function_values, library_values, put_by_name, by_name, row_of_entry, table_of, is_in, library_table, is_named, first_of_each, environment, strings_meta}
-use Rattle.machine_runs.specs.Opening.{numbers, environment_cell, prelude_function, opening, nil_cells, main_cells, main_function, begun, handed_line}
+use Rattle.machine_runs.specs.Opening.{numbers, environment_cell, prelude_function, opening, nil_cells, main_cells, main_function, with_main, begun, handed_line}
 use Rattle.machine_runs.specs.Laws.{PreludeOk, MayTurn}
 
 -- an entry's name is no longer than a string may be, and its value is right
@@ -269,13 +269,7 @@ module _ (n : ℕ) (W : World) (main : Prototype) (s : Solid n W) (still : W.cha
   count = length main.own.upvalues
 
   abbrev V : World
-  V = record W {
-    functions = W.functions ++ main_function W main ∷ [];
-    cells = W.cells ++ main_cells W.globals count;
-    coroutines = W.coroutines ++ fresh (object a_function (length W.functions)) ∷ [];
-    main = Some (length W.coroutines);
-    moving = [];
-  }
+  V = with_main W main
 
   grows : Grows (sizes n W) (sizes n V)
   grows = record {

@@ -52,14 +52,17 @@ abbrev pub main_function : World → Prototype → Function
 main_function W main = record { code = main; cells = numbers (length W.cells) (length main.own.upvalues) }
 
 -- a script is given to the main coroutine, which has not run yet
-unfoldable pub begun : World → (main : Prototype) → World
-begun W main = record W {
+abbrev pub with_main : World → (main : Prototype) → World
+with_main W main = record W {
   functions = W.functions ++ main_function W main ∷ [];
   cells = W.cells ++ main_cells W.globals (length main.own.upvalues);
   coroutines = W.coroutines ++ fresh (object a_function (length W.functions)) ∷ [];
   main = Some (length W.coroutines);
   moving = [];
 }
+
+unfoldable pub begun : World → (main : Prototype) → World
+begun W main = with_main W main
 
 -- a line of input moves, for the main coroutine that waits for it
 unfoldable pub handed_line : World → (line : List ℕ) → World

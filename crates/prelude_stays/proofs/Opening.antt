@@ -13,7 +13,7 @@ use Rattle.machine_sound.specs.Sound.{Each}
 use Rattle.machine_sound.proofs.Lists.{each_none, each_one, each_cons, each_tail, each_append, each_push, each_filter, each_on, get_within, get_push_old, get_push_new, push_cases, map_get, get_map, each_eight}
 use Rattle.machine_sound.proofs.Values.{both_of}
 use Rattle.list_laws.proofs.Items.{length_more}
-use Rattle.machine_runs.specs.Opening.{numbers, prelude_function, opening, nil_cells, main_cells, main_function, begun, handed_line}
+use Rattle.machine_runs.specs.Opening.{numbers, prelude_function, opening, nil_cells, main_cells, main_function, with_main, begun, handed_line}
 use Rattle.prelude_stays.specs.Guards.{Guard, unguarded, guard_with, free}
 use Rattle.prelude_stays.specs.Kept.{Home, Apart, RowOk, TableOk, CoroutineOk, IsApart, FunctionOk, Keeps}
 use Rattle.prelude_guard.specs.Checks.{held_of}
@@ -175,13 +175,7 @@ module _ (y : Home) (gs : List Guard) (W : World) (k : Keeps y gs W) (main : Pro
   count = length main.own.upvalues
 
   abbrev V : World
-  V = record W {
-    functions = W.functions ++ main_function W main ∷ [];
-    cells = W.cells ++ main_cells W.globals count;
-    coroutines = W.coroutines ++ fresh (object a_function (length W.functions)) ∷ [];
-    main = Some (length W.coroutines);
-    moving = [];
-  }
+  V = with_main W main
 
   carries : (c : ℕ) → IsApart y.table gs W.coroutines W.cells c → IsApart y.table (gs ++ unguarded ∷ []) V.coroutines V.cells c
   carries c h = record {

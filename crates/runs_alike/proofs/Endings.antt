@@ -41,6 +41,16 @@ module _ {A B S T : Type 0} (Waits : World A S → World B T → Type 0) where
   waits_of : (x m : Meaning A S) (y : Meaning B T) → Some x ≡ Some m → WaitAlike Waits x.outcome y.outcome → WaitAlike Waits m.outcome y.outcome
   waits_of x m y given waits = subst (λ (z : Meaning A S). WaitAlike Waits z.outcome y.outcome) (some_same x m given) waits
 
+  -- where after some more steps the same is given
+  pub later_on : {f g : ℕ → Option (Meaning B T)} (m : Meaning A S) (n : ℕ) → Later Waits m g → ((z : ℕ) → n ≤ z → f z ≡ g z) → Later Waits m f
+  later_on m n l same = record {
+    count = n + l.count;
+    other = l.other;
+    gives = λ z within. same z (omega (arith, within)) ∙ l.gives z (omega (arith, within));
+    alike = l.alike;
+    waits = l.waits;
+  }
+
   last_out : (x m : Meaning A S) (y : Meaning B T) → Some x ≡ Some m → RunAlike x y → WaitAlike Waits x.outcome y.outcome → Later Waits m (λ z. Some y)
   last_out x m y given alike waits = record { count = zero; other = y; gives = λ z within. refl; alike = like_of x m y given alike; waits = waits_of x m y given waits }
 
@@ -118,13 +128,7 @@ module _ {A B S T : Type 0} (Sa : System A S) (Sb : System B T) (R : Bool → A 
       let t = turn_out k W bs xss xs like (gives_ended U.now U suspends m given) in
       let V = dress_world U t.bs t.xss t.xs in
       let l = turn_end (Out Sa Sb R Q) U.now U V suspends (λ z. suspends) m refl given (suspends_out (Out Sa Sb R Q) U V (record { bs = t.bs; xss = t.xss; xs = t.xs; same = refl; like = t.like })) in
-      record {
-        count = t.count + l.count;
-        other = l.other;
-        gives = λ z within. ap (λ (Y : World B T). at_end Y.now Y suspends) (t.gives z (omega (arith, within))) ∙ l.gives z (omega (arith, within));
-        alike = l.alike;
-        waits = l.waits;
-      }
+      later_on (Out Sa Sb R Q) m t.count l (λ z within. ap (λ (Y : World B T). at_end Y.now Y suspends) (t.gives z within))
   runs_out (line ∷ more) k budget W bs xss xs m like given =
       let U = ticks Sa pa k W in
       let goes = λ (X : World A S). run_from Sa pa k (handed_line Sa pa X line budget) more budget in
@@ -133,13 +137,7 @@ module _ {A B S T : Type 0} (Sa : System A S) (Sb : System B T) (R : Bool → A 
       let V = dress_world U t.bs t.xss t.xs in
       let l = turn_end (Out Sa Sb R Q) U.now U V goes on m refl given
       (λ y e. runs_out more k budget (handed_line Sa pa U line budget) t.bs t.xss t.xs y (record { functions = t.like.functions; coroutines = t.like.coroutines; frames = t.like.frames }) e) in
-      record {
-        count = t.count + l.count;
-        other = l.other;
-        gives = λ z within. ap (λ (Y : World B T). at_end Y.now Y (on z)) (t.gives z (omega (arith, within))) ∙ l.gives z (omega (arith, within));
-        alike = l.alike;
-        waits = l.waits;
-      }
+      later_on (Out Sa Sb R Q) m t.count l (λ z within. ap (λ (Y : World B T). at_end Y.now Y (on z)) (t.gives z within))
 
   -- worlds in which both are suspended go on alike, with whatever budget
   pub onward_out : (input : List (List ℕ)) (k budget : ℕ) (U : World A S) (V : World B T) (m : Meaning A S) → Out Sa Sb R Q U V → onward Sa pa k U input budget ≡ Some m
