@@ -174,13 +174,7 @@ impl Emitter {
             BinOp::Le => self.truth(Opcode::LeI, x, raised, true, target, line),
             BinOp::Gt => self.truth(Opcode::GtI, x, raised, true, target, line),
             BinOp::Ge => self.truth(Opcode::GeI, x, raised, true, target, line),
-            BinOp::Mul
-            | BinOp::Mod
-            | BinOp::Idiv
-            | BinOp::Band
-            | BinOp::Bor
-            | BinOp::Bxor
-            | BinOp::Concat => Ok(()),
+            _ => Ok(()),
         }
     }
 
@@ -206,13 +200,7 @@ impl Emitter {
             BinOp::Bxor => self.constant_arithmetic(Opcode::BXorK, 15, x, number, target, line),
             BinOp::Eq => self.truth(Opcode::EqK, x, number, true, target, line),
             BinOp::Ne => self.truth(Opcode::EqK, x, number, false, target, line),
-            BinOp::Shl
-            | BinOp::Shr
-            | BinOp::Concat
-            | BinOp::Lt
-            | BinOp::Le
-            | BinOp::Gt
-            | BinOp::Ge => Ok(()),
+            _ => Ok(()),
         }
     }
 
