@@ -1,5 +1,4 @@
 use Rattle.std.proofs.Common.{rules, ◌≡◌, length, sym, ◌∙◌}
-use Rattle.std.specs.Prelude.{slice_index_or}
 use Rattle.std.proofs.lemmas.Result.{on_ok_weaker}
 use Rattle.tree_core.specs.Tree as tree
 use Rattle.tree_core.specs.Plain.{plain_exp, plain_exps}
@@ -25,24 +24,16 @@ returns-then-len-ne1-2 c =
 
 pub returns-in-Some : goal.returns-in-Some
 returns-in-Some c =
-    let target = c.index-target.result.now in
-    let value = c.index-value.result.now in
-    let one : length c.args.targets.now.items ≡ 1 = search rules in
-    let alone : length c.args.values.now.items ≡ 1 = search rules in
-    let first : target ≡ slice_index_or c.args.targets.now.items 0 target = search rules in
-    let only : value ≡ slice_index_or c.args.values.now.items 0 value = search rules in
+    let targets = single c.args.targets.now.items c.index-target.result.now (search rules) (search rules) in
+    let values = single c.args.values.now.items c.index-value.result.now (search rules) (search rules) in
     on_ok_weaker c.direct.result
-    (direct_follows c.args.emitter.now c.direct.new.self (tree.exps (plain_exps c.args.targets.now.items)) (tree.exps (plain_exps c.args.values.now.items)) (plain_exp target) (plain_exp value) c.in-Some.local c.args.register c.args.line
-    (single c.args.targets.now.items target one first) (single c.args.values.now.items value alone only) (sym c.direct_local.ensures ∙ c.in-Some.is)) c.direct.ensures
+    (direct_follows c.args.emitter.now c.direct.new.self (tree.exps (plain_exps c.args.targets.now.items)) (tree.exps (plain_exps c.args.values.now.items)) (plain_exp c.index-target.result.now) (plain_exp c.index-value.result.now) c.in-Some.local c.args.register c.args.line
+    targets values (sym c.direct_local.ensures ∙ c.in-Some.is)) c.direct.ensures
 
 pub returns-in-None : goal.returns-in-None
 returns-in-None c =
-    let target = c.index-target.result.now in
-    let value = c.index-value.result.now in
-    let one : length c.args.targets.now.items ≡ 1 = search rules in
-    let alone : length c.args.values.now.items ≡ 1 = search rules in
-    let first : target ≡ slice_index_or c.args.targets.now.items 0 target = search rules in
-    let only : value ≡ slice_index_or c.args.values.now.items 0 value = search rules in
+    let targets = single c.args.targets.now.items c.index-target.result.now (search rules) (search rules) in
+    let values = single c.args.values.now.items c.index-value.result.now (search rules) (search rules) in
     on_ok_weaker c.write_several-in-None.result
     (stored_follows c.args.emitter.now c.write_several-in-None.new.emitter (tree.exps (plain_exps c.args.targets.now.items)) (tree.exps (plain_exps c.args.values.now.items)) c.args.register c.args.line
-    (none_by (single c.args.targets.now.items target one first) (single c.args.values.now.items value alone only) (sym c.direct_local.ensures ∙ c.in-None.is))) c.write_several-in-None.ensures
+    (none_by targets values (sym c.direct_local.ensures ∙ c.in-None.is))) c.write_several-in-None.ensures

@@ -1,5 +1,4 @@
 use Rattle.std.proofs.Common.{rules, ◌≡◌, length, sym, ap₂, ◌∙◌}
-use Rattle.std.specs.Prelude.{slice_index_or}
 use Rattle.std.proofs.lemmas.Result.{on_ok_weaker}
 use Rattle.tree_core.specs.Tree as tree
 use Rattle.tree_core.specs.Plain.{plain_exps}
@@ -23,11 +22,7 @@ returns-then-len-ne1-2 c =
 
 pub returns : goal.returns
 returns c =
-    let target = c.index-target.result.now in
-    let value = c.index-value.result.now in
-    let one : length c.args.targets.now.items ≡ 1 = search rules in
-    let alone : length c.args.values.now.items ≡ 1 = search rules in
-    let first : target ≡ slice_index_or c.args.targets.now.items 0 target = search rules in
-    let only : value ≡ slice_index_or c.args.values.now.items 0 value = search rules in
+    let targets = single c.args.targets.now.items c.index-target.result.now (search rules) (search rules) in
+    let values = single c.args.values.now.items c.index-value.result.now (search rules) (search rules) in
     on_ok_weaker c.add_target.result
-    (λ h. h ∙ ap₂ (λ x y. with_any (stored_constant x y) c.args.self.now) (sym (single c.args.targets.now.items target one first)) (sym (single c.args.values.now.items value alone only))) c.add_target.ensures
+    (λ h. h ∙ ap₂ (λ x y. with_any (stored_constant x y) c.args.self.now) (sym targets) (sym values)) c.add_target.ensures
