@@ -10,7 +10,7 @@ use Rattle.machine_runs.specs.Runs.{Close, is_suspended, Run, run_from, CodeRun,
 use Rattle.lua_heap.specs.declared.world.World.{World as Memory}
 use Rattle.lua_heap.specs.Plain.{plain}
 use Rattle.io_edge.specs.Content.{GrowsByFront}
-use Rattle.io_edge.specs.Lines.{lines_of, TakesLine, BeginsPastLimits, IsWithinLimits}
+use Rattle.io_edge.specs.Lines.{lines_of, taken_with, TakesLine, BeginsPastLimits, IsWithinLimits}
 use Rattle.lua_feed.specs.Feeding.{Does, GoesOn, IsBrokenOff, IsCutOff, IsFedTo, IsFedFront}
 use Rattle.lua_feed.specs.Limits.{lines_within, pass_limits, usable_lines, passes_limits}
 use Rattle.lua_feed.proofs.Fed.{Short, grows_none, told_within}
@@ -178,3 +178,19 @@ module _ (rows : ℕ → Row) (old mid : Memory) (budget taken taken' : ℕ) (li
       by (Some b) None takes f = absurd (cc)
       by (Some b) (Some n) takes f =
           λ r x. f r (back (usable_lines taken' n) r (subst (λ ls. CodeOnward rows (plain old 0) ls budget r) (usable b n (some_same (lines_of b) (line ∷ lines_of n) takes)) x))
+
+-- a line that was taken and handed over
+pub record LineFed (old mid : Memory) (taken taken' : ℕ) (line : List ℕ) (text next : Option (List ℕ)) : Type 0 where
+  pub handed : plain mid 0 ≡ handed_line (plain old 0) line
+  pub takes : TakesLine (Some line) text next
+  pub within : IsWithinLimits taken line
+  pub taken_is : taken' ≡ taken + length line + 1
+
+pub line_fed : (old mid : Memory) (taken taken' : ℕ) (o : Option (List ℕ)) (line bytes : List ℕ) (text next : Option (List ℕ)) → o ≡ Some line → TakesLine o text next → IfSome o (λ l. IsWithinLimits taken l)
+    → taken' ≡ taken_with taken o → bytes ≡ line → plain mid 0 ≡ handed_line (plain old 0) bytes → LineFed old mid taken taken' line text next
+line_fed old mid taken taken' o line bytes text next is takes within counts same handed = record {
+  handed = handed ∙ ap (handed_line (plain old 0)) same;
+  takes = subst (λ o. TakesLine o text next) is takes;
+  within = subst (λ o. IfSome o (λ l. IsWithinLimits taken l)) is within;
+  taken_is = subst (λ o. taken' ≡ taken_with taken o) is counts;
+}

@@ -13,7 +13,7 @@ use Rattle.lua_feed.specs.Faults.{fault_of_line}
 use Rattle.lua_feed.specs.Feeding.{GoesOn}
 use Rattle.lua_feed.proofs.Causes.{line_limit}
 use Rattle.lua_feed.proofs.Starting.{unfed_front}
-use Rattle.lua_feed.proofs.Onward.{on_none, on_past, on_unread, on_fed, on_cut, on_broken, on_front}
+use Rattle.lua_feed.proofs.Onward.{line_fed, on_none, on_past, on_unread, on_fed, on_cut, on_broken, on_front}
 use Rattle.lua_feed.proofs.feeding.feed_on.Goals as goal
 
 -- the first line is past the limits
@@ -61,52 +61,32 @@ feed-requires g c =
 
 pub returns-clause-fed : goal.returns-clause-fed
 returns-clause-fed g c =
-    let line = c.in-Some.line in
     let text = (ahead c.args.reader.now (g.S.Source.left c.args.input.now)) in
     let next = ahead c.next_line.new.self (g.S.Source.left c.next_line.new.source) in
-    let takes : TakesLine (Some line) text next = subst (λ o. TakesLine o text next) c.in-Some.is c.in_ok-line.ensures.line in
-    let within : IsWithinLimits c.args.reader.now.taken line = subst (λ o. IfSome o (λ l. IsWithinLimits c.args.reader.now.taken l)) c.in-Some.is c.in_ok-line.ensures.within in
-    let taken : c.next_line.new.self.taken ≡ c.args.reader.now.taken + length line + 1 =
-    subst (λ o. c.next_line.new.self.taken ≡ taken_with c.args.reader.now.taken o) c.in-Some.is c.in_ok-line.ensures.taken in
-    let same : c.as_slice.result.now ≡ line = search rules in
-    let handed : plain c.hand_line.new.world 0 ≡ handed_line (plain c.args.world.now 0) line = c.in_ok-hand_line.ensures.handed 0 ∙ ap (handed_line (plain c.args.world.now 0)) same in
-    IfOk-weaker c.feed.result _ _ (λ close f. read_map (λ builds are f. on_fed (library builds) c.args.world.now c.hand_line.new.world c.args.budget c.args.reader.now.taken c.next_line.new.self.taken line text next (g.K.Sink.written c.args.out.now) (g.K.Sink.written c.feed.new.out) handed takes within taken c.feed.new.world (close_of close) f) f) c.feed.ensures.fed
+    let h = line_fed c.args.world.now c.hand_line.new.world c.args.reader.now.taken c.next_line.new.self.taken _ c.in-Some.line c.as_slice.result.now text next c.in-Some.is
+    c.in_ok-line.ensures.line c.in_ok-line.ensures.within c.in_ok-line.ensures.taken (search rules) (c.in_ok-hand_line.ensures.handed 0) in
+    IfOk-weaker c.feed.result _ _ (λ close f. read_map (λ builds are f. on_fed (library builds) c.args.world.now c.hand_line.new.world c.args.budget c.args.reader.now.taken c.next_line.new.self.taken c.in-Some.line text next (g.K.Sink.written c.args.out.now) (g.K.Sink.written c.feed.new.out) h.handed h.takes h.within h.taken_is c.feed.new.world (close_of close) f) f) c.feed.ensures.fed
 
 pub returns-clause-front : goal.returns-clause-front
 returns-clause-front g c =
-    let line = c.in-Some.line in
     let text = (ahead c.args.reader.now (g.S.Source.left c.args.input.now)) in
     let next = ahead c.next_line.new.self (g.S.Source.left c.next_line.new.source) in
-    let takes : TakesLine (Some line) text next = subst (λ o. TakesLine o text next) c.in-Some.is c.in_ok-line.ensures.line in
-    let within : IsWithinLimits c.args.reader.now.taken line = subst (λ o. IfSome o (λ l. IsWithinLimits c.args.reader.now.taken l)) c.in-Some.is c.in_ok-line.ensures.within in
-    let taken : c.next_line.new.self.taken ≡ c.args.reader.now.taken + length line + 1 =
-    subst (λ o. c.next_line.new.self.taken ≡ taken_with c.args.reader.now.taken o) c.in-Some.is c.in_ok-line.ensures.taken in
-    let same : c.as_slice.result.now ≡ line = search rules in
-    let handed : plain c.hand_line.new.world 0 ≡ handed_line (plain c.args.world.now 0) line = c.in_ok-hand_line.ensures.handed 0 ∙ ap (handed_line (plain c.args.world.now 0)) same in
-    on_err_weaker c.feed.result (read_map (λ builds are f. on_front (library builds) c.args.world.now c.hand_line.new.world c.args.budget c.args.reader.now.taken c.next_line.new.self.taken line text next (g.K.Sink.written c.args.out.now) (g.K.Sink.written c.feed.new.out) handed takes within taken f)) c.feed.ensures.front
+    let h = line_fed c.args.world.now c.hand_line.new.world c.args.reader.now.taken c.next_line.new.self.taken _ c.in-Some.line c.as_slice.result.now text next c.in-Some.is
+    c.in_ok-line.ensures.line c.in_ok-line.ensures.within c.in_ok-line.ensures.taken (search rules) (c.in_ok-hand_line.ensures.handed 0) in
+    on_err_weaker c.feed.result (read_map (λ builds are f. on_front (library builds) c.args.world.now c.hand_line.new.world c.args.budget c.args.reader.now.taken c.next_line.new.self.taken c.in-Some.line text next (g.K.Sink.written c.args.out.now) (g.K.Sink.written c.feed.new.out) h.handed h.takes h.within h.taken_is f)) c.feed.ensures.front
 
 pub returns-clause-limit : goal.returns-clause-limit
 returns-clause-limit g c = λ limit.
-    let line = c.in-Some.line in
     let text = (ahead c.args.reader.now (g.S.Source.left c.args.input.now)) in
     let next = ahead c.next_line.new.self (g.S.Source.left c.next_line.new.source) in
-    let takes : TakesLine (Some line) text next = subst (λ o. TakesLine o text next) c.in-Some.is c.in_ok-line.ensures.line in
-    let within : IsWithinLimits c.args.reader.now.taken line = subst (λ o. IfSome o (λ l. IsWithinLimits c.args.reader.now.taken l)) c.in-Some.is c.in_ok-line.ensures.within in
-    let taken : c.next_line.new.self.taken ≡ c.args.reader.now.taken + length line + 1 =
-    subst (λ o. c.next_line.new.self.taken ≡ taken_with c.args.reader.now.taken o) c.in-Some.is c.in_ok-line.ensures.taken in
-    let same : c.as_slice.result.now ≡ line = search rules in
-    let handed : plain c.hand_line.new.world 0 ≡ handed_line (plain c.args.world.now 0) line = c.in_ok-hand_line.ensures.handed 0 ∙ ap (handed_line (plain c.args.world.now 0)) same in
-    read_map (λ builds are f. on_cut (library builds) c.args.world.now c.hand_line.new.world c.args.budget c.args.reader.now.taken c.next_line.new.self.taken line text next (g.K.Sink.written c.args.out.now) (g.K.Sink.written c.feed.new.out) handed takes within taken f) (c.feed.ensures.limit limit)
+    let h = line_fed c.args.world.now c.hand_line.new.world c.args.reader.now.taken c.next_line.new.self.taken _ c.in-Some.line c.as_slice.result.now text next c.in-Some.is
+    c.in_ok-line.ensures.line c.in_ok-line.ensures.within c.in_ok-line.ensures.taken (search rules) (c.in_ok-hand_line.ensures.handed 0) in
+    read_map (λ builds are f. on_cut (library builds) c.args.world.now c.hand_line.new.world c.args.budget c.args.reader.now.taken c.next_line.new.self.taken c.in-Some.line text next (g.K.Sink.written c.args.out.now) (g.K.Sink.written c.feed.new.out) h.handed h.takes h.within h.taken_is f) (c.feed.ensures.limit limit)
 
 pub returns-clause-broken : goal.returns-clause-broken
 returns-clause-broken g c = λ failed.
-    let line = c.in-Some.line in
     let text = (ahead c.args.reader.now (g.S.Source.left c.args.input.now)) in
     let next = ahead c.next_line.new.self (g.S.Source.left c.next_line.new.source) in
-    let takes : TakesLine (Some line) text next = subst (λ o. TakesLine o text next) c.in-Some.is c.in_ok-line.ensures.line in
-    let within : IsWithinLimits c.args.reader.now.taken line = subst (λ o. IfSome o (λ l. IsWithinLimits c.args.reader.now.taken l)) c.in-Some.is c.in_ok-line.ensures.within in
-    let taken : c.next_line.new.self.taken ≡ c.args.reader.now.taken + length line + 1 =
-    subst (λ o. c.next_line.new.self.taken ≡ taken_with c.args.reader.now.taken o) c.in-Some.is c.in_ok-line.ensures.taken in
-    let same : c.as_slice.result.now ≡ line = search rules in
-    let handed : plain c.hand_line.new.world 0 ≡ handed_line (plain c.args.world.now 0) line = c.in_ok-hand_line.ensures.handed 0 ∙ ap (handed_line (plain c.args.world.now 0)) same in
-    read_map (λ builds are f. on_broken (library builds) c.args.world.now c.hand_line.new.world c.args.budget c.args.reader.now.taken c.next_line.new.self.taken line text next (g.K.Sink.written c.args.out.now) (g.K.Sink.written c.feed.new.out) handed takes within taken f) (c.feed.ensures.broken failed)
+    let h = line_fed c.args.world.now c.hand_line.new.world c.args.reader.now.taken c.next_line.new.self.taken _ c.in-Some.line c.as_slice.result.now text next c.in-Some.is
+    c.in_ok-line.ensures.line c.in_ok-line.ensures.within c.in_ok-line.ensures.taken (search rules) (c.in_ok-hand_line.ensures.handed 0) in
+    read_map (λ builds are f. on_broken (library builds) c.args.world.now c.hand_line.new.world c.args.budget c.args.reader.now.taken c.next_line.new.self.taken c.in-Some.line text next (g.K.Sink.written c.args.out.now) (g.K.Sink.written c.feed.new.out) h.handed h.takes h.within h.taken_is f) (c.feed.ensures.broken failed)
