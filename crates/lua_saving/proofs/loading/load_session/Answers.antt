@@ -16,8 +16,7 @@ pub unpersist-requires : goal.unpersist-requires
 unpersist-requires c =
     let W : Memory = c.in_ok-world.world in
     let o = opened c.args.prelude W c.in_ok-world.ensures.plain c.in_ok-world.ensures.codes c.in_ok-world.ensures.listed in
-    let law = c.sessions_are_sound.ensures in
-    may_read c.args.prelude W o c.requires (permanents c.in_ok-permanents.permanents) c.in_ok-permanents.ensures law.opening law.idle c.rules_hold.ensures
+    may_read c.args.prelude W o c.requires (permanents c.in_ok-permanents.permanents) c.in_ok-permanents.ensures c.sessions_are_sound.ensures.opening c.sessions_are_sound.ensures.idle c.rules_hold.ensures
 
 pub returns-in_err-world-clause-refused : goal.returns-in_err-world-clause-refused
 returns-in_err-world-clause-refused c =
@@ -33,59 +32,45 @@ pub returns-clause-refused : goal.returns-clause-refused
 returns-clause-refused c =
     let W : Memory = c.in_ok-world.world in
     let o = opened c.args.prelude W c.in_ok-world.ensures.plain c.in_ok-world.ensures.codes c.in_ok-world.ensures.listed in
-    let law = c.sessions_are_sound.ensures in
-    refusal c.args.prelude W o c.requires (permanents c.in_ok-permanents.permanents) c.in_ok-permanents.ensures law.opening law.idle c.rules_hold.ensures c.args.image.now c.in-Err.fault c.in-Err.ensures.refused
+    refusal c.args.prelude W o c.requires (permanents c.in_ok-permanents.permanents) c.in_ok-permanents.ensures c.sessions_are_sound.ensures.opening c.sessions_are_sound.ensures.idle c.rules_hold.ensures c.args.image.now c.in-Err.fault c.in-Err.ensures.refused
 
 pub take_roots-requires : goal.take_roots-requires
 take_roots-requires c =
     let W : Memory = c.in_ok-world.world in
     let o = opened c.args.prelude W c.in_ok-world.ensures.plain c.in_ok-world.ensures.codes c.in_ok-world.ensures.listed in
-    let law = c.sessions_are_sound.ensures in
-    let V : Memory = c.unpersist.new.world in
-    let values : List Kept = c.in-Ok.values.items in
-    let same : c.as_slice.result.now ≡ values = search rules in
+    let same : c.as_slice.result.now ≡ c.in-Ok.values.items = search rules in
     record {
-      there = subst (AreThere V) (sym same) (roots_there c.args.prelude W o c.requires (permanents c.in_ok-permanents.permanents) c.in_ok-permanents.ensures law.opening law.idle c.rules_hold.ensures V c.args.image.now values c.in-Ok.ensures.loaded);
+      there = subst (AreThere c.unpersist.new.world) (sym same) (roots_there c.args.prelude W o c.requires (permanents c.in_ok-permanents.permanents) c.in_ok-permanents.ensures c.sessions_are_sound.ensures.opening c.sessions_are_sound.ensures.idle c.rules_hold.ensures c.unpersist.new.world c.args.image.now c.in-Ok.values.items c.in-Ok.ensures.loaded);
     }
 
 pub returns-then-take_roots-clause-session : goal.returns-then-take_roots-clause-session
 returns-then-take_roots-clause-session c =
     let W : Memory = c.in_ok-world.world in
     let o = opened c.args.prelude W c.in_ok-world.ensures.plain c.in_ok-world.ensures.codes c.in_ok-world.ensures.listed in
-    let law = c.sessions_are_sound.ensures in
-    let V : Memory = c.unpersist.new.world in
-    let values : List Kept = c.in-Ok.values.items in
-    let same : c.as_slice.result.now ≡ values = search rules in
-    let takes : TakesRoots V c.take_roots.new.world c.as_slice.result.now = search rules in
-    session c.args.prelude W o c.requires (permanents c.in_ok-permanents.permanents) c.in_ok-permanents.ensures law.opening law.idle c.rules_hold.ensures V c.args.image.now values c.in-Ok.ensures.loaded c.take_roots.new.world
-    (subst (TakesRoots V c.take_roots.new.world) same takes)
+    let same : c.as_slice.result.now ≡ c.in-Ok.values.items = search rules in
+    let takes : TakesRoots c.unpersist.new.world c.take_roots.new.world c.as_slice.result.now = search rules in
+    session c.args.prelude W o c.requires (permanents c.in_ok-permanents.permanents) c.in_ok-permanents.ensures c.sessions_are_sound.ensures.opening c.sessions_are_sound.ensures.idle c.rules_hold.ensures c.unpersist.new.world c.args.image.now c.in-Ok.values.items c.in-Ok.ensures.loaded c.take_roots.new.world
+    (subst (TakesRoots c.unpersist.new.world c.take_roots.new.world) same takes)
 
 pub returns-then-take_roots-clause-may : goal.returns-then-take_roots-clause-may
 returns-then-take_roots-clause-may c =
     let W : Memory = c.in_ok-world.world in
     let o = opened c.args.prelude W c.in_ok-world.ensures.plain c.in_ok-world.ensures.codes c.in_ok-world.ensures.listed in
-    let law = c.sessions_are_sound.ensures in
-    let V : Memory = c.unpersist.new.world in
-    let values : List Kept = c.in-Ok.values.items in
-    let same : c.as_slice.result.now ≡ values = search rules in
-    let takes : TakesRoots V c.take_roots.new.world c.as_slice.result.now = search rules in
-    goes_on c.args.prelude W o c.requires (permanents c.in_ok-permanents.permanents) c.in_ok-permanents.ensures law.opening law.idle c.rules_hold.ensures V c.args.image.now values c.in-Ok.ensures.loaded c.take_roots.new.world
-    (subst (TakesRoots V c.take_roots.new.world) same takes)
+    let same : c.as_slice.result.now ≡ c.in-Ok.values.items = search rules in
+    let takes : TakesRoots c.unpersist.new.world c.take_roots.new.world c.as_slice.result.now = search rules in
+    goes_on c.args.prelude W o c.requires (permanents c.in_ok-permanents.permanents) c.in_ok-permanents.ensures c.sessions_are_sound.ensures.opening c.sessions_are_sound.ensures.idle c.rules_hold.ensures c.unpersist.new.world c.args.image.now c.in-Ok.values.items c.in-Ok.ensures.loaded c.take_roots.new.world
+    (subst (TakesRoots c.unpersist.new.world c.take_roots.new.world) same takes)
 
 pub returns-then-take_roots-clause-yielded : goal.returns-then-take_roots-clause-yielded
 returns-then-take_roots-clause-yielded c =
-    let V : Memory = c.unpersist.new.world in
-    let takes : TakesRoots V c.take_roots.new.world c.as_slice.result.now = search rules in
+    let takes : TakesRoots c.unpersist.new.world c.take_roots.new.world c.as_slice.result.now = search rules in
     takes.waits
 
 pub returns-in-Ok-clause-refused : goal.returns-in-Ok-clause-refused
 returns-in-Ok-clause-refused c =
     let W : Memory = c.in_ok-world.world in
     let o = opened c.args.prelude W c.in_ok-world.ensures.plain c.in_ok-world.ensures.codes c.in_ok-world.ensures.listed in
-    let law = c.sessions_are_sound.ensures in
-    let V : Memory = c.unpersist.new.world in
-    let values : List Kept = c.in-Ok.values.items in
-    let same : c.as_slice.result.now ≡ values = search rules in
-    let none : IsNoSession V c.as_slice.result.now = search rules in
-    no_session c.args.prelude W o c.requires (permanents c.in_ok-permanents.permanents) c.in_ok-permanents.ensures law.opening law.idle c.rules_hold.ensures V c.args.image.now values c.in-Ok.ensures.loaded
-    (subst (IsNoSession V) same none)
+    let same : c.as_slice.result.now ≡ c.in-Ok.values.items = search rules in
+    let none : IsNoSession c.unpersist.new.world c.as_slice.result.now = search rules in
+    no_session c.args.prelude W o c.requires (permanents c.in_ok-permanents.permanents) c.in_ok-permanents.ensures c.sessions_are_sound.ensures.opening c.sessions_are_sound.ensures.idle c.rules_hold.ensures c.unpersist.new.world c.args.image.now c.in-Ok.values.items c.in-Ok.ensures.loaded
+    (subst (IsNoSession c.unpersist.new.world) same none)

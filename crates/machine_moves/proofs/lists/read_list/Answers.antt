@@ -20,50 +20,38 @@ opened-requires c = lua_top c.args.world.now c.running_stack-stack.ensures.co c.
 
 pub overflow_add-end : goal.overflow_add-end
 overflow_add-end c =
-    let W = c.args.world.now in
-    let d = c.requires.there in
-    let n = of_top W c.running_stack-stack.ensures.co c.running_stack-stack.result.now d.place (λ f t. c.opened.result ≡ t.own.opened) c.running_stack-stack.ensures.runs d.is c.opened.ensures in
+    let n = of_top c.args.world.now c.running_stack-stack.ensures.co c.running_stack-stack.result.now c.requires.there.place (λ f t. c.opened.result ≡ t.own.opened) c.running_stack-stack.ensures.runs c.requires.there.is c.opened.ensures in
     let a : c.from.result ≡ a_of c.word_in_front-front.result = search rules in
-    let ends = ends_as d.place c.word_in_front-front.result c.from.result c.opened.result (list_ends W c.args.from c.word_in_front-front.result c.requires.sound d c.word_in_front-front.ensures) a n in
-    let kept = of_top W c.running_stack-stack.ensures.co c.running_stack-stack.result.now d.place (λ f t. map f c.registers-registers.result.now ≡ t.own.registers) c.running_stack-stack.ensures.runs d.is c.registers-registers.ensures in
-    let f = meant W.strings in
-    let l = within_kept d.place f c.registers-registers.result.now kept ends in
+    let ends = ends_as c.requires.there.place c.word_in_front-front.result c.from.result c.opened.result (list_ends c.args.world.now c.args.from c.word_in_front-front.result c.requires.sound c.requires.there c.word_in_front-front.ensures) a n in
+    let kept = of_top c.args.world.now c.running_stack-stack.ensures.co c.running_stack-stack.result.now c.requires.there.place (λ f t. map f c.registers-registers.result.now ≡ t.own.registers) c.running_stack-stack.ensures.runs c.requires.there.is c.registers-registers.ensures in
+    let l = within_kept c.requires.there.place (meant c.args.world.now.strings) c.registers-registers.result.now kept ends in
     search (arith, rules)
 
 pub returns-then-end-from : goal.returns-then-end-from
 returns-then-end-from c = λ env.
-    let W = c.args.world.now in
-    let d = c.requires.there in
-    let n = of_top W c.running_stack-stack.ensures.co c.running_stack-stack.result.now d.place (λ f t. c.opened.result ≡ t.own.opened) c.running_stack-stack.ensures.runs d.is c.opened.ensures in
+    let n = of_top c.args.world.now c.running_stack-stack.ensures.co c.running_stack-stack.result.now c.requires.there.place (λ f t. c.opened.result ≡ t.own.opened) c.running_stack-stack.ensures.runs c.requires.there.is c.opened.ensures in
     let a : c.from.result ≡ a_of c.word_in_front-front.result = search rules in
-    let ends = ends_as d.place c.word_in_front-front.result c.from.result c.opened.result (list_ends W c.args.from c.word_in_front-front.result c.requires.sound d c.word_in_front-front.ensures) a n in
-    let kept = of_top W c.running_stack-stack.ensures.co c.running_stack-stack.result.now d.place (λ f t. map f c.registers-registers.result.now ≡ t.own.registers) c.running_stack-stack.ensures.runs d.is c.registers-registers.ensures in
-    let f = meant W.strings in
+    let ends = ends_as c.requires.there.place c.word_in_front-front.result c.from.result c.opened.result (list_ends c.args.world.now c.args.from c.word_in_front-front.result c.requires.sound c.requires.there c.word_in_front-front.ensures) a n in
+    let kept = of_top c.args.world.now c.running_stack-stack.ensures.co c.running_stack-stack.result.now c.requires.there.place (λ f t. map f c.registers-registers.result.now ≡ t.own.registers) c.running_stack-stack.ensures.runs c.requires.there.is c.registers-registers.ensures in
     let l : c.from.result + c.opened.result ≤ c.args.from = search (arith, rules) in
-    list_read W c.args.from (c.from.result + c.opened.result) [] env d ends (range_none (c.from.result + c.opened.result) c.args.from d.place.top.own.registers l)
+    list_read c.args.world.now c.args.from (c.from.result + c.opened.result) [] env c.requires.there ends (range_none (c.from.result + c.opened.result) c.args.from c.requires.there.place.top.own.registers l)
 
 pub span-requires : goal.span-requires
 span-requires c =
-    let W = c.args.world.now in
-    let d = c.requires.there in
-    let n = of_top W c.running_stack-stack.ensures.co c.running_stack-stack.result.now d.place (λ f t. c.opened.result ≡ t.own.opened) c.running_stack-stack.ensures.runs d.is c.opened.ensures in
+    let n = of_top c.args.world.now c.running_stack-stack.ensures.co c.running_stack-stack.result.now c.requires.there.place (λ f t. c.opened.result ≡ t.own.opened) c.running_stack-stack.ensures.runs c.requires.there.is c.opened.ensures in
     let a : c.from.result ≡ a_of c.word_in_front-front.result = search rules in
-    let ends = ends_as d.place c.word_in_front-front.result c.from.result c.opened.result (list_ends W c.args.from c.word_in_front-front.result c.requires.sound d c.word_in_front-front.ensures) a n in
-    let kept = of_top W c.running_stack-stack.ensures.co c.running_stack-stack.result.now d.place (λ f t. map f c.registers-registers.result.now ≡ t.own.registers) c.running_stack-stack.ensures.runs d.is c.registers-registers.ensures in
-    let f = meant W.strings in
-    let l = within_kept d.place f c.registers-registers.result.now kept ends in
+    let ends = ends_as c.requires.there.place c.word_in_front-front.result c.from.result c.opened.result (list_ends c.args.world.now c.args.from c.word_in_front-front.result c.requires.sound c.requires.there c.word_in_front-front.ensures) a n in
+    let kept = of_top c.args.world.now c.running_stack-stack.ensures.co c.running_stack-stack.result.now c.requires.there.place (λ f t. map f c.registers-registers.result.now ≡ t.own.registers) c.running_stack-stack.ensures.runs c.requires.there.is c.registers-registers.ensures in
+    let l = within_kept c.requires.there.place (meant c.args.world.now.strings) c.registers-registers.result.now kept ends in
     let m : c.args.from ≤ c.from.result + c.opened.result = search (arith, rules) in
     omega (arith, l, m)
 
 pub returns : goal.returns
 returns c = λ env.
-    let W = c.args.world.now in
-    let d = c.requires.there in
-    let n = of_top W c.running_stack-stack.ensures.co c.running_stack-stack.result.now d.place (λ f t. c.opened.result ≡ t.own.opened) c.running_stack-stack.ensures.runs d.is c.opened.ensures in
+    let n = of_top c.args.world.now c.running_stack-stack.ensures.co c.running_stack-stack.result.now c.requires.there.place (λ f t. c.opened.result ≡ t.own.opened) c.running_stack-stack.ensures.runs c.requires.there.is c.opened.ensures in
     let a : c.from.result ≡ a_of c.word_in_front-front.result = search rules in
-    let ends = ends_as d.place c.word_in_front-front.result c.from.result c.opened.result (list_ends W c.args.from c.word_in_front-front.result c.requires.sound d c.word_in_front-front.ensures) a n in
-    let kept = of_top W c.running_stack-stack.ensures.co c.running_stack-stack.result.now d.place (λ f t. map f c.registers-registers.result.now ≡ t.own.registers) c.running_stack-stack.ensures.runs d.is c.registers-registers.ensures in
-    let f = meant W.strings in
+    let ends = ends_as c.requires.there.place c.word_in_front-front.result c.from.result c.opened.result (list_ends c.args.world.now c.args.from c.word_in_front-front.result c.requires.sound c.requires.there c.word_in_front-front.ensures) a n in
+    let kept = of_top c.args.world.now c.running_stack-stack.ensures.co c.running_stack-stack.result.now c.requires.there.place (λ f t. map f c.registers-registers.result.now ≡ t.own.registers) c.running_stack-stack.ensures.runs c.requires.there.is c.registers-registers.ensures in
     let m : c.args.from ≤ c.from.result + c.opened.result = search (arith, rules) in
-    list_read W c.args.from (c.from.result + c.opened.result) c.span.result.now env d ends
-    (range_of f c.registers-registers.result.now d.place c.args.from (c.from.result + c.opened.result) kept ends m ∙ ap (map f) (sym c.span.ensures))
+    list_read c.args.world.now c.args.from (c.from.result + c.opened.result) c.span.result.now env c.requires.there ends
+    (range_of (meant c.args.world.now.strings) c.registers-registers.result.now c.requires.there.place c.args.from (c.from.result + c.opened.result) kept ends m ∙ ap (map (meant c.args.world.now.strings)) (sym c.span.ensures))
