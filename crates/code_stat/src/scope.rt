@@ -62,19 +62,7 @@ pub(crate) fn closing_after(stat: &Stat, closing: bool) -> bool
 {
     match &stat.node {
         StatNode::Local(names, _) => closing || has_closed(names),
-        StatNode::LocalFunction(_, _)
-        | StatNode::Empty
-        | StatNode::Assign(_, _)
-        | StatNode::Call(_)
-        | StatNode::Do(_)
-        | StatNode::While(_, _)
-        | StatNode::Repeat(_, _)
-        | StatNode::If(_, _)
-        | StatNode::NumFor(_, _, _, _, _)
-        | StatNode::GenFor(_, _, _)
-        | StatNode::Label(_)
-        | StatNode::Goto(_)
-        | StatNode::Break => closing,
+        _ => closing,
     }
 }
 
