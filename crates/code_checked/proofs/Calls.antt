@@ -11,7 +11,7 @@ use Rattle.code_of.specs.Coded.{with_abc, leaving_by}
 use Rattle.code_of.specs.Expressions.{set_list}
 use Rattle.code_checked.proofs.Pieces.{Seam, closed, listed, returned, Piece}
 use Rattle.code_checked.proofs.Units.{starts_by, leaves_none, begins_none, Takes, Gives, Plain, StillCouple, one, two}
-use Rattle.code_checked.proofs.Words.{abc_fits, ax_fits, pair, first_new_table, last_extra}
+use Rattle.code_checked.proofs.Words.{abc_fits, ax_fits, pair, first_new_table, last_extra, joined, joined_set_list}
 use Rattle.code_of.proofs.Fields.{k_of-abc}
 use Rattle.list_laws.proofs.Tests.{is_zero}
 
@@ -153,33 +153,8 @@ module _ (p : Prototype) where
 
   far_list : (f : Seam) (t b items more : ℕ) → t < 2 ^ 8 → b < 2 ^ 8 → items < 2 ^ 8 → more < 2 ^ 25 → TakesField f t b → StillCouple p f (abc SetList t b items true) (op_ax ExtraArg more)
   far_list f t b items more tf bf cf xf takes = record {
-    couple = record {
-      opcode = SetList;
-      is = opcode_of-abc SetList t b items true;
-      whole = refl;
-      fits = abc_fits SetList t b items true tf bf cf;
-      alone = refl;
-      constant = refl;
-      upvalue = refl;
-      inner = refl;
-      still = λ pc. refl;
-      gives = refl;
-      takes = takes_by f SetList t b items true tf bf refl takes;
-      varargs = λ pc h. h;
-      second = ExtraArg;
-      half = ap (λ b. if b then Some ExtraArg else None) (k_of-abc SetList t b items true tf);
-      agree = refl;
-      second_is = opcode_of-ax ExtraArg more;
-      second_whole = refl;
-      second_fits = ax_fits ExtraArg more xf;
-      second_constant = λ extra. refl;
-      second_upvalue = refl;
-      second_inner = refl;
-      second_half_none = refl;
-      second_gives = refl;
-      second_takes = refl;
-      second_varargs = λ pc h. h;
-    };
+    couple = joined p f SetList ExtraArg (joined_set_list p) (last_extra p) (abc SetList t b items true) (op_ax ExtraArg more) (opcode_of-abc SetList t b items true) (abc_fits SetList t b items true tf bf cf) refl
+        (takes_by f SetList t b items true tf bf refl takes) (ap (λ b. if b then Some ExtraArg else None) (k_of-abc SetList t b items true tf)) (opcode_of-ax ExtraArg more) (ax_fits ExtraArg more xf) refl;
     still = λ pc. refl;
   }
 

@@ -21,7 +21,7 @@ use Rattle.code_of.specs.Operators.{truth_code}
 use Rattle.code_of.proofs.Operations.{arithmetic_integer}
 use Rattle.code_checked.proofs.Pieces.{closed, Land, Piece}
 use Rattle.code_checked.proofs.Units.{Couple, leaves_none, begins_none, extra_of, two, two_jump}
-use Rattle.code_checked.proofs.Words.{abc_fits, ax_fits, list_none, simple, simple_load_true}
+use Rattle.code_checked.proofs.Words.{abc_fits, ax_fits, list_none, simple, simple_load_true, joined, joined_eq_k, last_jump}
 use Rattle.code_checked.proofs.Loads.{is_used, constant_test}
 use Rattle.code_checked.proofs.Operators.{skip_piece}
 use Rattle.code_checked.proofs.Seams.{lands_over, ending, three}
@@ -102,33 +102,10 @@ module _ (p : Prototype) where
 
   -- EQK and the jump behind it, over m instructions to place q
   abbrev equalled : (x n : ℕ) (k : Bool) (m : ℕ) (v : Const) → x < 2 ^ 8 → n < 2 ^ 8 → m < 2 ^ 24 → slice_get p.own.constants n ≡ Some v → Couple p closed (abc EqK x n 0 k) (op_ax Jmp (16777215 + m))
-  equalled x n k m v xf nf mf there = record {
-    opcode = EqK;
-    is = opcode_of-abc EqK x n 0 k;
-    whole = refl;
-    fits = abc_fits EqK x n 0 k xf nf (lit< tt);
-    alone = refl;
-    constant = ap (λ c. list_all (is_used p) ((anything, c) ∷ [])) (b_of-abc EqK x n 0 k xf nf) ∙ constant_test p anything n v there refl;
-    upvalue = refl;
-    inner = refl;
-    still = λ pc. refl;
-    gives = refl;
-    takes = refl;
-    varargs = λ pc h. h;
-    second = Jmp;
-    half = refl;
-    agree = refl;
-    second_is = opcode_of-ax Jmp (16777215 + m);
-    second_whole = refl;
-    second_fits = ax_fits Jmp (16777215 + m) (omega (arith, mf));
-    second_constant = λ extra. refl;
-    second_upvalue = refl;
-    second_inner = refl;
-    second_half_none = refl;
-    second_gives = refl;
-    second_takes = refl;
-    second_varargs = λ pc h. h;
-  }
+  equalled x n k m v xf nf mf there =
+      joined p closed EqK Jmp (joined_eq_k p) (last_jump p) (abc EqK x n 0 k) (op_ax Jmp (16777215 + m)) (opcode_of-abc EqK x n 0 k) (abc_fits EqK x n 0 k xf nf (lit< tt))
+      (ap (λ c. list_all (is_used p) ((anything, c) ∷ [])) (b_of-abc EqK x n 0 k xf nf) ∙ constant_test p anything n v there refl)
+      refl refl (opcode_of-ax Jmp (16777215 + m)) (ax_fits Jmp (16777215 + m) (omega (arith, mf))) refl
 
   equal_piece : {H : Type 0} (x n : ℕ) (k : Bool) (m pc q line : ℕ) (v : Const) → x < 2 ^ 8 → n < 2 ^ 8 → m < 2 ^ 24 → slice_get p.own.constants n ≡ Some v → q ≡ pc + 2 + m → (H → Land p q)
       → Piece p H closed closed pc ((abc EqK x n 0 k, line) ∷ jump_over m line ∷ [])

@@ -8,7 +8,7 @@ use Rattle.code_of.specs.Coded.{Coded, with_abc, with_abx, jump_back}
 use Rattle.code_of.specs.Parts.{while_code, repeat_code, past, arm_code, counting_code, iterating_code}
 use Rattle.code_checked.proofs.Pieces.{closed, Land, Lands, Piece, both, nothing}
 use Rattle.code_checked.proofs.Units.{Single, one_jump, two_jump}
-use Rattle.code_checked.proofs.Words.{abc_fits, abx_fits, pair, simple, simple_close, first_iterate, last_iterate}
+use Rattle.code_checked.proofs.Words.{abc_fits, abx_fits, pair, simple, simple_close, first_iterate, last_iterate, lone, alone_for_loop, alone_for_prep, alone_t_for_prep}
 use Rattle.code_checked.proofs.Loads.{Whole}
 use Rattle.code_checked.proofs.Seams.{alike, beginning, ending, three, back_to}
 use Rattle.code_checked.proofs.Jumping.{shortly, over_piece, back_piece}
@@ -90,52 +90,13 @@ module _ (p : Prototype) (W : Whole p) where
   -- loops of `for`
 
   abbrev prepare : (t bx : ℕ) → t < 2 ^ 8 → bx < 2 ^ 17 → Single p closed closed (abx ForPrep t bx)
-  prepare t bx tf bf = record {
-    opcode = ForPrep;
-    is = opcode_of-abx ForPrep t bx;
-    whole = refl;
-    fits = abx_fits ForPrep t bx tf bf;
-    alone = refl;
-    constant = λ extra. refl;
-    upvalue = refl;
-    inner = λ pc here. refl;
-    half = refl;
-    gives = refl;
-    takes = refl;
-    varargs = λ pc h. h;
-  }
+  prepare t bx tf bf = lone p ForPrep (alone_for_prep p) (abx ForPrep t bx) (opcode_of-abx ForPrep t bx) (abx_fits ForPrep t bx tf bf) (λ extra. refl) refl
 
   abbrev again : (t bx : ℕ) → t < 2 ^ 8 → bx < 2 ^ 17 → Single p closed closed (abx ForLoop t bx)
-  again t bx tf bf = record {
-    opcode = ForLoop;
-    is = opcode_of-abx ForLoop t bx;
-    whole = refl;
-    fits = abx_fits ForLoop t bx tf bf;
-    alone = refl;
-    constant = λ extra. refl;
-    upvalue = refl;
-    inner = λ pc here. refl;
-    half = refl;
-    gives = refl;
-    takes = refl;
-    varargs = λ pc h. h;
-  }
+  again t bx tf bf = lone p ForLoop (alone_for_loop p) (abx ForLoop t bx) (opcode_of-abx ForLoop t bx) (abx_fits ForLoop t bx tf bf) (λ extra. refl) refl
 
   abbrev prepare_generic : (t bx : ℕ) → t < 2 ^ 8 → bx < 2 ^ 17 → Single p closed closed (abx TForPrep t bx)
-  prepare_generic t bx tf bf = record {
-    opcode = TForPrep;
-    is = opcode_of-abx TForPrep t bx;
-    whole = refl;
-    fits = abx_fits TForPrep t bx tf bf;
-    alone = refl;
-    constant = λ extra. refl;
-    upvalue = refl;
-    inner = λ pc here. refl;
-    half = refl;
-    gives = refl;
-    takes = refl;
-    varargs = λ pc h. h;
-  }
+  prepare_generic t bx tf bf = lone p TForPrep (alone_t_for_prep p) (abx TForPrep t bx) (opcode_of-abx TForPrep t bx) (abx_fits TForPrep t bx tf bf) (λ extra. refl) refl
 
   prepare_piece : {H : Type 0} (t bx pc q line : ℕ) → t < 2 ^ 8 → bx < 2 ^ 17 → q ≡ pc + 2 + bx → (H → Land p q) → Piece p H closed closed pc (with_abx ForPrep t bx line ∷ [])
   prepare_piece {H} t bx pc q line tf bf e to =

@@ -9,7 +9,7 @@ use Rattle.code_core.proofs.FieldLemmas.{opcode_of-abc, opcode_of-ax}
 use Rattle.code_of.specs.Coded.{Coded, jump_over, jump_back}
 use Rattle.code_checked.proofs.Pieces.{Seam, closed, Land, Piece, supposing}
 use Rattle.code_checked.proofs.Units.{Single, one_jump, leaves_none, begins_none}
-use Rattle.code_checked.proofs.Words.{ax_fits, IsFirst}
+use Rattle.code_checked.proofs.Words.{ax_fits, IsFirst, lone, alone_jump}
 use Rattle.code_checked.proofs.Loads.{Whole}
 use Rattle.code_checked.proofs.Seams.{lands_over, lands_back}
 use Rattle.code_checked.proofs.Operators.{test_piece}
@@ -30,20 +30,7 @@ module _ (p : Prototype) where
   shortly {H} {f} {pc} {xs} W a = within W (supposing p (λ h. let below = h.1 in (h.0, omega (arith, below))) a)
 
   abbrev pub jump : (w : ℕ) → w < 2 ^ 25 → Single p closed closed (op_ax Jmp w)
-  jump w fits = record {
-    opcode = Jmp;
-    is = opcode_of-ax Jmp w;
-    whole = refl;
-    fits = ax_fits Jmp w fits;
-    alone = refl;
-    constant = λ extra. refl;
-    upvalue = refl;
-    inner = λ pc here. refl;
-    half = refl;
-    gives = refl;
-    takes = refl;
-    varargs = λ pc h. h;
-  }
+  jump w fits = lone p Jmp (alone_jump p) (op_ax Jmp w) (opcode_of-ax Jmp w) (ax_fits Jmp w fits) (λ extra. refl) refl
 
   pub over_piece : {H : Type 0} (n pc q line : ℕ) → (H → n < 2 ^ 24) → q ≡ pc + 1 + n → (H → Land p q) → Piece p H closed closed pc (jump_over n line ∷ [])
   over_piece {H} n pc q line short e to = record {

@@ -22,7 +22,7 @@ use Rattle.code_of.specs.CodeOf.{back_field, upvalue}
 use Rattle.code_checked.specs.Near.{IsRegister, NameIsNear, AreCaptured}
 use Rattle.code_checked.proofs.Pieces.{closed, Piece, both}
 use Rattle.code_checked.proofs.Units.{Plain, StillCouple, one, two, extra_of}
-use Rattle.code_checked.proofs.Words.{abc_fits, abx_fits, ax_fits, simple, simple_wide, simple_move, simple_load_i, simple_load_nil, simple_get_table}
+use Rattle.code_checked.proofs.Words.{abc_fits, abx_fits, ax_fits, simple, simple_wide, simple_move, simple_load_i, simple_load_nil, simple_get_table, lone, alone_get_field, alone_get_tab_up, alone_get_upvalue, alone_load_k, alone_self, alone_set_field, alone_set_i, alone_set_tab_up, alone_set_table, alone_set_upvalue, joined, joined_load_kx, last_extra}
 use Rattle.code_of.proofs.Fields.{k_of-abc, field_fits}
 use Rattle.code_checked.proofs.Found.{Grows, IsIn, is_in, is_name}
 use Rattle.code_of.proofs.Constants.{same_text}
@@ -76,39 +76,15 @@ module _ (p : Prototype) where
 
   get_upvalue : (t u : ℕ) → t < 2 ^ 8 → u < 2 ^ 8 → u < length p.own.upvalues → Plain p closed closed (abc GetUpval t u 0 false)
   get_upvalue t u tf uf h = record {
-    single = record {
-      opcode = GetUpval;
-      is = opcode_of-abc GetUpval t u 0 false;
-      whole = refl;
-      fits = abc_fits GetUpval t u 0 false tf uf (lit< tt);
-      alone = refl;
-      constant = λ extra. refl;
-      upvalue = ap (λ b. list_all (λ u. nat_lt u (length p.own.upvalues)) (b ∷ [])) (b_of-abc GetUpval t u 0 false tf uf) ∙ upvalue_test u h;
-      inner = λ pc here. refl;
-      half = refl;
-      gives = refl;
-      takes = refl;
-      varargs = λ pc h. h;
-    };
+    single = lone p GetUpval (alone_get_upvalue p) (abc GetUpval t u 0 false) (opcode_of-abc GetUpval t u 0 false) (abc_fits GetUpval t u 0 false tf uf (lit< tt)) (λ extra. refl)
+        (ap (λ b. list_all (λ u. nat_lt u (length p.own.upvalues)) (b ∷ [])) (b_of-abc GetUpval t u 0 false tf uf) ∙ upvalue_test u h);
     still = λ pc. refl;
   }
 
   set_upvalue : (v u : ℕ) → v < 2 ^ 8 → u < 2 ^ 8 → u < length p.own.upvalues → Plain p closed closed (abc SetUpval v u 0 false)
   set_upvalue v u vf uf h = record {
-    single = record {
-      opcode = SetUpval;
-      is = opcode_of-abc SetUpval v u 0 false;
-      whole = refl;
-      fits = abc_fits SetUpval v u 0 false vf uf (lit< tt);
-      alone = refl;
-      constant = λ extra. refl;
-      upvalue = ap (λ b. list_all (λ u. nat_lt u (length p.own.upvalues)) (b ∷ [])) (b_of-abc SetUpval v u 0 false vf uf) ∙ upvalue_test u h;
-      inner = λ pc here. refl;
-      half = refl;
-      gives = refl;
-      takes = refl;
-      varargs = λ pc h. h;
-    };
+    single = lone p SetUpval (alone_set_upvalue p) (abc SetUpval v u 0 false) (opcode_of-abc SetUpval v u 0 false) (abc_fits SetUpval v u 0 false vf uf (lit< tt)) (λ extra. refl)
+        (ap (λ b. list_all (λ u. nat_lt u (length p.own.upvalues)) (b ∷ [])) (b_of-abc SetUpval v u 0 false vf uf) ∙ upvalue_test u h);
     still = λ pc. refl;
   }
 
@@ -119,61 +95,26 @@ module _ (p : Prototype) where
   get_global : (t u n : ℕ) (text : List ℕ) → t < 2 ^ 8 → u < 2 ^ 8 → n < 2 ^ 8 → u < length p.own.upvalues → number_in p.own.constants (StrConst text) ≡ n → IsIn p.own.constants (StrConst text)
       → Plain p closed closed (abc GetTabUp t u n false)
   get_global t u n text tf uf nf h e i = record {
-    single = record {
-      opcode = GetTabUp;
-      is = opcode_of-abc GetTabUp t u n false;
-      whole = refl;
-      fits = abc_fits GetTabUp t u n false tf uf nf;
-      alone = refl;
-      constant = λ extra. ap (λ c. list_all (is_used p) ((name, c) ∷ [])) (c_of-abc GetTabUp t u n false tf uf nf)
-          ∙ constant_test name n i.entry (ap (slice_get p.own.constants) (sym e) ∙ i.there) (is_name text i.entry i.alike);
-      upvalue = ap (λ b. list_all (λ u. nat_lt u (length p.own.upvalues)) (b ∷ [])) (b_of-abc GetTabUp t u n false tf uf) ∙ upvalue_test u h;
-      inner = λ pc here. refl;
-      half = refl;
-      gives = refl;
-      takes = refl;
-      varargs = λ pc h. h;
-    };
+    single = lone p GetTabUp (alone_get_tab_up p) (abc GetTabUp t u n false) (opcode_of-abc GetTabUp t u n false) (abc_fits GetTabUp t u n false tf uf nf)
+        (λ extra. ap (λ c. list_all (is_used p) ((name, c) ∷ [])) (c_of-abc GetTabUp t u n false tf uf nf)
+        ∙ constant_test name n i.entry (ap (slice_get p.own.constants) (sym e) ∙ i.there) (is_name text i.entry i.alike))
+        (ap (λ b. list_all (λ u. nat_lt u (length p.own.upvalues)) (b ∷ [])) (b_of-abc GetTabUp t u n false tf uf) ∙ upvalue_test u h);
     still = λ pc. refl;
   }
 
   get_name : (t x n : ℕ) (text : List ℕ) → t < 2 ^ 8 → x < 2 ^ 8 → n < 2 ^ 8 → n ≡ number_in p.own.constants (StrConst text) → IsIn p.own.constants (StrConst text) → Plain p closed closed (abc GetField t x n false)
   get_name t x n text tf xf nf e i = record {
-    single = record {
-      opcode = GetField;
-      is = opcode_of-abc GetField t x n false;
-      whole = refl;
-      fits = abc_fits GetField t x n false tf xf nf;
-      alone = refl;
-      constant = λ extra. ap (λ c. list_all (is_used p) ((name, c) ∷ [])) (c_of-abc GetField t x n false tf xf nf)
-          ∙ constant_test name n i.entry (ap (slice_get p.own.constants) e ∙ i.there) (is_name text i.entry i.alike);
-      upvalue = refl;
-      inner = λ pc here. refl;
-      half = refl;
-      gives = refl;
-      takes = refl;
-      varargs = λ pc h. h;
-    };
+    single = lone p GetField (alone_get_field p) (abc GetField t x n false) (opcode_of-abc GetField t x n false) (abc_fits GetField t x n false tf xf nf)
+        (λ extra. ap (λ c. list_all (is_used p) ((name, c) ∷ [])) (c_of-abc GetField t x n false tf xf nf)
+        ∙ constant_test name n i.entry (ap (slice_get p.own.constants) e ∙ i.there) (is_name text i.entry i.alike)) refl;
     still = λ pc. refl;
   }
 
   load_constant : (t n : ℕ) (entry : Const) → t < 2 ^ 8 → n < 2 ^ 17 → slice_get p.own.constants n ≡ Some entry → Plain p closed closed (abx LoadK t n)
   load_constant t n entry tf nf is = record {
-    single = record {
-      opcode = LoadK;
-      is = opcode_of-abx LoadK t n;
-      whole = refl;
-      fits = abx_fits LoadK t n tf nf;
-      alone = refl;
-      constant = λ extra. ap (λ c. list_all (is_used p) ((anything, c) ∷ [])) (bx_of-abx LoadK t n tf nf)
-          ∙ constant_test anything n entry is refl;
-      upvalue = refl;
-      inner = λ pc here. refl;
-      half = refl;
-      gives = refl;
-      takes = refl;
-      varargs = λ pc h. h;
-    };
+    single = lone p LoadK (alone_load_k p) (abx LoadK t n) (opcode_of-abx LoadK t n) (abx_fits LoadK t n tf nf)
+        (λ extra. ap (λ c. list_all (is_used p) ((anything, c) ∷ [])) (bx_of-abx LoadK t n tf nf)
+        ∙ constant_test anything n entry is refl) refl;
     still = λ pc. refl;
   }
 
@@ -183,34 +124,9 @@ module _ (p : Prototype) where
 
   load_far : (t n : ℕ) (entry : Const) → t < 2 ^ 8 → n < 2 ^ 25 → slice_get p.own.constants n ≡ Some entry → StillCouple p closed (abx LoadKx t 0) (op_ax ExtraArg n)
   load_far t n entry tf nf is = record {
-    couple = record {
-      opcode = LoadKx;
-      is = opcode_of-abx LoadKx t 0;
-      whole = refl;
-      fits = abx_fits LoadKx t 0 tf (lit< tt);
-      alone = refl;
-      constant = ap (λ x. list_all (is_used p) (Rattle.code_core.specs.Fields.constants LoadKx (abx LoadKx t 0) x)) (extra_is n nf)
-          ∙ constant_test anything n entry is refl;
-      upvalue = refl;
-      inner = refl;
-      still = λ pc. refl;
-      gives = refl;
-      takes = refl;
-      varargs = λ pc h. h;
-      second = ExtraArg;
-      half = refl;
-      agree = refl;
-      second_is = opcode_of-ax ExtraArg n;
-      second_whole = refl;
-      second_fits = ax_fits ExtraArg n nf;
-      second_constant = λ extra. refl;
-      second_upvalue = refl;
-      second_inner = refl;
-      second_half_none = refl;
-      second_gives = refl;
-      second_takes = refl;
-      second_varargs = λ pc h. h;
-    };
+    couple = joined p closed LoadKx ExtraArg (joined_load_kx p) (last_extra p) (abx LoadKx t 0) (op_ax ExtraArg n) (opcode_of-abx LoadKx t 0) (abx_fits LoadKx t 0 tf (lit< tt))
+        (ap (λ x. list_all (is_used p) (Rattle.code_core.specs.Fields.constants LoadKx (abx LoadKx t 0) x)) (extra_is n nf) ∙ constant_test anything n entry is refl)
+        refl refl (opcode_of-ax ExtraArg n) (ax_fits ExtraArg n nf) refl;
     still = λ pc. refl;
   }
 
@@ -229,122 +145,51 @@ module _ (p : Prototype) where
 
   set_index : (flag : Bool) (r n v : ℕ) → r < 2 ^ 8 → n < 2 ^ 8 → v < 2 ^ 8 → ValueThere flag v → Plain p closed closed (abc SetI r n v flag)
   set_index flag r n v rf nf vf value = record {
-    single = record {
-      opcode = SetI;
-      is = opcode_of-abc SetI r n v flag;
-      whole = refl;
-      fits = abc_fits SetI r n v flag rf nf vf;
-      alone = refl;
-      constant = λ extra. ap₂ (λ b c. list_all (is_used p) (if b then (anything, c) ∷ [] else [])) (k_of-abc SetI r n v flag rf) (c_of-abc SetI r n v flag rf nf vf) ∙ value_used flag v value;
-      upvalue = refl;
-      inner = λ pc here. refl;
-      half = refl;
-      gives = refl;
-      takes = refl;
-      varargs = λ pc h. h;
-    };
+    single = lone p SetI (alone_set_i p) (abc SetI r n v flag) (opcode_of-abc SetI r n v flag) (abc_fits SetI r n v flag rf nf vf)
+        (λ extra. ap₂ (λ b c. list_all (is_used p) (if b then (anything, c) ∷ [] else [])) (k_of-abc SetI r n v flag rf) (c_of-abc SetI r n v flag rf nf vf) ∙ value_used flag v value) refl;
     still = λ pc. refl;
   }
 
   set_name : (flag : Bool) (r n v : ℕ) (text : List ℕ) → r < 2 ^ 8 → n < 2 ^ 8 → v < 2 ^ 8 → ValueThere flag v → n ≡ number_in p.own.constants (StrConst text) → IsIn p.own.constants (StrConst text) → Plain p closed closed (abc SetField r n v flag)
   set_name flag r n v text rf nf vf value e i = record {
-    single = record {
-      opcode = SetField;
-      is = opcode_of-abc SetField r n v flag;
-      whole = refl;
-      fits = abc_fits SetField r n v flag rf nf vf;
-      alone = refl;
-      constant = λ extra. ap₂ (λ b k. list_all (is_used p) ((name, b) ∷ (if k then (anything, c_of (abc SetField r n v flag)) ∷ [] else []))) (b_of-abc SetField r n v flag rf nf) (k_of-abc SetField r n v flag rf)
-          ∙ ap (λ c. list_all (is_used p) ((name, n) ∷ (if flag then (anything, c) ∷ [] else []))) (c_of-abc SetField r n v flag rf nf vf)
-          ∙ both_used flag n v i.entry (ap (slice_get p.own.constants) e ∙ i.there) (is_name text i.entry i.alike) value;
-      upvalue = refl;
-      inner = λ pc here. refl;
-      half = refl;
-      gives = refl;
-      takes = refl;
-      varargs = λ pc h. h;
-    };
+    single = lone p SetField (alone_set_field p) (abc SetField r n v flag) (opcode_of-abc SetField r n v flag) (abc_fits SetField r n v flag rf nf vf)
+        (λ extra. ap₂ (λ b k. list_all (is_used p) ((name, b) ∷ (if k then (anything, c_of (abc SetField r n v flag)) ∷ [] else []))) (b_of-abc SetField r n v flag rf nf) (k_of-abc SetField r n v flag rf)
+        ∙ ap (λ c. list_all (is_used p) ((name, n) ∷ (if flag then (anything, c) ∷ [] else []))) (c_of-abc SetField r n v flag rf nf vf)
+        ∙ both_used flag n v i.entry (ap (slice_get p.own.constants) e ∙ i.there) (is_name text i.entry i.alike) value) refl;
     still = λ pc. refl;
   }
 
   set_global : (flag : Bool) (u n v : ℕ) (text : List ℕ) → u < 2 ^ 8 → n < 2 ^ 8 → v < 2 ^ 8 → ValueThere flag v → u < length p.own.upvalues → n ≡ number_in p.own.constants (StrConst text) → IsIn p.own.constants (StrConst text)
       → Plain p closed closed (abc SetTabUp u n v flag)
   set_global flag u n v text uf nf vf value h e i = record {
-    single = record {
-      opcode = SetTabUp;
-      is = opcode_of-abc SetTabUp u n v flag;
-      whole = refl;
-      fits = abc_fits SetTabUp u n v flag uf nf vf;
-      alone = refl;
-      constant = λ extra. ap₂ (λ b k. list_all (is_used p) ((name, b) ∷ (if k then (anything, c_of (abc SetTabUp u n v flag)) ∷ [] else []))) (b_of-abc SetTabUp u n v flag uf nf) (k_of-abc SetTabUp u n v flag uf)
-          ∙ ap (λ c. list_all (is_used p) ((name, n) ∷ (if flag then (anything, c) ∷ [] else []))) (c_of-abc SetTabUp u n v flag uf nf vf)
-          ∙ both_used flag n v i.entry (ap (slice_get p.own.constants) e ∙ i.there) (is_name text i.entry i.alike) value;
-      upvalue = ap (λ a. list_all (λ u. nat_lt u (length p.own.upvalues)) (a ∷ [])) (a_of-abc SetTabUp u n v flag uf) ∙ upvalue_test u h;
-      inner = λ pc here. refl;
-      half = refl;
-      gives = refl;
-      takes = refl;
-      varargs = λ pc h. h;
-    };
+    single = lone p SetTabUp (alone_set_tab_up p) (abc SetTabUp u n v flag) (opcode_of-abc SetTabUp u n v flag) (abc_fits SetTabUp u n v flag uf nf vf)
+        (λ extra. ap₂ (λ b k. list_all (is_used p) ((name, b) ∷ (if k then (anything, c_of (abc SetTabUp u n v flag)) ∷ [] else []))) (b_of-abc SetTabUp u n v flag uf nf) (k_of-abc SetTabUp u n v flag uf)
+        ∙ ap (λ c. list_all (is_used p) ((name, n) ∷ (if flag then (anything, c) ∷ [] else []))) (c_of-abc SetTabUp u n v flag uf nf vf)
+        ∙ both_used flag n v i.entry (ap (slice_get p.own.constants) e ∙ i.there) (is_name text i.entry i.alike) value)
+        (ap (λ a. list_all (λ u. nat_lt u (length p.own.upvalues)) (a ∷ [])) (a_of-abc SetTabUp u n v flag uf) ∙ upvalue_test u h);
     still = λ pc. refl;
   }
 
   set_table : (flag : Bool) (r k v : ℕ) → r < 2 ^ 8 → k < 2 ^ 8 → v < 2 ^ 8 → ValueThere flag v → Plain p closed closed (abc SetTable r k v flag)
   set_table flag r k v rf kf vf value = record {
-    single = record {
-      opcode = SetTable;
-      is = opcode_of-abc SetTable r k v flag;
-      whole = refl;
-      fits = abc_fits SetTable r k v flag rf kf vf;
-      alone = refl;
-      constant = λ extra. ap₂ (λ b c. list_all (is_used p) (if b then (anything, c) ∷ [] else [])) (k_of-abc SetTable r k v flag rf) (c_of-abc SetTable r k v flag rf kf vf) ∙ value_used flag v value;
-      upvalue = refl;
-      inner = λ pc here. refl;
-      half = refl;
-      gives = refl;
-      takes = refl;
-      varargs = λ pc h. h;
-    };
+    single = lone p SetTable (alone_set_table p) (abc SetTable r k v flag) (opcode_of-abc SetTable r k v flag) (abc_fits SetTable r k v flag rf kf vf)
+        (λ extra. ap₂ (λ b c. list_all (is_used p) (if b then (anything, c) ∷ [] else [])) (k_of-abc SetTable r k v flag rf) (c_of-abc SetTable r k v flag rf kf vf) ∙ value_used flag v value) refl;
     still = λ pc. refl;
   }
 
   self : (r o k : ℕ) → r < 2 ^ 8 → o < 2 ^ 8 → k < 2 ^ 8 → Plain p closed closed (abc OpSelf r o k false)
   self r o k rf of kf = record {
-    single = record {
-      opcode = OpSelf;
-      is = opcode_of-abc OpSelf r o k false;
-      whole = refl;
-      fits = abc_fits OpSelf r o k false rf of kf;
-      alone = refl;
-      constant = λ extra. ap (λ b. list_all (is_used p) (if b then (name, c_of (abc OpSelf r o k false)) ∷ [] else [])) (k_of-abc OpSelf r o k false rf);
-      upvalue = refl;
-      inner = λ pc here. refl;
-      half = refl;
-      gives = refl;
-      takes = refl;
-      varargs = λ pc h. h;
-    };
+    single = lone p OpSelf (alone_self p) (abc OpSelf r o k false) (opcode_of-abc OpSelf r o k false) (abc_fits OpSelf r o k false rf of kf)
+        (λ extra. ap (λ b. list_all (is_used p) (if b then (name, c_of (abc OpSelf r o k false)) ∷ [] else [])) (k_of-abc OpSelf r o k false rf)) refl;
     still = λ pc. refl;
   }
 
   self_key : (r o n : ℕ) (text : List ℕ) → r < 2 ^ 8 → o < 2 ^ 8 → n < 2 ^ 8 → number_in p.own.constants (StrConst text) ≡ n → IsIn p.own.constants (StrConst text) → Plain p closed closed (abc OpSelf r o n true)
   self_key r o n text rf of nf e i = record {
-    single = record {
-      opcode = OpSelf;
-      is = opcode_of-abc OpSelf r o n true;
-      whole = refl;
-      fits = abc_fits OpSelf r o n true rf of nf;
-      alone = refl;
-      constant = λ extra. ap (λ b. list_all (is_used p) (if b then (name, c_of (abc OpSelf r o n true)) ∷ [] else [])) (k_of-abc OpSelf r o n true rf)
-          ∙ ap (λ c. list_all (is_used p) ((name, c) ∷ [])) (c_of-abc OpSelf r o n true rf of nf)
-          ∙ constant_test name n i.entry (ap (slice_get p.own.constants) (sym e) ∙ i.there) (is_name text i.entry i.alike);
-      upvalue = refl;
-      inner = λ pc here. refl;
-      half = refl;
-      gives = refl;
-      takes = refl;
-      varargs = λ pc h. h;
-    };
+    single = lone p OpSelf (alone_self p) (abc OpSelf r o n true) (opcode_of-abc OpSelf r o n true) (abc_fits OpSelf r o n true rf of nf)
+        (λ extra. ap (λ b. list_all (is_used p) (if b then (name, c_of (abc OpSelf r o n true)) ∷ [] else [])) (k_of-abc OpSelf r o n true rf)
+        ∙ ap (λ c. list_all (is_used p) ((name, c) ∷ [])) (c_of-abc OpSelf r o n true rf of nf)
+        ∙ constant_test name n i.entry (ap (slice_get p.own.constants) (sym e) ∙ i.there) (is_name text i.entry i.alike)) refl;
     still = λ pc. refl;
   }
 

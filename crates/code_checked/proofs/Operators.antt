@@ -18,7 +18,7 @@ use Rattle.code_of.specs.Operators.{prefix_code, arithmetic_code, truth_code, op
 use Rattle.code_of.proofs.Operands.{numeral_is, numeral_none, shift_is}
 use Rattle.code_checked.proofs.Pieces.{closed, Land, Piece}
 use Rattle.code_checked.proofs.Units.{Single, one_jump, two, two_jump}
-use Rattle.code_checked.proofs.Words.{abc_fits, ax_fits, pair, simple, IsFirst, first_add, first_sub, first_mul, first_mod, first_i_div, first_b_and, first_b_or, first_b_xor, first_shl, first_shr, first_eq, first_lt, first_le, first_add_i, first_shr_i, first_eq_i, first_lt_i, first_le_i, first_gt_i, first_ge_i, last_event, last_number_event, last_jump, simple_unm, simple_b_not, simple_not, simple_len, simple_concat, simple_load_true}
+use Rattle.code_checked.proofs.Words.{abc_fits, ax_fits, pair, simple, IsFirst, first_add, first_sub, first_mul, first_mod, first_i_div, first_b_and, first_b_or, first_b_xor, first_shl, first_shr, first_eq, first_lt, first_le, first_add_i, first_shr_i, first_eq_i, first_lt_i, first_le_i, first_gt_i, first_ge_i, last_event, last_number_event, last_jump, simple_unm, simple_b_not, simple_not, simple_len, simple_concat, simple_load_true, lone, alone_false_skip}
 use Rattle.code_checked.proofs.Seams.{lands_over, ending, three}
 
 module _ (p : Prototype) where
@@ -60,20 +60,7 @@ module _ (p : Prototype) where
       (λ h. lands_over p (suc pc) n q nf (omega (arith, e)) (to h))
 
   abbrev skip : (t : ℕ) → t < 2 ^ 8 → Single p closed closed (abc LFalseSkip t 0 0 false)
-  skip t tf = record {
-    opcode = LFalseSkip;
-    is = opcode_of-abc LFalseSkip t 0 0 false;
-    whole = refl;
-    fits = abc_fits LFalseSkip t 0 0 false tf (lit< tt) (lit< tt);
-    alone = refl;
-    constant = λ extra. refl;
-    upvalue = refl;
-    inner = λ pc here. refl;
-    half = refl;
-    gives = refl;
-    takes = refl;
-    varargs = λ pc h. h;
-  }
+  skip t tf = lone p LFalseSkip (alone_false_skip p) (abc LFalseSkip t 0 0 false) (opcode_of-abc LFalseSkip t 0 0 false) (abc_fits LFalseSkip t 0 0 false tf (lit< tt) (lit< tt)) (λ extra. refl) refl
 
   pub skip_piece : {H : Type 0} {pc : ℕ} (t line : ℕ) → t < 2 ^ 8 → (H → Land p (pc + 2)) → Piece p H closed closed pc (with_abc LFalseSkip t 0 0 line ∷ [])
   skip_piece {H} {pc} t line tf to = one_jump p closed (abc LFalseSkip t 0 0 false) line (skip t tf) to

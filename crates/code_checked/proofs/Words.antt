@@ -1,19 +1,20 @@
 -- The words that code is made of, one by one.
-use Rattle.std.proofs.Common.{◌≡◌, ℕ, ◌<◌, ◌^◌, Bool, true, false, not, ◌&&◌, ◌==◌, List, [], ◌∷◌, Option, Some, None, refl, ap, ◌∙◌, arith, lt-ltb}
-use Rattle.std.specs.List.{list_any}
+use Rattle.std.proofs.Common.{◌≡◌, ℕ, ◌<◌, ◌^◌, Bool, true, false, not, ◌&&◌, ◌==◌, List, [], ◌∷◌, Option, Some, None, length, slice_get, refl, ap, ◌∙◌, arith, lt-ltb}
+use Rattle.std.specs.Prelude.{nat_lt}
+use Rattle.std.specs.List.{list_any, list_all}
 use Rattle.code_core.specs.declared.opcode.Opcode.{Opcode}
-use Rattle.code_core.specs.declared.opcode.Opcode.TheVariants.{Move, LoadI, LoadFalse, LoadTrue, LoadNil, GetTable, GetI, Unm, BNot, Not, Len, Concat, Close, Tbc, Add, Sub, Mul, Mod, IDiv, BAnd, BOr, BXor, Shl, Shr, AddI, ShrI, Eq, Lt, Le, EqI, LtI, LeI, GtI, GeI, Test, TestSet, NewTable, TForCall, TForLoop, MmBin, MmBinI, ExtraArg, Jmp}
+use Rattle.code_core.specs.declared.opcode.Opcode.TheVariants.{Move, LoadI, LoadFalse, LoadTrue, LoadNil, GetTable, GetI, Unm, BNot, Not, Len, Concat, Close, Tbc, Add, Sub, Mul, Mod, IDiv, BAnd, BOr, BXor, Shl, Shr, AddI, ShrI, Eq, Lt, Le, EqI, LtI, LeI, GtI, GeI, Test, TestSet, NewTable, TForCall, TForLoop, MmBin, MmBinI, ExtraArg, Jmp, GetUpval, SetUpval, GetTabUp, GetField, LoadK, SetI, SetField, SetTabUp, SetTable, OpSelf, ForPrep, ForLoop, TForPrep, LFalseSkip, LoadKx, SetList, EqK}
 use Rattle.code_core.specs.declared.instruction.Instruction.{Instruction}
 use Rattle.code_core.specs.Instruction.{abc, abx, op_ax, opcode_of}
 use Rattle.code_core.specs.Fields.{is_whole, constants, upvalues, target, second_half, stands_second, takes_list, opens}
 use Rattle.code_core.specs.Prototype.{Prototype}
 use Rattle.code_core.specs.Writable.{word_fits}
-use Rattle.code_core.specs.Check.{function_there, varargs_fit, agrees}
+use Rattle.code_core.specs.Check.{there, constant_is, function_there, varargs_fit, agrees}
 use Rattle.code_core.proofs.Opcodes.{number_below}
 use Rattle.code_core.proofs.FieldLemmas.{opcode_of-abc, opcode_of-abx}
 use Rattle.code_of.specs.Coded.{with_abc, with_abx}
-use Rattle.code_checked.proofs.Pieces.{closed, Piece}
-use Rattle.code_checked.proofs.Units.{Plain, Couple, one, extra_of}
+use Rattle.code_checked.proofs.Pieces.{Seam, closed, Piece}
+use Rattle.code_checked.proofs.Units.{Takes, Single, Plain, Couple, one, extra_of}
 use Rattle.code_of.proofs.Fields.{flag_below}
 
 -- fields that fit make a word that fits
@@ -41,6 +42,16 @@ module _ (p : Prototype) where
     pub still : (pc : ℕ) (w : Instruction) → target pc op w ≡ None
     pub varargs : (pc : ℕ) → varargs_fit p pc op ≡ not (pc == 0 && p.own.vararg)
 
+  -- one that stands alone, whatever it names: no half of a pair, without a list and without a function
+  pub record IsAlone (op : Opcode) : Type 0 where
+    pub whole : is_whole op ≡ true
+    pub alone : stands_second op ≡ false
+    pub inner : (w : Instruction) → function_there p op w ≡ true
+    pub half : (w : Instruction) → second_half op w ≡ None
+    pub gives : (w : Instruction) → opens op w ≡ None
+    pub takes : (w : Instruction) → takes_list op w ≡ false
+    pub varargs : (pc : ℕ) → varargs_fit p pc op ≡ not (pc == 0 && p.own.vararg)
+
   -- one that begins a pair
   pub record IsFirst (op second : Opcode) : Type 0 where
     pub whole : is_whole op ≡ true
@@ -51,6 +62,16 @@ module _ (p : Prototype) where
     pub half : (w : Instruction) → second_half op w ≡ Some second
     pub gives : (w : Instruction) → opens op w ≡ None
     pub takes : (w : Instruction) → takes_list op w ≡ false
+    pub still : (pc : ℕ) (w : Instruction) → target pc op w ≡ None
+    pub varargs : (pc : ℕ) → varargs_fit p pc op ≡ not (pc == 0 && p.own.vararg)
+
+  -- the first half of a pair, whatever constants it names and whatever list it takes
+  pub record IsJoined (op : Opcode) : Type 0 where
+    pub whole : is_whole op ≡ true
+    pub alone : stands_second op ≡ false
+    pub upvalue : (w : Instruction) → upvalues op w ≡ []
+    pub inner : (w : Instruction) → function_there p op w ≡ true
+    pub gives : (w : Instruction) → opens op w ≡ None
     pub still : (pc : ℕ) (w : Instruction) → target pc op w ≡ None
     pub varargs : (pc : ℕ) → varargs_fit p pc op ≡ not (pc == 0 && p.own.vararg)
 
@@ -106,6 +127,51 @@ module _ (p : Prototype) where
 
   pub simple_tbc : IsSimple Tbc
   simple_tbc = record { whole = refl; alone = refl; constant = λ w extra. refl; upvalue = λ w. refl; inner = λ w. refl; half = λ w. refl; gives = λ w. refl; takes = λ w. refl; still = λ pc w. refl; varargs = λ pc. refl }
+
+  pub alone_get_upvalue : IsAlone GetUpval
+  alone_get_upvalue = record { whole = refl; alone = refl; inner = λ w. refl; half = λ w. refl; gives = λ w. refl; takes = λ w. refl; varargs = λ pc. refl }
+
+  pub alone_set_upvalue : IsAlone SetUpval
+  alone_set_upvalue = record { whole = refl; alone = refl; inner = λ w. refl; half = λ w. refl; gives = λ w. refl; takes = λ w. refl; varargs = λ pc. refl }
+
+  pub alone_get_tab_up : IsAlone GetTabUp
+  alone_get_tab_up = record { whole = refl; alone = refl; inner = λ w. refl; half = λ w. refl; gives = λ w. refl; takes = λ w. refl; varargs = λ pc. refl }
+
+  pub alone_get_field : IsAlone GetField
+  alone_get_field = record { whole = refl; alone = refl; inner = λ w. refl; half = λ w. refl; gives = λ w. refl; takes = λ w. refl; varargs = λ pc. refl }
+
+  pub alone_load_k : IsAlone LoadK
+  alone_load_k = record { whole = refl; alone = refl; inner = λ w. refl; half = λ w. refl; gives = λ w. refl; takes = λ w. refl; varargs = λ pc. refl }
+
+  pub alone_set_i : IsAlone SetI
+  alone_set_i = record { whole = refl; alone = refl; inner = λ w. refl; half = λ w. refl; gives = λ w. refl; takes = λ w. refl; varargs = λ pc. refl }
+
+  pub alone_set_field : IsAlone SetField
+  alone_set_field = record { whole = refl; alone = refl; inner = λ w. refl; half = λ w. refl; gives = λ w. refl; takes = λ w. refl; varargs = λ pc. refl }
+
+  pub alone_set_tab_up : IsAlone SetTabUp
+  alone_set_tab_up = record { whole = refl; alone = refl; inner = λ w. refl; half = λ w. refl; gives = λ w. refl; takes = λ w. refl; varargs = λ pc. refl }
+
+  pub alone_set_table : IsAlone SetTable
+  alone_set_table = record { whole = refl; alone = refl; inner = λ w. refl; half = λ w. refl; gives = λ w. refl; takes = λ w. refl; varargs = λ pc. refl }
+
+  pub alone_self : IsAlone OpSelf
+  alone_self = record { whole = refl; alone = refl; inner = λ w. refl; half = λ w. refl; gives = λ w. refl; takes = λ w. refl; varargs = λ pc. refl }
+
+  pub alone_for_prep : IsAlone ForPrep
+  alone_for_prep = record { whole = refl; alone = refl; inner = λ w. refl; half = λ w. refl; gives = λ w. refl; takes = λ w. refl; varargs = λ pc. refl }
+
+  pub alone_for_loop : IsAlone ForLoop
+  alone_for_loop = record { whole = refl; alone = refl; inner = λ w. refl; half = λ w. refl; gives = λ w. refl; takes = λ w. refl; varargs = λ pc. refl }
+
+  pub alone_t_for_prep : IsAlone TForPrep
+  alone_t_for_prep = record { whole = refl; alone = refl; inner = λ w. refl; half = λ w. refl; gives = λ w. refl; takes = λ w. refl; varargs = λ pc. refl }
+
+  pub alone_jump : IsAlone Jmp
+  alone_jump = record { whole = refl; alone = refl; inner = λ w. refl; half = λ w. refl; gives = λ w. refl; takes = λ w. refl; varargs = λ pc. refl }
+
+  pub alone_false_skip : IsAlone LFalseSkip
+  alone_false_skip = record { whole = refl; alone = refl; inner = λ w. refl; half = λ w. refl; gives = λ w. refl; takes = λ w. refl; varargs = λ pc. refl }
 
   pub first_add : IsFirst Add MmBin
   first_add = record { whole = refl; alone = refl; constant = λ w extra. refl; upvalue = λ w. refl; inner = λ w. refl; half = λ w. refl; gives = λ w. refl; takes = λ w. refl; still = λ pc w. refl; varargs = λ pc. refl }
@@ -179,6 +245,15 @@ module _ (p : Prototype) where
   pub first_iterate : IsFirst TForCall TForLoop
   first_iterate = record { whole = refl; alone = refl; constant = λ w extra. refl; upvalue = λ w. refl; inner = λ w. refl; half = λ w. refl; gives = λ w. refl; takes = λ w. refl; still = λ pc w. refl; varargs = λ pc. refl }
 
+  pub joined_load_kx : IsJoined LoadKx
+  joined_load_kx = record { whole = refl; alone = refl; upvalue = λ w. refl; inner = λ w. refl; gives = λ w. refl; still = λ pc w. refl; varargs = λ pc. refl }
+
+  pub joined_set_list : IsJoined SetList
+  joined_set_list = record { whole = refl; alone = refl; upvalue = λ w. refl; inner = λ w. refl; gives = λ w. refl; still = λ pc w. refl; varargs = λ pc. refl }
+
+  pub joined_eq_k : IsJoined EqK
+  joined_eq_k = record { whole = refl; alone = refl; upvalue = λ w. refl; inner = λ w. refl; gives = λ w. refl; still = λ pc w. refl; varargs = λ pc. refl }
+
   pub last_event : IsLast MmBin
   last_event = record { whole = refl; constant = λ w extra. refl; upvalue = λ w. refl; inner = λ w. refl; half = λ w. refl; gives = λ w. refl; takes = λ w. refl; varargs = λ pc. refl }
 
@@ -197,22 +272,28 @@ module _ (p : Prototype) where
   pub list_none : {A : Type 0} (test : A → Bool) (xs : List A) → xs ≡ [] → Rattle.std.specs.List.list_all test xs ≡ true
   list_none test xs e = ap (Rattle.std.specs.List.list_all test) e
 
+  -- an instruction of an opcode that stands alone, given that what it names is there
+  abbrev pub lone : (op : Opcode) → IsAlone op → (w : Instruction) → opcode_of w ≡ Some op → word_fits w ≡ true
+      → ((extra : Option ℕ) → list_all (λ used. there (constant_is used.0) (slice_get p.own.constants used.1)) (constants op w extra) ≡ true)
+      → list_all (λ u. nat_lt u (length p.own.upvalues)) (upvalues op w) ≡ true → Single p closed closed w
+  lone op s w is fits constant upvalue = record {
+    opcode = op;
+    is = is;
+    whole = s.whole;
+    fits = fits;
+    alone = s.alone;
+    constant = constant;
+    upvalue = upvalue;
+    inner = λ pc here. s.inner w;
+    half = s.half w;
+    gives = s.gives w;
+    takes = s.takes w;
+    varargs = λ pc h. s.varargs pc ∙ h;
+  }
+
   pub plain : (op : Opcode) → IsSimple op → (w : Instruction) → opcode_of w ≡ Some op → word_fits w ≡ true → Plain p closed closed w
   plain op s w is fits = record {
-    single = record {
-      opcode = op;
-      is = is;
-      whole = s.whole;
-      fits = fits;
-      alone = s.alone;
-      constant = λ extra. list_none _ _ (s.constant w extra);
-      upvalue = list_none _ _ (s.upvalue w);
-      inner = λ pc there. s.inner w;
-      half = s.half w;
-      gives = s.gives w;
-      takes = s.takes w;
-      varargs = λ pc h. s.varargs pc ∙ h;
-    };
+    single = lone op (record { whole = s.whole; alone = s.alone; inner = s.inner; half = s.half; gives = s.gives; takes = s.takes; varargs = s.varargs }) w is fits (λ extra. list_none _ _ (s.constant w extra)) (list_none _ _ (s.upvalue w));
     still = λ pc. s.still pc w;
   }
 
@@ -238,6 +319,38 @@ module _ (p : Prototype) where
     varargs = λ pc h. s.varargs pc ∙ h;
     second = second;
     half = s.half w;
+    agree = agree;
+    second_is = second_is;
+    second_whole = l.whole;
+    second_fits = second_fits;
+    second_constant = λ extra. list_none _ _ (l.constant v extra);
+    second_upvalue = list_none _ _ (l.upvalue v);
+    second_inner = l.inner v;
+    second_half_none = l.half v;
+    second_gives = l.gives v;
+    second_takes = l.takes v;
+    second_varargs = λ pc h. l.varargs pc ∙ h;
+  }
+
+  -- a pair whose first half names constants that are there, or takes a list
+  abbrev pub joined : (f : Seam) (op second : Opcode) → IsJoined op → IsLast second → (w v : Instruction) → opcode_of w ≡ Some op → word_fits w ≡ true
+      → list_all (λ used. there (constant_is used.0) (slice_get p.own.constants used.1)) (constants op w (extra_of p v)) ≡ true → Takes p f op w → second_half op w ≡ Some second
+      → opcode_of v ≡ Some second → word_fits v ≡ true → agrees w v second ≡ true → Couple p f w v
+  joined f op second s l w v is fits constant takes half second_is second_fits agree = record {
+    opcode = op;
+    is = is;
+    whole = s.whole;
+    fits = fits;
+    alone = s.alone;
+    constant = constant;
+    upvalue = list_none _ _ (s.upvalue w);
+    inner = s.inner w;
+    still = λ pc. s.still pc w;
+    gives = s.gives w;
+    takes = takes;
+    varargs = λ pc h. s.varargs pc ∙ h;
+    second = second;
+    half = half;
     agree = agree;
     second_is = second_is;
     second_whole = l.whole;
