@@ -25,16 +25,12 @@ use Rattle.program.specs.Running as running
 use Rattle.program.specs.Running.{HoldsCode}
 use Rattle.program.specs.Sessions.{functions_of, status_of_close, Ends}
 use Rattle.program.proofs.DeviceLemmas.{same_content}
-use Rattle.program.proofs.Meant.{not_run_ends}
+use Rattle.program.proofs.Meant.{not_run_ends, ended_so as status_so}
 use Rattle.calls_mean.specs.Calls.{Resumed, last_call, saving_call, Calls, only_call, first_call}
-use Rattle.calls_mean.proofs.Ended.{Closed, closed_so, status_so, saved_so}
+use Rattle.calls_mean.proofs.Ended.{Closed, closed_so, saved_so}
+use Rattle.program.proofs.ResumeLemmas.{not_resumed_ends}
 
 -- one call
-
--- a session that does not go on has another status
-pub not_resumed_ends : (name : List ℕ) (files : Device FileMap) (status : ℕ) → IsNotResumed name files status → has_ended status ≡ true → ⊥
-not_resumed_ends name files _ (resuming.absent lacks) ended = cc
-not_resumed_ends name files _ _ ended = cc
 
 record WentOn (builds : Builds Body) (prelude : Prototype) (budget : ℕ) (save : Option (List ℕ)) (files : Device FileMap) (image text printed : List ℕ) (status : ℕ) : Type 0 where
   session : World

@@ -16,7 +16,7 @@ use Rattle.program.specs.Devices.{Device, Holds}
 use Rattle.program.specs.Meaning.{has_ended}
 use Rattle.program.specs.Sessions as session
 use Rattle.program.specs.Sessions.{functions_of, status_of_close, IsKept, IsLeft, Ends}
-use Rattle.program.proofs.Endings.{told_lines}
+use Rattle.program.proofs.Endings.{told_lines, not_ended}
 
 -- the run of a call that came to an end
 pub record Closed (prelude : Prototype) (Runs : List (List ℕ) → Run → Type 0) (save : Option (List ℕ)) (files : Device FileMap) (text printed : List ℕ) (status : ℕ) : Type 0 where
@@ -24,9 +24,6 @@ pub record Closed (prelude : Prototype) (Runs : List (List ℕ) → Run → Type
   pub runs : Runs (lines_of text) run
   pub prints : run.printed ≡ printed
   pub left : IsLeft prelude run save files status
-
-not_ended : (status other : ℕ) → status ≡ other → has_ended other ≡ false → has_ended status ≡ true → ⊥
-not_ended status other is goes ended = let same : has_ended status ≡ has_ended other = ap has_ended is in cc
 
 -- the output had these bytes, and so much is written behind them
 grown : (before printed more : List ℕ) (had has : Option (List ℕ)) → had ≡ Some before → has ≡ Some (before ++ printed) → has ≡ option_map (λ text. text ++ more) had → more ≡ printed
@@ -47,11 +44,6 @@ closed_so prelude Runs save files input out last status text before printed (ses
 closed_so prelude Runs save files input out last status text before printed (session.failed rose is) ended told had has = absurd (not_ended status 6 is refl ended)
 closed_so prelude Runs save files input out last status text before printed (session.past_limits past is) ended told had has = absurd (not_ended status 7 is refl ended)
 closed_so prelude Runs save files input out last status text before printed (session.no_memory is) ended told had has = absurd (not_ended status 9 is refl ended)
-
--- the status of such a run is that of its close
-pub status_so : (prelude : Prototype) (run : Run) (save : Option (List ℕ)) (files : Device FileMap) (status : ℕ) → IsLeft prelude run save files status → has_ended status ≡ true → status ≡ status_of_close run.close
-status_so prelude run save files _ (session.kept kept) ended = refl
-status_so prelude run save files _ _ ended = absurd (cc)
 
 -- where it is 3 and a file is named, that file holds the bytes of the session
 

@@ -33,9 +33,10 @@ use Rattle.program.specs.Compiling.{source_name}
 use Rattle.program.specs.Meaning.{MeansOn, EndsWith}
 use Rattle.machine_runs.specs.Laws.{AreShort}
 use Rattle.program.specs.Sessions.{functions_of}
-use Rattle.program.proofs.MeaningLemmas.{read_of, by_script, name_is_short, ends_with}
+use Rattle.program.proofs.MeaningLemmas.{read_of, name_is_short, ends_with, tree_of}
 use Rattle.calls_mean.specs.Law.{all_lines, AreCalls, IsAsMeant, CallsMean, CallsMeanOne}
 use Rattle.calls_mean.proofs.Chained.{Chain, chain_of}
+use Rattle.program.proofs.CodeLemmas.{of_script}
 
 -- the lines of all inputs
 
@@ -66,15 +67,12 @@ entries_length (n ∷ names) (f ∷ fs) h = ap suc (entries_length names fs (ome
 pub all_there : (prelude : Prototype) → IsPreludeCode prelude → length (functions_of prelude) ≡ length function_keys
 all_there prelude own = entries_length prelude_functions (list_of prelude.inner) own.functions ∙ sym (length-map prelude_functions (λ (f : List ℕ × Library). library_name f.1 ++ f.0))
 
-tree_of : (source : List ℕ) (tree : Block) → IsRead source tree → HasTree source tree
-tree_of source tree r = record { limited = r.limited; tokens = r.tokens; lexed = r.lexed; derived = r.derived }
-
 module _
     (knows : SessionReaderKnows) (alike : PreludeIsAlike) (name content : List ℕ) (budget : ℕ) (texts : List (List ℕ)) (printed : List ℕ) (status : ℕ) (c : AreCalls name content budget texts printed status)
     (builds : Builds Body) (are : BuildsSources builds) (chain : Chain builds name content budget texts printed status)
   where
     made : IsCodeOf (source_name name) (script_in content) true chain.code
-    made = by_script (IsAccepted content chain.code) (IsCodeOf (source_name name) (script_in content) true chain.code) (begins_chunk content) c.is_script chain.holds
+    made = of_script (IsAccepted content chain.code) (IsCodeOf (source_name name) (script_in content) true chain.code) (begins_chunk content) c.is_script chain.holds
 
     sessions_of : (tree prelude : Block) → IsRead (script_in content) tree → IsRead prelude_text prelude → chain.code ≡ code_of (Some (source_name name)) (placed tree) → chain.prelude ≡ code_of None (placed prelude)
         → AreSessions builds (script_in content) tree (prelude_of (functions_in (placed prelude))) (functions_of chain.prelude) (Some (source_name name)) budget (map lines_of texts) printed chain.close

@@ -40,9 +40,9 @@ use Rattle.program.proofs.Endings.{told_lines}
 use Rattle.program.proofs.Meant.{not_run_ends}
 use Rattle.program.proofs.MeaningLemmas.{read_of, name_is_short}
 use Rattle.calls_mean.specs.Resumes.{IsSavedByCall, by_run, by_resume, SavedIsNotRefused, ResumesCalmly, IsResumed, SavedGoesOn}
-use Rattle.calls_mean.proofs.Chained.{not_resumed_ends}
 use Rattle.calls_mean.proofs.Ended.{saved_so}
 use Rattle.calls_mean.proofs.Meant.{all_there}
+use Rattle.program.proofs.ResumeLemmas.{not_resumed_ends}
 
 -- a session of the bytes, in a world of the libraries
 record IsTaken (session : List ℕ) : Type 0 where

@@ -36,9 +36,9 @@ use Rattle.program.proofs.Meant.{not_run_ends}
 use Rattle.calls_mean.specs.Calls.{SavedCalls, first_saves, next_saves}
 use Rattle.calls_mean.specs.Law.{all_lines}
 use Rattle.calls_mean.specs.Resumes.{SavedIsUnchanged}
-use Rattle.calls_mean.proofs.Chained.{not_resumed_ends}
 use Rattle.calls_mean.proofs.Resumed.{front_short, last_short}
 use Rattle.calls_mean.proofs.Taken.{library_of, code_checked, waited}
+use Rattle.program.proofs.ResumeLemmas.{not_resumed_ends}
 
 -- the bytes are what a session was saved as that keeps the prelude
 record Kept (bytes : List ℕ) : Type 0 where

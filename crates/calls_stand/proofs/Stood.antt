@@ -34,9 +34,11 @@ use Rattle.program.specs.Sessions.{functions_of, Ends}
 use Rattle.program.proofs.DeviceLemmas.{same_content}
 use Rattle.program.proofs.Endings.{told_lines}
 use Rattle.program.proofs.Meant.{not_run_ends}
-use Rattle.program.proofs.MeaningLemmas.{read_of, by_script, name_is_short}
+use Rattle.program.proofs.MeaningLemmas.{read_of, name_is_short, tree_of}
 use Rattle.calls_mean.proofs.Ended.{saved_so}
 use Rattle.calls_stand.specs.Law.{IsSavingCall, StandFor, SavedCallsStand}
+use Rattle.program.proofs.CodeLemmas.{of_script}
+use Rattle.calls_mean.proofs.Meant.{all_there}
 
 -- the prelude has a function for each key
 
@@ -44,12 +46,6 @@ entries_length : {F : Type 0} (names : List (List ℕ × Library)) (fs : List F)
 entries_length [] fs h = refl
 entries_length (n ∷ names) [] h = absurd (omega (arith, h))
 entries_length (n ∷ names) (f ∷ fs) h = ap suc (entries_length names fs (omega (arith, h)))
-
-all_there : (prelude : Prototype) → IsPreludeCode prelude → length (functions_of prelude) ≡ length function_keys
-all_there prelude own = entries_length prelude_functions (list_of prelude.inner) own.functions ∙ sym (length-map prelude_functions (λ (f : List ℕ × Library). library_name f.1 ++ f.0))
-
-tree_of : (source : List ℕ) (tree : Block) → IsRead source tree → HasTree source tree
-tree_of source tree r = record { limited = r.limited; tokens = r.tokens; lexed = r.lexed; derived = r.derived }
 
 module _ (builds : Builds Body) (name content text image bytes : List ℕ) (budget : ℕ) (s : IsSavingCall builds name content text image bytes budget) where
   -- the run of the call
@@ -91,7 +87,7 @@ module _ (builds : Builds Body) (name content text image bytes : List ℕ) (budg
     ran = saved_run s.is_run.cause
 
     made : IsCodeOf (source_name name) (script_in content) true ran.code
-    made = by_script (IsAccepted content ran.code) (IsCodeOf (source_name name) (script_in content) true ran.code) (begins_chunk content) s.is_script ran.holds
+    made = of_script (IsAccepted content ran.code) (IsCodeOf (source_name name) (script_in content) true ran.code) (begins_chunk content) s.is_script ran.holds
 
     code_is : ran.code ≡ code_of (Some (source_name name)) (placed means.tree)
     code_is = made.code_is ∙ ap (λ t. code_of (Some (source_name name)) (placed t)) (means.is_source.only made.tree made.is_source.has_tree)

@@ -52,7 +52,7 @@ either_fits : (b : Bool) (n : ℕ) → n < 2 ^ 8 → cond b n 2 < 2 ^ 8
 either_fits true n fits = fits
 either_fits false n fits = lit< tt
 
-one_or_none : (b : Bool) → cond b 0 1 ≤ 1
+pub one_or_none : (b : Bool) → cond b 0 1 ≤ 1
 one_or_none true = omega arith
 one_or_none false = omega arith
 

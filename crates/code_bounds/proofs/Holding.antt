@@ -22,6 +22,7 @@ use Rattle.code_of.proofs.Rooms.{self_room}
 use Rattle.code_of.proofs.Items.{still_few}
 use Rattle.code_of.specs.Items.{waits, is_full, stored_behind, waiting_behind, item_room}
 use Rattle.code_of.specs.Rooms.{room_of_values, room_of_nils, room_of_name, room_of, room_tested, room_kept, room_of_list, room_of_fields}
+use Rattle.code_bounds.proofs.Expressions.{one_or_none}
 
 -- both counts of a list are one
 pub same_count : (es : Exps) → held_specs.count es ≡ count es
@@ -80,10 +81,6 @@ either_two false = omega arith
 either_one : (b : Bool) → cond b 1 1 ≤ 1
 either_one true = omega arith
 either_one false = omega arith
-
-one_at_most : (b : Bool) → cond b 0 1 ≤ 1
-one_at_most true = omega arith
-one_at_most false = omega arith
 
 either_less : (b : Bool) (x y n : ℕ) → x ≤ n → y ≤ n → cond b x y ≤ n
 either_less true x y n h k = h
@@ -219,7 +216,7 @@ module _ (cs : List Const) where
     tested_held (Binary line op e d) value h =
         let a = item_by e false (exp_held e) in
         let b = item_by d false (exp_held d) in
-        let f = few_operation (cond (is_compared op) 0 1) (constant_in cs op d) op e d (room_of cs e 2) (room_of cs d 2) (one_at_most (is_compared op)) in
+        let f = few_operation (cond (is_compared op) 0 1) (constant_in cs op d) op e d (room_of cs e 2) (room_of cs d 2) (one_or_none (is_compared op)) in
         omega (arith, a, b, f)
     tested_held (True line) value h = omega arith
     tested_held (Var line name) value h = own_less (local_at name.place) value (held_name name.place) h
@@ -264,7 +261,7 @@ module _ (cs : List Const) where
         let a = item_by e false (exp_held e) in
         let b = item_by d false (exp_held d) in
         let own : ℕ = cond (is_compared op) 0 1 in
-        let f = few_operation own (constant_in cs op d) op e d (room_of cs e 2) (room_of cs d 2) (one_at_most (is_compared op)) in
+        let f = few_operation own (constant_in cs op d) op e d (room_of cs e 2) (room_of cs d 2) (one_or_none (is_compared op)) in
         either_less (is_compared op) (max (operation_room own (constant_in cs op d) op e d (room_of cs e 2) (room_of cs d 2)) 1) value (max (held e) (1 + held d)) (omega (arith, some, a, b, f)) h
     kept_held (Table line fs) value k h = h
 

@@ -100,7 +100,7 @@ module _ {stack : ℕ} where
 
 -- the locals of a block have registers
 
-stats_fit : (cs : List Const) (stack : ℕ) (ss : Stats) (t : ℕ) → StatsHaveRoom cs stack ss t → levels_after ss t ≤ stack
+pub stats_fit : (cs : List Const) (stack : ℕ) (ss : Stats) (t : ℕ) → StatsHaveRoom cs stack ss t → levels_after ss t ≤ stack
 stats_fit cs stack EndStats t h = h
 stats_fit cs stack (MoreStats s ss) t h = stats_fit cs stack ss (level_after s t) h.1.1
 

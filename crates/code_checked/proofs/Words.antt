@@ -11,11 +11,10 @@ use Rattle.code_core.specs.Prototype.{Prototype}
 use Rattle.code_core.specs.Writable.{word_fits}
 use Rattle.code_core.specs.Check.{there, constant_is, function_there, varargs_fit, agrees}
 use Rattle.code_core.proofs.Opcodes.{number_below}
-use Rattle.code_core.proofs.FieldLemmas.{opcode_of-abc, opcode_of-abx}
+use Rattle.code_core.proofs.FieldLemmas.{opcode_of-abc, opcode_of-abx, flag_below}
 use Rattle.code_of.specs.Coded.{with_abc, with_abx}
 use Rattle.code_checked.proofs.Pieces.{Seam, closed, Piece}
 use Rattle.code_checked.proofs.Units.{Takes, Single, Plain, Couple, one, extra_of}
-use Rattle.code_of.proofs.Fields.{flag_below}
 
 -- fields that fit make a word that fits
 

@@ -4,7 +4,7 @@ use Rattle.code_core.specs.declared.opcode.Opcode.{Opcode}
 use Rattle.code_core.specs.Instruction.{abc, abx, op_ax, opcode_of, a_of, b_of, c_of, bx_of, ax_of}
 use Rattle.code_core.proofs.Opcodes.{number_below, opcode_of-made}
 
-flag_below : (k : Bool) → cond k 1 0 < 2
+pub flag_below : (k : Bool) → cond k 1 0 < 2
 flag_below true = lit< tt
 flag_below false = lit< tt
 

@@ -6,7 +6,7 @@ use Rattle.tree_core.specs.Tree as tree
 use Rattle.tree_core.specs.Plain.{plain_exp, plain_exps}
 use Rattle.code_of.specs.Expressions.{count, is_open, ends_open, list_field}
 
-counted : (es : List Exp) → count (tree.exps (plain_exps es)) ≡ length es
+pub counted : (es : List Exp) → count (tree.exps (plain_exps es)) ≡ length es
 counted [] = refl
 counted (e ∷ es) = ap suc (counted es)
 

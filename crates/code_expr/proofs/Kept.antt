@@ -129,7 +129,7 @@ made_keeps s r q e k t line places is line_is r_is o =
 second_keeps : (s r q : Listing) (k : Bool) (t : ℕ) (e d : Exp) (first : ℕ → List Coded) (ps qs : List ℕ) → Opened s r first (made_by e) ps → Keeps r q d k t qs → Opened r q (λ ahead. keep_code s.constants d k ahead t (s.made + made_by e)) (made_by d) qs
 second_keeps s r q k t e d first ps qs o u = opened_from r q (λ c j ahead. keep_code c d k ahead t j) (made_by d) qs s.constants (s.made + made_by e) o.constants_is o.made_is u
 
-no_further : (n : ℕ) → n + 0 ≡ n
+pub no_further : (n : ℕ) → n + 0 ≡ n
 no_further n = omega arith
 
 -- a value of either operand is kept

@@ -6,6 +6,7 @@ use Rattle.code_of.specs.Constants.{same_constant}
 use Rattle.std.proofs.lemmas.Slice.Eq.{bytes_eq-Decides}
 use Rattle.std.proofs.lemmas.Bool.{eq-eqb, eqb-true}
 use Rattle.int_core.specs.Value.{same_integer}
+use Rattle.int_core.proofs.Equality.{integer_is}
 
 pub same_integer_self : (m : ℤ) → same_integer m m ≡ true
 same_integer_self (pos m) = eq-eqb m m refl
@@ -26,14 +27,8 @@ same_self TrueConst = refl
 
 -- the test of constants is equality
 
-same_integer_is : (m n : ℤ) → same_integer m n ≡ true → m ≡ n
-same_integer_is (pos m) (pos n) h = ap pos (eqb-true m n h)
-same_integer_is (negsuc m) (negsuc n) h = ap negsuc (eqb-true m n h)
-same_integer_is (pos m) (negsuc n) h = absurd (cc)
-same_integer_is (negsuc m) (pos n) h = absurd (cc)
-
 pub same_is : (c x : Const) → same_constant c x ≡ true → c ≡ x
-same_is (IntConst m) (IntConst n) h = ap IntConst (same_integer_is m n h)
+same_is (IntConst m) (IntConst n) h = ap IntConst (integer_is m n h)
 same_is (StrConst s) (StrConst t) h = ap StrConst ((bytes_eq-Decides s t).0 h)
 same_is NilConst NilConst h = refl
 same_is FalseConst FalseConst h = refl

@@ -4,10 +4,7 @@ use Rattle.code_core.specs.declared.opcode.Opcode.{Opcode}
 use Rattle.code_core.specs.Instruction.{abc, bits_from, k_of}
 use Rattle.code_core.proofs.Opcodes.{number_below}
 use Rattle.code_of.specs.Constants.{is_small, small_field}
-
-pub flag_below : (k : Bool) → cond k 1 0 < 2
-flag_below true = lit< tt
-flag_below false = lit< tt
+use Rattle.code_core.proofs.FieldLemmas.{flag_below}
 
 pub flag_bit : (op : Opcode) (a b c : ℕ) (k : Bool) → a < 2 ^ 8 → bits_from 15 1 (abc op a b c k) ≡ cond k 1 0
 flag_bit op a b c k fits = let below = number_below op in let flag = flag_below k in omega arith

@@ -17,10 +17,11 @@ use Rattle.code_stat.specs.declared.jumps.Jump.{Jump}
 use Rattle.code_stat.specs.declared.writer.Writer.{Writer}
 use Rattle.code_stat.specs.Drafts.{arrives, leads_to, first_of, among, landing_if, beyond, within, fill, Wrote, Underway, WroteStat}
 use Rattle.code_stat.specs.Forms.{ahead_with, level_at}
-use Rattle.code_stat.proofs.Going.{nothing}
 use Rattle.code_of.proofs.Sizes.{stat_sized}
 use Rattle.code_stat.proofs.Leading.{fill_both, fill_alike}
 use Rattle.code_stat.proofs.Drafting.{seam, front_sized, written_sized, draft_sized, led_anew, behind_seam}
+use Rattle.code_expr.proofs.TargetSeats.{nothing_listed}
+use Rattle.code_expr.proofs.Kept.{no_further}
 
 -- at a block's end no label is to come
 
@@ -42,7 +43,7 @@ begins a ahead made all = record {
   jumps = [];
   done = 0;
   done_is = omega arith;
-  emitter_is = nothing a.emitter ∙ sym (none_made a.emitter []);
+  emitter_is = nothing_listed a.emitter ∙ sym (none_made a.emitter []);
   jumps_are = sym (append-nil a.jumps.items);
   back_is = refl;
   fills = λ reach front more h. refl;
@@ -57,9 +58,6 @@ finished a b made all u = record {
   back_is = u.back_is;
   fills = λ reach front more h. sym (fill_alike (leads_to [] reach) (arrives reach) u.jumps (front ++ (steps u.draft ++ more)) (ends_alike reach)) ∙ u.fills reach front more h;
 }
-
-none_more : (n : ℕ) → n + 0 ≡ n
-none_more n = omega arith
 
 -- a label is seen by what stands in front of it, and a statement that is a label has no code
 
@@ -81,7 +79,7 @@ module _ (k : List Const) (back : Leaving) where
   ahead_step (NumFor line name from limit block) ss falls closing outer t j pc = refl
   ahead_step (NumForStep line name from limit pace block) ss falls closing outer t j pc = refl
   ahead_step (GenFor line names es block) ss falls closing outer t j pc = refl
-  ahead_step (Label line name) ss falls closing outer t j pc = ap₂ (λ m n. visible name.text pc (level_at ss falls outer t) ∷ labels_ahead k back ss falls closing outer t m n) (sym (none_more j)) (sym (none_more pc))
+  ahead_step (Label line name) ss falls closing outer t j pc = ap₂ (λ m n. visible name.text pc (level_at ss falls outer t) ∷ labels_ahead k back ss falls closing outer t m n) (sym (no_further j)) (sym (no_further pc))
   ahead_step (Goto line name) ss falls closing outer t j pc = refl
   ahead_step (Break line) ss falls closing outer t j pc = refl
 

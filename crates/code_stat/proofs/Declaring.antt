@@ -38,6 +38,7 @@ use Rattle.code_stat.proofs.Drafting.{draft_sized, stands_at, written_sized}
 use Rattle.code_stat.proofs.Blocks.{moved, nowhere}
 use Rattle.code_stat.proofs.Choosing.{open_jump, first_past, places}
 use Rattle.code_stat.proofs.Undeclared.{stat_without}
+use Rattle.code_stat.proofs.Looping.{farther}
 
 -- how long the code of a piece is
 
@@ -243,9 +244,6 @@ iterated_long a b block n t line w =
 
 -- behind the values of a `for`
 
-joined : (pc n size : ℕ) → pc + n + size ≡ pc + (n + size)
-joined pc n size = omega arith
-
 pub num_for_declares :
     (a q b : Writer) (s : Listing) (name : Name) (from limit : Exp) (step : Option Exp) (block : Block) (closing : Bool) (t line : ℕ)
     → s ≡ followed a.emitter (range_code a.emitter.constants from limit step t a.emitter.made line) (made_in_range from limit step)
@@ -260,7 +258,7 @@ num_for_declares a q b s name from limit None block closing t line e s_is vars b
     let size = block_size k a.back block closing (t + 3) (t + 4) i in
     declared_at (λ k back j pc. map over (in_rounds k back 3 (name ∷ []) block closing (t + 3) (t + 4) 2 j pc)) a q b start (made_by from + made_by limit) (length start) (s_is ∙ e) back refl d
     ∙ ap₂ (λ l m. l ++ map over (in_rounds k a.back 3 (name ∷ []) block closing (t + 3) (t + 4) 2 m place)) vars (sum a.emitter.made (made_by from) (made_by limit))
-    ∙ ap (λ m. a.variables ++ map over (looped k a.back 3 (name ∷ []) place size m ++ within_block k a.back block closing (t + 3) (t + 4) i (place + 1))) (joined (length a.emitter.steps) (length start) (size + 2))
+    ∙ ap (λ m. a.variables ++ map over (looped k a.back 3 (name ∷ []) place size m ++ within_block k a.back block closing (t + 3) (t + 4) i (place + 1))) (farther (length a.emitter.steps) (length start) (size + 2))
   where
     sum : (j m n : ℕ) → j + (m + n) ≡ j + m + n
     sum j m n = omega arith
@@ -272,7 +270,7 @@ num_for_declares a q b s name from limit (Some step) block closing t line e s_is
     let size = block_size k a.back block closing (t + 3) (t + 4) i in
     declared_at (λ k back j pc. map over (in_rounds k back 3 (name ∷ []) block closing (t + 3) (t + 4) 2 j pc)) a q b start (made_by from + made_by limit + made_by step) (length start) (s_is ∙ e) back refl d
     ∙ ap₂ (λ l m. l ++ map over (in_rounds k a.back 3 (name ∷ []) block closing (t + 3) (t + 4) 2 m place)) vars (sum a.emitter.made (made_by from) (made_by limit) (made_by step))
-    ∙ ap (λ m. a.variables ++ map over (looped k a.back 3 (name ∷ []) place size m ++ within_block k a.back block closing (t + 3) (t + 4) i (place + 1))) (joined (length a.emitter.steps) (length start) (size + 2))
+    ∙ ap (λ m. a.variables ++ map over (looped k a.back 3 (name ∷ []) place size m ++ within_block k a.back block closing (t + 3) (t + 4) i (place + 1))) (farther (length a.emitter.steps) (length start) (size + 2))
   where
     sum : (j m n o : ℕ) → j + (m + n + o) ≡ j + m + n + o
     sum j m n o = omega arith
@@ -291,7 +289,7 @@ gen_for_declares a q b s names es block closing t line e s_is vars back d =
     let size = block_size k a.back block true (t + 4) (t + 4 + length names) i in
     declared_at (λ k back j pc. map over (in_rounds k back 4 names block true (t + 4) (t + 4 + length names) 4 j pc)) a q b start (made_in es) (length start) (s_is ∙ e) back refl d
     ∙ ap (λ l. l ++ map over (in_rounds k a.back 4 names block true (t + 4) (t + 4 + length names) 4 i place)) vars
-    ∙ ap (λ m. a.variables ++ map over (looped k a.back 4 names place size m ++ within_block k a.back block true (t + 4) (t + 4 + length names) i (place + 1))) (joined (length a.emitter.steps) (length start) (size + 4))
+    ∙ ap (λ m. a.variables ++ map over (looped k a.back 4 names place size m ++ within_block k a.back block true (t + 4) (t + 4 + length names) i (place + 1))) (farther (length a.emitter.steps) (length start) (size + 4))
 
 -- a `while`, whose block stands behind the condition
 pub while_declares :

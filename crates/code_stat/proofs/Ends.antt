@@ -16,12 +16,10 @@ use Rattle.code_stat.specs.declared.writer.Writer.{Writer}
 use Rattle.code_stat.specs.Drafts.{Wrote, WroteStat, WroteStats, WroteBlock, WroteOpen}
 use Rattle.code_stat.proofs.Blocks.{nowhere}
 use Rattle.code_stat.proofs.Drafting.{Form, formed, draft_sized, recoded, plainly, then_wrote, then_formed}
+use Rattle.code_expr.proofs.Kept.{no_further}
 
 pub remade : (a b : Writer) (m n : ℕ) (f : Reach → List Coded) → m ≡ n → Wrote a b m f → Wrote a b n f
 remade a b m n f e w = subst (λ k. Wrote a b k f) e w
-
-none_more : (n : ℕ) → n + 0 ≡ n
-none_more n = omega arith
 
 pub nothing_wrote : (a : Writer) → Wrote a a 0 (λ reach. [])
 nothing_wrote a =
@@ -37,7 +35,7 @@ falls_wrote a q b ss tokens line closing outer level end w end_is e jumps back =
     let m = made_in_stats ss in
     let close = close_code outer (closed_below ss outer level) line in
     let closed : b.emitter ≡ followed q.emitter close 0 = e ∙ ap (λ n. listed q.emitter (close_code outer n line)) end_is ∙ sym (none_made q.emitter close) in
-    remade a b (m + 0) m (λ reach. stats_code a.emitter.constants a.back ss true closing outer level a.emitter.made (length a.emitter.steps) [] reach ++ close) (none_more m)
+    remade a b (m + 0) m (λ reach. stats_code a.emitter.constants a.back ss true closing outer level a.emitter.made (length a.emitter.steps) [] reach ++ close) (no_further m)
     (then_wrote a q b m 0 (λ reach. stats_code a.emitter.constants a.back ss true closing outer level a.emitter.made (length a.emitter.steps) [] reach) (λ reach. close) w (plainly q b 0 close closed jumps back))
 
 -- functions were made in between where their number is greater behind than before

@@ -29,6 +29,7 @@ use Rattle.code_stat.specs.Whole.{filled, function_of, led, made_in_body, nowher
 use Rattle.code_stat.proofs.Going.{front}
 use Rattle.code_stat.proofs.Ends.{remade}
 use Rattle.code_stat.proofs.Drafting.{plainly, then_wrote}
+use Rattle.code_expr.proofs.Kept.{no_further}
 
 -- where a jump leads in the end
 
@@ -58,9 +59,6 @@ none_led_yet js i s h = sym (ap (filled s) (drop_all i js h))
 
 -- a function that falls off its end returns
 
-none_more : (n : ℕ) → n + 0 ≡ n
-none_more n = omega arith
-
 pub whole_falls :
     (a q b : Writer) (ss : Stats) (tokens line params end back : ℕ)
     → WroteStats a q ss true false 0 params → end ≡ levels_after ss params → back ≡ q.back.back
@@ -70,7 +68,7 @@ whole_falls a q b ss tokens line params end back w end_is back_is e jumps kept =
     let last : List Coded = leaving_by Return (levels_after ss params) 1 a.back.back line ∷ [] in
     let returned : b.emitter ≡ followed q.emitter last 0 =
     e ∙ ap₂ (λ n k. listed q.emitter (leaving_by Return n 1 k line ∷ [])) end_is (back_is ∙ ap (λ l. l.back) w.back_is) ∙ sym (none_made q.emitter last) in
-    remade a b (made_in_stats ss + 0) (made_in_stats ss) (λ reach. stats_code a.emitter.constants a.back ss true false 0 params a.emitter.made (length a.emitter.steps) [] reach ++ last) (none_more (made_in_stats ss))
+    remade a b (made_in_stats ss + 0) (made_in_stats ss) (λ reach. stats_code a.emitter.constants a.back ss true false 0 params a.emitter.made (length a.emitter.steps) [] reach ++ last) (no_further (made_in_stats ss))
     (then_wrote a q b (made_in_stats ss) 0 (λ reach. stats_code a.emitter.constants a.back ss true false 0 params a.emitter.made (length a.emitter.steps) [] reach) (λ reach. last) w (plainly q b 0 last returned jumps kept))
 
 abbrev pub ends_by_return : Block → Bool

@@ -10,12 +10,11 @@ use Rattle.code_of.specs.Expressions.{count, made_by, made_in, exp_code, exps_co
 use Rattle.code_of.specs.Parts.{target_code, targets_code, store_code, stores_code, pair_code, steps_code, stored_code}
 use Rattle.code_expr.specs.Listing.{Listing, listed, followed}
 use Rattle.code_expr.proofs.Joining.{listing, after, none_made, both_listed, then_made, then_listed}
+use Rattle.code_expr.proofs.TargetSeats.{nothing_listed}
+use Rattle.code_expr.proofs.Ends.{counted}
 
 pub front : {X : Type 0} (xs : List X) (i : ℕ) (x : X) → i < length xs → x ≡ slice_index_or xs i x → drop i xs ≡ x ∷ drop (i + 1) xs
 front xs i x h e = drop_more xs i x h ∙ ap (λ y. y ∷ drop (i + 1) xs) (sym e)
-
-pub nothing : (s : Listing) → s ≡ listed s []
-nothing s = ap (λ xs. listing s.constants xs s.made) (sym (append-nil s.steps))
 
 abbrev pub targets_from : Listing → (t : ℕ) → tree.Exps → Listing
 targets_from s t es = followed s (targets_code s.constants es t s.made) (made_in es)
@@ -37,7 +36,7 @@ next_target xs i x s r t t' all h is r_is t_is known =
     ∙ known
 
 pub all_targets : (xs : List Exp) (i : ℕ) (s : Listing) (t : ℕ) (all : Listing) → length xs ≤ i → targets_from s t (tree.exps (plain_exps (drop i xs))) ≡ all → s ≡ all
-all_targets xs i s t all h known = nothing s ∙ sym (none_made s []) ∙ sym (ap (λ l. targets_from s t (tree.exps (plain_exps l))) (drop_all i xs h)) ∙ known
+all_targets xs i s t all h known = nothing_listed s ∙ sym (none_made s []) ∙ sym (ap (λ l. targets_from s t (tree.exps (plain_exps l))) (drop_all i xs h)) ∙ known
 
 -- from right to left
 
@@ -55,7 +54,7 @@ next_store xs i x s q r t v t' v' h is t_is v_is q_is r_is =
     ∙ sym (ap (λ l. listed s (stores_code k (tree.exps (plain_exps l)) t' v')) (front xs i x h is))
 
 pub no_store : (xs : List Exp) (i : ℕ) (s : Listing) (t v : ℕ) → length xs ≤ i → s ≡ listed s (stores_code s.constants (tree.exps (plain_exps (drop i xs))) t v)
-no_store xs i s t v h = nothing s ∙ sym (ap (λ l. listed s (stores_code s.constants (tree.exps (plain_exps l)) t v)) (drop_all i xs h))
+no_store xs i s t v h = nothing_listed s ∙ sym (ap (λ l. listed s (stores_code s.constants (tree.exps (plain_exps l)) t v)) (drop_all i xs h))
 
 pub two_listed : (s r q : Listing) (x y : Coded) → r ≡ listed s (x ∷ []) → q ≡ listed r (y ∷ []) → q ≡ listed s (x ∷ y ∷ [])
 two_listed s r q x y e h = h ∙ ap (λ z. listed z (y ∷ [])) e ∙ both_listed s (x ∷ []) (y ∷ [])
@@ -69,10 +68,6 @@ steps_follow s r q from limit step t e h =
     ∙ ap (λ n. followed s (pair_code s.constants from limit t s.made ++ exp_code s.constants step (t + 2) n 2) (made_by from + made_by limit + made_by step)) (omega arith)
 
 -- an assignment
-
-counted : (es : List Exp) → count (tree.exps (plain_exps es)) ≡ length es
-counted [] = refl
-counted (e ∷ es) = ap suc (counted es)
 
 pub stored :
     (s0 s1 s2 s3 : Listing) (xs : List Exp) (es : tree.Exps) (t v n line : ℕ)

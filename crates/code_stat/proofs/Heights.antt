@@ -8,7 +8,7 @@ use Rattle.tree_core.specs.declared.tree.Block.{Block as RustBlock, out-Block}
 use Rattle.tree_core.specs.Tree.{Block, Falls, Returns, Stats, EndStats, MoreStats, Stat, Empty, Local, LocalFunction, Assign, CallStat, Do, While, Repeat, If, IfElse, NumFor, NumForStep, GenFor, Label, Goto, Break, Arms, EndArms, MoreArms, stats}
 use Rattle.tree_core.specs.Plain.{plain_stat, plain_block}
 use Rattle.code_stat.specs.Forms.{choice}
-use Rattle.code_stat.proofs.Plain.{falls_of, returns_of}
+use Rattle.tree_core.proofs.Rows.{without_result, with_result}
 
 abbrev mutual
   pub stat_height : Stat → ℕ
@@ -53,8 +53,8 @@ pub block_inside : (b : RustBlock) → block_height (plain_block b) ≡ 1 + stat
 block_inside b = by (out-Block b).result refl
   where
     by : (r : Option (Vec RustExp Global)) → (out-Block b).result ≡ r → block_height (plain_block b) ≡ 1 + stats_height (stats (map plain_stat (out-Block b).stats.items))
-    by None e = ap block_height (falls_of b e)
-    by (Some es) e = ap block_height (returns_of b es e)
+    by None e = ap block_height (without_result b e)
+    by (Some es) e = ap block_height (with_result b es e)
 
 pub within_height : (xs : List RustStat) (i : ℕ) (x : RustStat) → i < length xs → x ≡ slice_index_or xs i x → stat_height (plain_stat x) ≤ stats_height (stats (map plain_stat xs))
 within_height [] i x h e = absurd (omega (arith, h))

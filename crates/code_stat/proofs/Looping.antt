@@ -28,10 +28,12 @@ use Rattle.code_stat.specs.declared.writer.Writer.{Writer}
 use Rattle.code_stat.specs.Drafts.{arrives, fill, Wrote, WroteStat, WroteBlock, WroteOpen}
 use Rattle.code_stat.specs.Forms.{until_code, counted_code, iterated_code, range_code, made_in_range}
 use Rattle.code_of.proofs.Sizes.{test_sized, block_sized, open_sized, close_sized}
-use Rattle.code_stat.proofs.Going.{two_listed, nothing}
+use Rattle.code_stat.proofs.Going.{two_listed}
 use Rattle.code_stat.proofs.Blocks.{nowhere}
 use Rattle.code_stat.proofs.Ends.{range_wrote}
 use Rattle.code_stat.proofs.Drafting.{Form, formed, draft_sized, recoded, behind_other, enclosed, led_anew, behind_seam, written_sized}
+use Rattle.code_expr.proofs.TargetSeats.{nothing_listed}
+use Rattle.code_expr.proofs.Kept.{no_further}
 
 pub form_at :
     (g : Form) (a p : Writer) (m : ℕ) (code : List Coded) (n : ℕ) → p.emitter ≡ followed a.emitter code m → p.back ≡ a.back → length code ≡ n
@@ -68,9 +70,6 @@ pub looped :
     → s ≡ followed a.emitter (x ++ (w.draft ++ y)) total → first ≡ length a.jumps.items → Ended q b s first t
     → Wrote a b total (λ reach. x ++ (g a.emitter.constants a.back (a.emitter.made + m) (length a.emitter.steps + length x) (in_loop reach (length s.steps) t) ++ y))
 looped a p q b s m n total first t g w x0 x y p_is same jumps back s_is first_is d = ended_wrote a p q b s m n total t g w x0 x y p_is same jumps back s_is (subst (λ f. Ended q b s f t) first_is d)
-
-none_more : (n : ℕ) → n + 0 ≡ n
-none_more n = omega arith
 
 abbrev pub block_form : Block → (closing : Bool) → (outer t : ℕ) → Form
 block_form block closing outer t k back j pc reach = block_code k back block closing outer t j pc reach
@@ -204,7 +203,7 @@ repeat_wrote a q b s6 e block closing t line end_line inner top start first star
     let size = open_size k a.back block closing t j in
     let places = length q.emitter.steps + length (test 0) + length close + 1 - start in
     let ends = until_code test close places line in
-    let a_is : a.emitter ≡ followed a.emitter [] 0 = nothing a.emitter ∙ sym (none_made a.emitter []) in
+    let a_is : a.emitter ≡ followed a.emitter [] 0 = nothing_listed a.emitter ∙ sym (none_made a.emitter []) in
     let six : s6 ≡ followed q.emitter ends (made_by e) =
     e6 ∙ ap (λ s. followed q.emitter (until_code (λ ahead. test_code s.constants e false ahead inner s.made) close (length q.emitter.steps + length (test_code s.constants e false 0 inner s.made) + length close + 1 - start) line) (made_by e)) w.emitter_is in
     let placed : s6 ≡ followed a.emitter (w.draft ++ ends) (m + made_by e) = six ∙ ap (λ s. followed s ends (made_by e)) w.emitter_is ∙ after a.emitter w.draft m ends (made_by e) in
@@ -218,7 +217,7 @@ repeat_wrote a q b s6 e block closing t line end_line inner top start first star
     let end_is : length s6.steps ≡ pc + (size + (length (test 0) + (length close + length close + 1))) = omega (arith, s_long, s_parts, s_ends, sized, long) in
     recoded a b (m + made_by e) _ _
     (looped a a q b s6 0 m (m + made_by e) first t (open_form block closing t) w [] [] ends a_is refl refl refl placed first_is end)
-    (λ reach. ap₂ (λ i n. open_code k a.back block closing t i n (in_loop reach (length s6.steps) t) ++ ends) (none_more j) (none_more pc) ∙ repeat_is k a.back e block closing t line end_line j pc inner places (length s6.steps) reach inner_is line_is goes_back end_is)
+    (λ reach. ap₂ (λ i n. open_code k a.back block closing t i n (in_loop reach (length s6.steps) t) ++ ends) (no_further j) (no_further pc) ∙ repeat_is k a.back e block closing t line end_line j pc inner places (length s6.steps) reach inner_is line_is goes_back end_is)
   where
     until_sized : (test : ℕ → List Coded) (close : List Coded) (places line : ℕ) → length (until_code test close places line) ≡ length (test (length close + 1)) + (length close + length close + 1)
     until_sized test close places line =
@@ -258,7 +257,7 @@ rounds_wrote a p q b s4 s5 block closing outer inner t first prep prep' y first_
     recoded a b m _ _
     (looped a p q b s5 0 m m first t (block_form block closing outer inner) w (prep ∷ []) (prep' ∷ []) y (e1 ∙ sym (none_made a.emitter (prep ∷ []))) refl jumps back
     (rounds_placed a p q s4 s5 m (formed (block_form block closing outer inner) p) w prep prep' y e1 e4 e5) first_is end)
-    (λ reach. ap (λ i. prep' ∷ (block_code a.emitter.constants a.back block closing outer inner i (length a.emitter.steps + 1) (in_loop reach (length s5.steps) t) ++ y)) (none_more a.emitter.made))
+    (λ reach. ap (λ i. prep' ∷ (block_code a.emitter.constants a.back block closing outer inner i (length a.emitter.steps + 1) (in_loop reach (length s5.steps) t) ++ y)) (no_further a.emitter.made))
 
 rounds_long :
     (a p q : Writer) (s4 s5 : Listing) (block : Block) (closing : Bool) (outer inner : ℕ) (prep prep' : Coded) (y : List Coded) (w : WroteBlock p q block closing outer inner)
@@ -269,7 +268,7 @@ rounds_long a p q s4 s5 block closing outer inner prep prep' y w e1 back e4 e5 =
     let m = made_in_block block in
     let p_is : p.emitter ≡ followed a.emitter (prep ∷ []) 0 = e1 ∙ sym (none_made a.emitter (prep ∷ [])) in
     let long : length w.draft ≡ block_size a.emitter.constants a.back block closing outer inner a.emitter.made =
-    block_long a p q 0 1 m block closing outer inner (prep ∷ []) w p_is back refl ∙ ap (block_size a.emitter.constants a.back block closing outer inner) (none_more a.emitter.made) in
+    block_long a p q 0 1 m block closing outer inner (prep ∷ []) w p_is back refl ∙ ap (block_size a.emitter.constants a.back block closing outer inner) (no_further a.emitter.made) in
     let p_long = written_sized a.emitter p.emitter (prep ∷ []) 0 p_is in
     let q_long = written_sized p.emitter q.emitter w.draft m w.emitter_is in
     let s_long = written_sized a.emitter s5 (prep' ∷ (w.draft ++ y)) m (rounds_placed a p q s4 s5 m (formed (block_form block closing outer inner) p) w prep prep' y e1 e4 e5) in
@@ -336,7 +335,7 @@ iterated_wrote a p q b s2 s3 s4 s5 block n t line first size outer inner first_i
 
 -- behind their values
 
-farther : (pc n size : ℕ) → pc + n + size ≡ pc + (n + size)
+pub farther : (pc n size : ℕ) → pc + n + size ≡ pc + (n + size)
 farther pc n size = omega arith
 
 counting_joined :

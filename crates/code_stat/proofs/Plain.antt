@@ -16,12 +16,6 @@ use Rattle.code_stat.proofs.Going.{front}
 result_of : (b : Block) (r : Option (Vec Exp Global)) → (out-Block b).result ≡ r → plain_block b ≡ block_of (map plain_stat (out-Block b).stats.items) (option_map (λ es. plain_exps es.items) r) (out-Block b).tokens (out-Block b).line
 result_of b r e = plain-block b ∙ ap (λ o. block_of (map plain_stat (out-Block b).stats.items) (option_map (λ es. plain_exps es.items) o) (out-Block b).tokens (out-Block b).line) e
 
-pub falls_of : (b : Block) → (out-Block b).result ≡ None → plain_block b ≡ tree.Falls (tree.stats (map plain_stat (out-Block b).stats.items)) (out-Block b).tokens (out-Block b).line
-falls_of b e = result_of b None e
-
-pub returns_of : (b : Block) (es : Vec Exp Global) → (out-Block b).result ≡ Some es → plain_block b ≡ tree.Returns (tree.stats (map plain_stat (out-Block b).stats.items)) (tree.exps (plain_exps es.items)) (out-Block b).tokens (out-Block b).line
-returns_of b es e = result_of b (Some es) e
-
 pub ends_at : (b : Block) → (out-Block b).line ≡ line_of_end (plain_block b)
 ends_at b = by (out-Block b).result refl
   where

@@ -16,6 +16,7 @@ use Rattle.code_of.proofs.Operands.{local_makes, lone_is}
 use Rattle.code_expr.specs.Listing.{Listing, listed, followed}
 use Rattle.code_expr.proofs.Joining.{none_made}
 use Rattle.code_stat.specs.Tails.{is_called, tail_code}
+use Rattle.code_expr.proofs.Kept.{no_further}
 
 module _ (k : List Const) where
   pub closing_return : (closing : Bool) (es : tree.Exps) (t j line back : ℕ) → closing ≡ true → return_code k closing es t j line back ≡ values_last k es t j line back
@@ -100,9 +101,6 @@ pub several_follow :
 several_follow s r closing xs n t line back n_is e h =
     h ∙ sym (ap (λ code. followed s code (made_in (tree.exps (plain_exps xs)))) (several_return s.constants closing xs t s.made line back (λ one. e (n_is ∙ one))))
 
-none_more : (n : ℕ) → n + 0 ≡ n
-none_more n = omega arith
-
 tail_is : (k : List Const) (e : tree.Exp) (t j line back : ℕ) → is_called e ≡ true → return_code k false (tree.MoreExps e tree.EndExps) t j line back ≡ tail_code k e t j back
 tail_is k (tree.Call l f es) t j line back h = refl
 tail_is k (tree.Method l object name es) t j line back h = refl
@@ -129,7 +127,7 @@ pub tail_follows :
 tail_follows s r closing all e t line back open_now called a h =
     let same : followed s (return_code s.constants closing all t s.made line back) (made_in all) ≡ followed s (tail_code s.constants e t s.made back) (made_by e) =
     ap₂ (λ b l. followed s (return_code s.constants b l t s.made line back) (made_in l)) open_now a
-    ∙ ap₂ (followed s) (tail_is s.constants e t s.made line back called) (none_more (made_by e)) in
+    ∙ ap₂ (followed s) (tail_is s.constants e t s.made line back called) (no_further (made_by e)) in
     h ∙ sym same
 
 pub other_follows :

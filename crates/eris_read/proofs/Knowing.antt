@@ -26,6 +26,7 @@ use Rattle.image_records.specs.Views.{key}
 use Rattle.image_records.specs.Names.{perm, object_of, proto_of, code_in, has_key, added}
 use Rattle.eris_read.specs.Unpersist.{CanRead, code_of}
 use Rattle.eris_read.specs.Known.{IsFunction, IsObject, IsPermanent, IsSmall, IsSmallNumber}
+use Rattle.lua_heap.proofs.Numbered.{checked_there}
 
 -- a permanent of another key does not count
 passed_by : (ps : List Perm) (p : Perm) (rest : List Perm) (name : PermKey) → same_key p.key name ≡ false → object_named (ps ++ p ∷ rest) name ≡ object_named (ps ++ rest) name
@@ -130,11 +131,6 @@ get_mapped f (y ∷ xs) (suc n) x e = get_mapped f xs n x e
 not_checked : IsChecked no_code → ⊥
 unfolding no_code
 not_checked h = let e : false ≡ true = h.code.sized in absurd (cc)
-
-checked_there : (ps : List Prototype) (n : ℕ) → IsChecked (prototype_at ps n) → n < length ps
-checked_there [] n h = absurd (not_checked h)
-checked_there (p ∷ ps) zero h = omega arith
-checked_there (p ∷ ps) (suc n) h = let l = checked_there ps n h in omega (arith, l)
 
 module _ (W : Memory) (perms : List Perm) (can : CanRead W perms) where
   function_there : (n : ℕ) → n < length (plain W 0).functions → IsFunction W n

@@ -16,7 +16,7 @@ use Rattle.image_core.specs.Records.{Field, of_value, key_of, named, sort_of, un
 use Rattle.image_bytes.specs.Format.{list, spell_all}
 use Rattle.image_bytes.specs.Bytes.{Reader, item_format, spell_rows, row_after, table_format}
 use Rattle.lua_stack.specs.View.{blank}
-use Rattle.lua_stack.proofs.Parts.{take_next}
+use Rattle.lua_stack.proofs.Parts.{take_next, length_blank}
 use Rattle.lua_heap.specs.Plain.{plain, table}
 use Rattle.lua_heap.specs.Reading.{value, row}
 use Rattle.graph_core.proofs.Meeting.{map_more, map_twice, flat_twice}
@@ -98,10 +98,6 @@ blank_next n = let e : n + 1 ≡ suc n = omega arith in ap blank e ∙ go n
 pub next_nil : (w : Writer) (n : ℕ) (a b c : Output) → Writes w a b (value_fields w (blank n)) (value_bytes w (blank n)) → Writes w b c (of_value (read_in w kept.Nil) ∷ []) (item_bytes w kept.Nil)
     → Writes w a c (value_fields w (blank (n + 1))) (value_bytes w (blank (n + 1)))
 next_nil w n a b c h k = subst (λ l. Writes w a c (value_fields w l) (value_bytes w l)) (sym (blank_next n)) (values_more w (blank n) (kept.Nil ∷ []) a b c h (one_value w kept.Nil b c k))
-
-length_blank : (n : ℕ) → length (blank n) ≡ n
-length_blank zero = refl
-length_blank (suc n) = ap suc (length_blank n)
 
 pub registers_written : (w : Writer) (rs : List Kept) (n count : ℕ) (a b c d : Output) → count ≡ length rs + n → Puts a b None (λ _. little_bytes 4 count) → Writes w b c (value_fields w rs) (value_bytes w rs)
     → Writes w c d (value_fields w (blank n)) (value_bytes w (blank n)) → Writes w a d (value_fields w (rs ++ blank n)) (λ R. (list (item_format R)).spell (map (item_in w) (rs ++ blank n)))

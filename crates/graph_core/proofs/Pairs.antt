@@ -24,6 +24,7 @@ use Rattle.graph_core.specs.contracts.permanents.PermanentKeyPartialEq.TheImpl a
 use Rattle.graph_core.specs.Inverse.{AreAmong, HaveKeysAmong, Inverse, KeyIsBefore, KeysAreOnce, ObjectsAreOnce}
 use Rattle.graph_core.specs.Permanents.{key_read, object_read, permanent, value_of}
 use Rattle.graph_core.proofs.Named.{found, permanent_eq, read_same}
+use Rattle.list_laws.proofs.Tests.{eq_refl, eq_true}
 
 -- keys and objects that are the same
 
@@ -51,17 +52,11 @@ same_key (Text s) (Text t) h = (bytes_eq-Decides s.items t.items).1 (ap (λ k. t
 same_key (Number m) (Text t) h = absurd (cc)
 same_key (Text s) (Number n) h = absurd (cc)
 
-number_itself : (n : ℕ) → nat_eq n n ≡ true
-number_itself n = grind (arith, tests)
-
-number_is : (m n : ℕ) → nat_eq m n ≡ true → m ≡ n
-number_is m n h = grind (arith, tests)
-
 read_itself : (s : PermanentSort) (n : ℕ) → same (value_of s n) (value_of s n) ≡ true
-read_itself Primitive n = number_itself n
-read_itself Table n = number_itself n
-read_itself Func n = number_itself n
-read_itself Coro n = number_itself n
+read_itself Primitive n = eq_refl n
+read_itself Table n = eq_refl n
+read_itself Func n = eq_refl n
+read_itself Coro n = eq_refl n
 
 object_same : (o p : Permanent) → object_read o ≡ object_read p → permanent_eq o p ≡ true
 object_same o p e = read_same o p ∙ (ap (same (object_read p)) e ∙ read_itself p.sort p.number)
@@ -70,10 +65,10 @@ same_object : (o p : Permanent) → permanent_eq o p ≡ true → object_read o 
 same_object o p e = go o.sort p.sort o.number p.number e
   where
     go : (s t : PermanentSort) (m n : ℕ) → permanent_eq (record { sort = s; number = m }) (record { sort = t; number = n }) ≡ true → value_of s m ≡ value_of t n
-    go Primitive Primitive m n h = ap (value_of Primitive) (number_is m n h)
-    go Table Table m n h = ap (value_of Table) (number_is m n h)
-    go Func Func m n h = ap (value_of Func) (number_is m n h)
-    go Coro Coro m n h = ap (value_of Coro) (number_is m n h)
+    go Primitive Primitive m n h = ap (value_of Primitive) (eq_true m n h)
+    go Table Table m n h = ap (value_of Table) (eq_true m n h)
+    go Func Func m n h = ap (value_of Func) (eq_true m n h)
+    go Coro Coro m n h = ap (value_of Coro) (eq_true m n h)
     go _ _ m n h = absurd (cc)
 
 -- objects stand once in a map

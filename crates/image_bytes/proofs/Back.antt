@@ -30,7 +30,7 @@ long_enough xs ys n h = let l = length-append xs ys in search (arith, h, l)
 pub below_true : (a b : ℕ) → nat_lt a b ≡ true → a < b
 below_true a b h = search (arith, h)
 
-equal_true : (a b : ℕ) → nat_eq a b ≡ true → a ≡ b
+pub equal_true : (a b : ℕ) → nat_eq a b ≡ true → a ≡ b
 equal_true a b h = search (arith, h)
 
 pub raw_back : (n : ℕ) → IsReadBack (raw n)

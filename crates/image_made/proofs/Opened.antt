@@ -10,9 +10,7 @@ use Rattle.lua_heap.specs.Cells.{IsOnce}
 use Rattle.lua_heap.proofs.Captured.{by_test, added_found, still_found, found_or_new, once_in}
 use Rattle.image_made.specs.declared.stack.Opening.{Opening}
 use Rattle.image_made.specs.Stacks.{Lists, Opens}
-
-same_number : (m n : ℕ) → nat_eq m n ≡ true → m ≡ n
-same_number m n h = grind (arith, nat_tests)
+use Rattle.int_core.proofs.Equality.{number_is}
 
 number_same : (m n : ℕ) → m ≡ n → nat_eq m n ≡ true
 number_same m n h = grind (arith, nat_tests)
@@ -36,7 +34,7 @@ module _ (own : CoroId) (openings : List Opening) (old new : KeptStack) (at : �
   unfolding c
   one_opened first lists = record {
     order = let o = lists.order in omega (arith, o);
-    each = λ i p least less e. by_test (nat_eq i at) (λ t. last i p (same_number i at t) e) (λ f. before i p least less f e);
+    each = λ i p least less e. by_test (nat_eq i at) (λ t. last i p (number_is i at t) e) (λ f. before i p least less f e);
     only = λ frame register cell e.
         ⊎_elim (λ h. (at, there ∙ ap (λ o. Some o) (is_opening frame register cell h.0 h.1 h.2))) (λ h. lists.only frame register cell h)
         (found_or_new old.open_cells new.open_cells c opens.adds frame register cell e);

@@ -12,6 +12,7 @@ use Rattle.image_sound.specs.Fitting.{is_open_record, opened_again, opened_once}
 use Rattle.image_records.specs.declared.fitting.OpenPlace.{OpenPlace}
 use Rattle.image_records.specs.contracts.fitting.OpenPlacePartialEq.TheImpl as place_impl
 use Rattle.image_records.specs.Fits.{is_open, is_place, HoldsPlaces, OpensAnew}
+use Rattle.int_core.proofs.Equality.{number_is}
 
 module _ {A B : Type 0} (view : A → B) where
   -- the item at a place and those behind it
@@ -88,9 +89,6 @@ place_eq = (place_impl.ghosts).eq
 place_same : (p q : OpenPlace) → place_eq p q ≡ is_place p.coroutine p.frame p.register q
 place_same p q = refl
 
-same_number : (m n : ℕ) → nat_eq m n ≡ true → m ≡ n
-same_number m n h = grind (arith, nat_tests)
-
 module _ (places : List OpenPlace) (rs : List Record) (p : OpenPlace) (holds : HoldsPlaces places rs) where
   held : list_any (place_eq p) places ≡ list_any (is_open_record p.coroutine p.frame p.register) rs
   held = ap (λ q. list_any q places) (fun_ext (place_same p)) ∙ holds.same p.coroutine p.frame p.register
@@ -102,9 +100,9 @@ module _ (places : List OpenPlace) (rs : List Record) (p : OpenPlace) (holds : H
       let one = and_parts (nat_eq co p.coroutine) (nat_eq frame p.frame && nat_eq register p.register) e in
       let two = and_parts (nat_eq frame p.frame) (nat_eq register p.register) one.1 in
       holds.same co frame register
-      ∙ (ap (λ n. list_any (is_open_record n frame register) rs) (same_number _ _ one.0)
-      ∙ (ap (λ n. list_any (is_open_record p.coroutine n register) rs) (same_number _ _ two.0)
-      ∙ (ap (λ n. list_any (is_open_record p.coroutine p.frame n) rs) (same_number _ _ two.1) ∙ there)))
+      ∙ (ap (λ n. list_any (is_open_record n frame register) rs) (number_is _ _ one.0)
+      ∙ (ap (λ n. list_any (is_open_record p.coroutine n register) rs) (number_is _ _ two.0)
+      ∙ (ap (λ n. list_any (is_open_record p.coroutine p.frame n) rs) (number_is _ _ two.1) ∙ there)))
 
   turned : (a b : Bool) → (a || (b || false)) ≡ (b || a)
   turned true true = refl

@@ -7,13 +7,14 @@ use Rattle.int_core.specs.Heap.{Table}
 use Rattle.machine_core.specs.World.{Function, Cell, open_at, Wait, LuaFrame, Frame, Coroutine, World}
 use Rattle.machine_alike.specs.Agree.{Pairs, SameNumber, SameCellNumber, Each, Both, SameValue, same_known, same_object, SameValues, SameRow, SameTable, SameFunction, SameWait, same_leaving, SameLuaFrame, SameFrame, same_lua, same_pcall, same_xpcall, same_handler, same_closing, SameCoroutine, same_fresh, same_suspended, same_in_progress, same_normal, same_dead, same_failed, OneToOne, IsFirst, IsSecond, Loose, kept_closed, kept_apart, SameCell, same_place, same_content, objects_of, SameObjects}
 use Rattle.machine_alike.proofs.Pairwise.{zip_append, zip_parts, cond_rel}
-use Rattle.machine_alike.proofs.Tables.{nat_eq_same, equal_same, kind_same}
+use Rattle.machine_alike.proofs.Tables.{nat_eq_same, equal_same}
 use Rattle.machine_alike.proofs.CellWrites.{register_same}
 use Rattle.image_core.specs.Visit.{met, greatest_count}
 use Rattle.image_core.specs.Image.{Perm, Item, numbered, lua_item, Record, closed_record, open_record}
 use Rattle.image_core.specs.Records.{Part, an_object, a_cell, same_part, Field, of_value, of_cell, of_coroutine, row_fields, metatable_value, table_fields, wait_fields, error_fields, frame_fields, coroutine_fields, present, cell_fields, if_there, fields, key_of, sort_of, named, value_parts, unless_named, field_parts, parts, visited, is_reached, parts_in_order, Naming, unnamed_item, or_item, item, wait_item, lua_frame_item, frame_item, row_item, record_of_table, record_of_function, record_of_coroutine, record_of_cell, or_none, record_of, naming, image_by}
 use Rattle.image_same.specs.Same.{SamePerm, ImagesSame}
 use Rattle.image_core.proofs.Visits.{met_same, place_same, order_same}
+use Rattle.int_core.proofs.Equality.{kind_is}
 
 pub data SamePart (p : Pairs) : Part → Part → Type 0 where
   both_objects : (kind : Kind) (i j : ℕ) → SameNumber p kind i j → SamePart p (an_object kind i) (an_object kind j)
@@ -55,7 +56,7 @@ part_same : (p : Pairs) → OneToOne p → (a b c d : Part) → SamePart p a c �
 part_same p one a b c d (both_objects k i j h) (both_objects l m n g) = go (same_kind k l) refl
   where
     go : (b : Bool) → same_kind k l ≡ b → b && nat_eq i m ≡ b && nat_eq j n
-    go true e = nat_eq_same (p.objects k) i m j n (one.objects k) h (subst (λ x. p.objects x m ≡ Some n) (sym (kind_same k l e)) g)
+    go true e = nat_eq_same (p.objects k) i m j n (one.objects k) h (subst (λ x. p.objects x m ≡ Some n) (sym (kind_is k l e)) g)
     go false e = refl
 part_same p one a b c d (both_objects k i j h) (both_cells m n g) = refl
 part_same p one a b c d (both_cells i j h) (both_objects l m n g) = refl

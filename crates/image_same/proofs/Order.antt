@@ -15,7 +15,7 @@ before_is a b h = search (arith, h)
 not_before : (a b : ℕ) → a ≡ b → nat_lt a b ≡ false
 not_before a b h = search (arith, h)
 
-same_is : (a b : ℕ) → a ≡ b → nat_eq a b ≡ true
+pub same_is : (a b : ℕ) → a ≡ b → nat_eq a b ≡ true
 same_is a b h = search (arith, h)
 
 meeting_old : (count met n : ℕ) → n < met → meeting count met n ≡ Some met

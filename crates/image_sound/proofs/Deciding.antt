@@ -18,6 +18,7 @@ use Rattle.image_sound.specs.Reads.{PlainRead, ItemRead, All, RowRead, WaitRead,
 use Rattle.image_sound.specs.SoundImage.{Host, PlainFits, ItemFits, CodeIs, WaitFits, LuaFits, FrameFits, OpenFits, RecordFits}
 use Rattle.image_sound.specs.Fitting.{code_in, code_of_item, fits_instruction, fits_code, lua_fits, frame_fits, frames_in, lua_frame_in, register_there, record_fits, is_open_record, opened_again, opened_once, all_fit, with_fits, IsReaderOf, AcceptedIsSound}
 use Rattle.image_sound.proofs.Given.{read_images_right, numbers_name_records}
+use Rattle.int_core.proofs.Equality.{number_self, number_is}
 
 -- tests that went through
 
@@ -48,15 +49,6 @@ each_test p f (y ∷ xs) h (suc i) x e = each_test p f xs (both_true (p y) (list
 
 below : (n r : ℕ) → nat_lt r n ≡ true → r < n
 below n r h = grind (arith, nat_tests)
-
-same_number : (m n : ℕ) → nat_eq m n ≡ true → m ≡ n
-same_number m n h = ⊎_elim (λ t. t.1) (λ t. absurd (false_true (sym t.0 ∙ h))) (eqb_tells m n)
-  where
-    false_true : false ≡ true → ⊥
-    false_true e = cc
-
-itself : (n : ℕ) → nat_eq n n ≡ true
-itself n = ⊎_elim (λ t. t.0) (λ t. absurd (t.1 refl)) (eqb_tells n n)
 
 -- a number that was read as that of a cell, or of a function
 
@@ -153,7 +145,7 @@ module _ (R : Reader) (code_named : PermKey → Option Prototype) (H : Host) (of
         opcode = o.0;
         is_opcode = o.1;
         fits = is_true a.0;
-        size = same_number _ _ b.0;
+        size = number_is _ _ b.0;
         pending = each_test (λ r. nat_lt r p.0.own.stack) (below p.0.own.stack) f.pending c.0;
         kept = each_test (λ r. nat_lt r (kept_below f.wait w.0 p.0.own.stack)) (below (kept_below f.wait w.0 p.0.own.stack)) f.pending c.1;
         opened = h.opened;
@@ -238,7 +230,7 @@ any_at p (y ∷ xs) (suc i) x e h = by (p y) (any_at p xs i x e h)
     by false k = k
 
 its_place : (co frame register : ℕ) → is_open_record co frame register (open_record co frame register) ≡ true
-its_place co frame register = rw (itself co, itself frame, itself register) refl
+its_place co frame register = rw (number_self co, number_self frame, number_self register) refl
 
 not_again : (rs : List Record) (i co frame register : ℕ) → not (list_any (is_open_record co frame register) rs) ≡ true → slice_get rs i ≡ Some (open_record co frame register) → ⊥
 not_again rs i co frame register t e = let a = any_at (is_open_record co frame register) rs i _ e (its_place co frame register) in false_true (ap not (sym a) ∙ t)

@@ -11,6 +11,7 @@ use Rattle.image_bytes.specs.Format.{Fault, of_kind, Got, read, refused, and_the
 use Rattle.image_bytes.specs.Bytes.{Reader, text, sort_at, reference, is_sort, named_key, item_body, item_format, only, is_new_key, row_after, scan_rows, rows_format, table_format, is_table_or_nil, is_function_item, code_told, code_read, code_format, function_format, cell_format, plain_wait, wait_rest, lua_format, error_format, frame_format, coroutine_format, record_format, scan_records, records_format, exactly, sort_byte, sorts_format, with_sorts, ImageParts, image_made, image_format, whole}
 use Rattle.image_core.specs.Loading.{kind_in}
 use Rattle.image_sound.specs.Reads.{Gives, ItemRead, All, RowRead, WaitRead, LuaRead, ErrorRead, FrameRead, RecordRead, ImageRead, ReadImagesRight, NumbersNameRecords}
+use Rattle.image_bytes.proofs.Back.{equal_true}
 
 -- the two halves of a reading that went through
 halves : {A B : Type 0} (got : Got A) (more : A → ℕ → List ℕ → Got B) (y : B) (m : ℕ) (rest : List ℕ) → and_then got more ≡ read y m rest → (x : A) × (k : ℕ) × (behind : List ℕ) × (got ≡ read x k behind) × (more x k behind ≡ read y m rest)
@@ -89,9 +90,6 @@ times_gives n {F = F} {P = P} f = record { gives = all_given F P f n }
 
 at_most : (a b : ℕ) → nat_le a b ≡ true → a ≤ b
 at_most a b h = search (arith, h)
-
-equal_so : (a b : ℕ) → nat_eq a b ≡ true → a ≡ b
-equal_so a b h = search (arith, h)
 
 raw_gives : (n : ℕ) → Gives (raw n) (λ s. length s ≤ n)
 unfolding raw
@@ -190,7 +188,7 @@ module _ (R : Reader) where
 
   pub function_gives : Gives (function_format R) (RecordRead R)
   unfolding function_format
-  function_gives = case_gives _ _ (λ y h. (h.0, equal_so _ _ h.1.0.0 ∙ h.1.1.0, h.1.1.1)) (followed_gives code_gives (λ p. followed_gives (tested_gives _ _ (any_gives {F = byte})) (λ n. times_gives n (reference_gives R.sorts (3 ∷ [])))))
+  function_gives = case_gives _ _ (λ y h. (h.0, equal_true _ _ h.1.0.0 ∙ h.1.1.0, h.1.1.1)) (followed_gives code_gives (λ p. followed_gives (tested_gives _ _ (any_gives {F = byte})) (λ n. times_gives n (reference_gives R.sorts (3 ∷ [])))))
 
   pub cell_gives : Gives (cell_format R) (RecordRead R)
   unfolding cell_format
@@ -257,7 +255,7 @@ module _ (R : Reader) where
 
   function_sorted : Gives (function_format R) (OfSort 2)
   unfolding function_format
-  function_sorted = case_gives _ _ (λ y h. (refl, (h.0, equal_so _ _ h.1.0.0 ∙ h.1.1.0, h.1.1.1))) (followed_gives code_gives (λ p. followed_gives (tested_gives _ _ (any_gives {F = byte})) (λ n. times_gives n (reference_gives R.sorts (3 ∷ [])))))
+  function_sorted = case_gives _ _ (λ y h. (refl, (h.0, equal_true _ _ h.1.0.0 ∙ h.1.1.0, h.1.1.1))) (followed_gives code_gives (λ p. followed_gives (tested_gives _ _ (any_gives {F = byte})) (λ n. times_gives n (reference_gives R.sorts (3 ∷ [])))))
 
   cell_sorted : Gives (cell_format R) (OfSort 3)
   unfolding cell_format
@@ -275,7 +273,7 @@ module _ (R : Reader) where
       go false e = g
 
   at_sort : (s k : ℕ) {F : Format Record} → Gives F (OfSort k) → nat_eq s k ≡ true → Gives F (OfSort s)
-  at_sort s k {F = F} f e = subst (λ n. Gives F (OfSort n)) (sym (equal_so s k e)) f
+  at_sort s k {F = F} f e = subst (λ n. Gives F (OfSort n)) (sym (equal_true s k e)) f
 
   record_gives : (s : ℕ) → Gives (record_format R s) (OfSort s)
   unfolding record_format
@@ -316,7 +314,7 @@ exactly_gives n kind = record { gives = λ met more x bytes rest e. ((tested_giv
 
 image_gives : (R : Reader) (n : ℕ) → Gives (image_format R n) (ImageRead R n)
 unfolding image_format
-image_gives R n = case_gives _ _ (λ y h. made_right R n y (equal_so n _ h.1.1.1.1.1.1.0.0 ∙ h.1.1.1.1.1.1.0.1.0, h.1.1.1.1.1.1.0.1.1, h.1.1.1.1.1.1.1.0, h.1.1.1.1.1.1.1.1))
+image_gives R n = case_gives _ _ (λ y h. made_right R n y (equal_true n _ h.1.1.1.1.1.1.0.0 ∙ h.1.1.1.1.1.1.0.1.0, h.1.1.1.1.1.1.0.1.1, h.1.1.1.1.1.1.1.0, h.1.1.1.1.1.1.1.1))
     (followed_gives (any_gives {F = exactly 76 1}) (λ _. followed_gives (any_gives {F = exactly 85 1}) (λ _. followed_gives (any_gives {F = exactly 73 1}) (λ _. followed_gives (any_gives {F = exactly 77 1}) (λ _. followed_gives (any_gives {F = exactly 1 2}) (λ _.
     followed_gives (any_gives {F = sorts_format}) (λ sorts.
     followed_gives (followed_gives (exactly_gives n 4) (λ m. times_gives m (item_gives (with_sorts R sorts)))) (λ _.

@@ -13,6 +13,7 @@ use Rattle.image_reading.specs.Reader.{RowKey, of_value, of_record, same_row_key
 use Rattle.lua_meaning.specs.Libraries.{environment_table}
 use Rattle.session_images.specs.Permanents.{base_permanents}
 use Rattle.images_joined.specs.Law.{ReaderKnows, SessionReaderKnows}
+use Rattle.list_laws.proofs.Tests.{eq_true}
 
 same_sort : (v : Value) → sort_of_object v ≡ object_sort v
 same_sort (known (primitive n)) = refl
@@ -22,12 +23,9 @@ abbrev key_becomes : RowKey → Becomes
 key_becomes (of_value v) = a_value v
 key_becomes (of_record n) = a_record n
 
-number_is : (m n : ℕ) → nat_eq m n ≡ true → m ≡ n
-number_is m n h = search (arith, h)
-
 one_key : (x y : RowKey) → same_row_key x y ≡ true → key_becomes x ≡ key_becomes y
 one_key (of_value v) (of_value w) e = ap a_value (value_is v w e)
-one_key (of_record m) (of_record n) e = ap a_record (number_is m n e)
+one_key (of_record m) (of_record n) e = ap a_record (eq_true m n e)
 one_key (of_value v) (of_record n) e = absurd (cc)
 one_key (of_record m) (of_value w) e = absurd (cc)
 

@@ -25,35 +25,27 @@ use Rattle.image_load.specs.Loads.{IsWritten}
 use Rattle.image_sound.specs.Fitting.{code_in, code_of_item, fits_instruction, fits_code, lua_fits, frame_fits, frames_in, lua_frame_in, register_there, record_fits, is_open_record, opened_again, opened_once, all_fit}
 use Rattle.images_stand.specs.Standing.{ArePermanents, Knows, KnowsCode, name}
 use Rattle.images_stand.proofs.Kept.{Named, by_environment, by_key, named_so, HasRecord, has_record, parts_are}
+use Rattle.list_laws.proofs.Tests.{both_true}
+use Rattle.machine_sound.proofs.Values.{lt_true}
+use Rattle.image_same.proofs.Order.{same_is}
+use Rattle.image_bytes.proofs.Back.{equal_true}
 
 some_so : {A : Type 0} {a b : A} → Some a ≡ Some b → a ≡ b
 some_so e = cc
-
-before_is : (a b : ℕ) → a < b → nat_lt a b ≡ true
-before_is a b h = search (arith, h)
-
-equal_is : (a b : ℕ) → a ≡ b → nat_eq a b ≡ true
-equal_is a b h = search (arith, h)
-
-equal_so : (a b : ℕ) → nat_eq a b ≡ true → a ≡ b
-equal_so a b h = search (arith, h)
-
-and_true : (a b : Bool) → a ≡ true → b ≡ true → (a && b) ≡ true
-and_true a b e f = rw (e, f) refl
 
 and_four : (a b c d : Bool) → a ≡ true → b ≡ true → c ≡ true → d ≡ true → (a && (b && (c && d))) ≡ true
 and_four a b c d e f g h = rw (e, f, g, h) refl
 
 all_below : (rs : List ℕ) (n : ℕ) → Each (λ r. r < n) rs → list_all (λ r. nat_lt r n) rs ≡ true
 all_below [] n h = refl
-all_below (r ∷ rs) n h = and_true (nat_lt r n) (list_all (λ r. nat_lt r n) rs) (before_is r n (h 0 r refl)) (all_below rs n (λ i x e. h (suc i) x e))
+all_below (r ∷ rs) n h = both_true (nat_lt r n) (list_all (λ r. nat_lt r n) rs) (lt_true r n (h 0 r refl)) (all_below rs n (λ i x e. h (suc i) x e))
 
 -- which records are open cells
 open_is : (k frame register : ℕ) (r : Record) → is_open_record k frame register r ≡ true → r ≡ open_record k frame register
 open_is k frame register (open_record c f g) h =
     let a = and_parts (nat_eq k c) (nat_eq frame f && nat_eq register g) h in
     let b = and_parts (nat_eq frame f) (nat_eq register g) a.1 in
-    sym (ap (λ x. open_record x frame register) (equal_so k c a.0) ∙ (ap (λ x. open_record c x register) (equal_so frame f b.0) ∙ ap (λ x. open_record c f x) (equal_so register g b.1)))
+    sym (ap (λ x. open_record x frame register) (equal_true k c a.0) ∙ (ap (λ x. open_record c x register) (equal_true frame f b.0) ∙ ap (λ x. open_record c f x) (equal_true register g b.1)))
 open_is k frame register _ h = absurd (cc)
 
 module _ (W : World) (perms : List Perm) (roots : List Value) (R : Reader) (primitives : ℕ) (are : ArePermanents perms) (knows : Knows W.prelude_environment perms R)
@@ -132,7 +124,7 @@ module _ (W : World) (perms : List Perm) (roots : List Value) (R : Reader) (prim
         ]) w.is_opcode
         ∙ and_four (waits_at (wait_item N f.wait) w.opcode w.instruction) (nat_eq (length (map (item N) f.own.registers)) (waiting_size (wait_item N f.wait) w.instruction stack)) (list_all (λ r. nat_lt r stack) f.own.pending)
         (list_all (λ r. nat_lt r (kept_below (wait_item N f.wait) w.instruction stack)) f.own.pending)
-        (waits_item f.wait w.opcode w.instruction ∙ w.fits) (equal_is (length (map (item N) f.own.registers)) (waiting_size (wait_item N f.wait) w.instruction stack) (length-map f.own.registers (item N) ∙ (w.size ∙ sym (size_item f.wait w.instruction stack))))
+        (waits_item f.wait w.opcode w.instruction ∙ w.fits) (same_is (length (map (item N) f.own.registers)) (waiting_size (wait_item N f.wait) w.instruction stack) (length-map f.own.registers (item N) ∙ (w.size ∙ sym (size_item f.wait w.instruction stack))))
         (all_below f.own.pending stack (subst (λ (g : Function). Each (λ r. r < g.code.own.stack) f.own.pending) same h.pending))
         (all_below f.own.pending (kept_below (wait_item N f.wait) w.instruction stack) (subst (λ n. Each (λ r. r < n) f.own.pending) (sym (kept_item f.wait w.instruction stack)) w.kept))))
 
@@ -144,7 +136,7 @@ module _ (W : World) (perms : List Perm) (roots : List Value) (R : Reader) (prim
     frames_fit [] h w m = refl
     frames_fit (f ∷ fs) h w m =
         let g = every_front FieldMet (frame_fields f) (flat_map frame_fields fs) m in
-        and_true (frame_fits code_named Rs (frame_item N f)) (list_all (frame_fits code_named Rs) (map (frame_item N) fs)) (frame_fit f (h 0 f refl) (w 0 f refl) g.0)
+        both_true (frame_fits code_named Rs (frame_item N f)) (list_all (frame_fits code_named Rs) (map (frame_item N) fs)) (frame_fit f (h 0 f refl) (w 0 f refl) g.0)
         (frames_fit fs (λ i x e. h (suc i) x e) (λ i x e. w (suc i) x e) g.1)
 
     coroutine_fit : (c : Coroutine) → CoroutineOk (sizes primitives W) c → Every FieldMet (coroutine_fields c) → record_fits code_named Rs (record_of_coroutine N c) ≡ true
@@ -161,7 +153,7 @@ module _ (W : World) (perms : List Perm) (roots : List Value) (R : Reader) (prim
     lua_there n frames frame register f e g l =
         ap (λ o. if_there_so register (bind (bind (bind o frames_in) (λ fs. slice_get fs frame)) lua_frame_in)) e
         ∙ (ap (λ o. if_there_so register (bind o lua_frame_in)) (get_map (frame_item N) frames frame (lua f) g)
-        ∙ before_is register (length (map (item N) f.own.registers)) (let c = length-map f.own.registers (item N) in omega (arith, c, l)))
+        ∙ lt_true register (length (map (item N) f.own.registers)) (let c = length-map f.own.registers (item N) in omega (arith, c, l)))
 
     frames_there : (n : ℕ) (frames : List Frame) (frame register : ℕ) → slice_get Rs n ≡ Some (suspended_record (map (frame_item N) frames)) → register < registers_in frames frame → register_there Rs n frame register ≡ true
     frames_there n frames frame register e l = by (slice_get frames frame) refl l
@@ -224,7 +216,7 @@ module _ (W : World) (perms : List Perm) (roots : List Value) (R : Reader) (prim
 
     records_fit : (ps : List Part) → Every Met ps → list_all (record_fits code_named Rs) (map (record_of N W) ps) ≡ true
     records_fit [] m = refl
-    records_fit (o ∷ ps) m = and_true (record_fits code_named Rs (record_of N W o)) (list_all (record_fits code_named Rs) (map (record_of N W) ps)) (record_fit o m.0) (records_fit ps m.1)
+    records_fit (o ∷ ps) m = both_true (record_fits code_named Rs (record_of N W o)) (list_all (record_fits code_named Rs) (map (record_of N W) ps)) (record_fit o m.0) (records_fit ps m.1)
 
     -- each register is open once
 
@@ -318,7 +310,7 @@ module _ (W : World) (perms : List Perm) (roots : List Value) (R : Reader) (prim
     all_once : (ps : List Part) → Every Met ps → Once ps → opened_once (map (record_of N W) ps) ≡ true
     all_once [] m once = refl
     all_once (o ∷ ps) m once =
-        and_true (not (opened_again (record_of N W o) (map (record_of N W) ps))) (opened_once (map (record_of N W) ps)) (ap not (not_again o m.0 ps m.1 (λ j g. not_first j (once 0 (suc j) o refl g))))
+        both_true (not (opened_again (record_of N W o) (map (record_of N W) ps))) (opened_once (map (record_of N W) ps)) (ap not (not_again o m.0 ps m.1 (λ j g. not_first j (once 0 (suc j) o refl g))))
         (all_once ps m.1 (λ i j q a b. less (once (suc i) (suc j) q a b)))
       where
         not_first : (j : ℕ) → 0 ≡ suc j → ⊥
@@ -332,5 +324,5 @@ module _ (W : World) (perms : List Perm) (roots : List Value) (R : Reader) (prim
 
     pub written_fits : all_fit code_named Rs ≡ true
     written_fits =
-        and_true (list_all (record_fits code_named Rs) Rs) (opened_once Rs) (records_fit Order all_met)
+        both_true (list_all (record_fits code_named Rs) Rs) (opened_once Rs) (records_fit Order all_met)
         (all_once Order all_met (order_once same_part part_tells part_self (parts W Nm inside) greatest_count (flat_map (λ v. field_parts Nm (of_value v)) roots)))

@@ -9,7 +9,8 @@ use Rattle.image_core.specs.Numbers.{meeting, item_numbers}
 use Rattle.image_bytes.specs.Format.{allowed, word, raw, when}
 use Rattle.image_bytes.specs.Bytes.{Reader, text, key, sort_at, reference, is_sort, named_key, item_body, item_format, only}
 use Rattle.images_stand.specs.Standing.{KeyFits}
-use Rattle.images_stand.proofs.Walks.{Walks, Costs, before_is, word_walks, integer_walks, raw_walks, nothing_walks, followed_walks, tested_walks, case_walks, tagged_walks, tagged_costs}
+use Rattle.images_stand.proofs.Walks.{Walks, Costs, word_walks, integer_walks, raw_walks, nothing_walks, followed_walks, tested_walks, case_walks, tagged_walks, tagged_costs}
+use Rattle.machine_sound.proofs.Values.{lt_true}
 
 text_below : (n : ℕ) → n ≤ greatest_string → n < 2 ^ 32
 text_below n h = omega (arith, h)
@@ -38,7 +39,7 @@ unfolding reference word
 reference_walks sorts wanted n h = record {
   walks = λ met small.
       ap (λ b. cond b (bind (word.after met n) (λ m. meeting (length sorts) m n)) None) h.1
-      ∙ (ap (λ b. bind (allowed b met) (λ m. meeting (length sorts) m n)) (before_is n (2 ^ 32) h.0) ∙ sym (the_last (meeting (length sorts) met n)));
+      ∙ (ap (λ b. bind (allowed b met) (λ m. meeting (length sorts) m n)) (lt_true n (2 ^ 32) h.0) ∙ sym (the_last (meeting (length sorts) met n)));
 }
 
 module _ (R : Reader) where

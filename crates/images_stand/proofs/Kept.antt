@@ -36,6 +36,7 @@ use Rattle.images_stand.specs.Standing.{IsObject, KeyFits, ArePermanents, PlainI
 use Rattle.images_stand.proofs.Items.{Refers, PlainStands, ItemStands}
 use Rattle.images_stand.proofs.Records.{Stand, RowStands, AreNew, WaitStands, LuaStands, ErrorStands, FrameStands, RecordStands, registers_bound}
 use Rattle.image_saved.proofs.Names.{KeyFrom, key_found}
+use Rattle.image_bytes.proofs.Back.{below_true}
 
 some_so : {A : Type 0} {a b : A} → Some a ≡ Some b → a ≡ b
 some_so e = cc
@@ -49,23 +50,20 @@ every_two P Q (x ∷ xs) h k = ((h.0, k.0), every_two P Q xs h.1 k.1)
 pub code_writable : (p : Prototype) → IsChecked p → is_writable p ≡ true
 code_writable p h = described_is_writable p h.code.described
 
-below_so : (a b : ℕ) → nat_lt a b ≡ true → a < b
-below_so a b h = search (arith, h)
-
 own_fits : (p : Prototype) → IsChecked p → parts_fit p.own ≡ true
 own_fits p h = first_of_two (parts_fit p.own) _ (code_writable p h)
 
 pub stack_small : (p : Prototype) → IsChecked p → p.own.stack < 2 ^ 32
 stack_small p h =
     let a = rest_of (byte_fits p.own.params) (rest_of (number_fits p.own.last_line) (rest_of (number_fits p.own.line_defined) (rest_of (name_fits p.own.source) (own_fits p h)))) in
-    let b = below_so p.own.stack (2 ^ 8) (first_of_two (byte_fits p.own.stack) _ a) in
+    let b = below_true p.own.stack (2 ^ 8) (first_of_two (byte_fits p.own.stack) _ a) in
     omega (arith, b)
 
 code_small : (p : Prototype) → IsChecked p → length p.own.code < 2 ^ 31
 code_small p h =
     let a = rest_of (byte_fits p.own.params) (rest_of (number_fits p.own.last_line) (rest_of (number_fits p.own.line_defined) (rest_of (name_fits p.own.source) (own_fits p h)))) in
     let b = first_of_two (lists_fit p.own) _ (rest_of (byte_fits p.own.stack) a) in
-    below_so (length p.own.code) (2 ^ 31) (first_of_two (list_fits p.own.code) _ b)
+    below_true (length p.own.code) (2 ^ 31) (first_of_two (list_fits p.own.code) _ b)
 
 pub place_small : (p : Prototype) → IsChecked p → (pc : ℕ) (w : Instruction) → at p pc ≡ Some w → pc < 2 ^ 32
 place_small p h pc w e = let a = code_small p h in let b = slice_get_within p.own.code pc w e in omega (arith, a, b)

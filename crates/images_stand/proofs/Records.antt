@@ -13,16 +13,14 @@ use Rattle.image_core.proofs.Lists.{Every, every_on}
 use Rattle.image_bytes.specs.Format.{byte, word, raw, followed, tested, case, tagged, when, spell_all, times, list_by, list}
 use Rattle.image_bytes.specs.Bytes.{Reader, reference, item_format, is_table_or_nil, is_function_item, only, is_new_key, row_after, spell_rows, after_rows, rows_format, table_format, blob, code_format, function_format, cell_format, wait_number, wait_rest, plain_wait, LuaParts, lua_parts, parts_where, lua_format, error_format, frame_format, coroutine_format, record_format, spell_records, after_records, sort_byte}
 use Rattle.images_stand.proofs.Items.{Refers, reference_walks, ItemStands, item_walks, item_costs, only_walks}
-use Rattle.images_stand.proofs.Walks.{bind_same, walk_append, self_is, Walks, byte_walks, word_walks, raw_walks, nothing_walks, followed_walks, tested_walks, case_walks, tagged_walks, word_costs, fewer, times_walks, spelled_list, list_by_walks, list_walks, quiet, walks_as}
+use Rattle.images_stand.proofs.Walks.{bind_same, walk_append, Walks, byte_walks, word_walks, raw_walks, nothing_walks, followed_walks, tested_walks, case_walks, tagged_walks, word_costs, fewer, times_walks, spelled_list, list_by_walks, list_walks, quiet, walks_as}
+use Rattle.list_laws.proofs.Tests.{eq_refl, both_true}
 
 pub sooner : (n : ℕ) (xs ys : List ℕ) → n ≤ length xs → n ≤ length (xs ++ ys)
 sooner n xs ys h = let l = length-append xs ys in omega (arith, l, h)
 
 pub later : (n : ℕ) (xs ys : List ℕ) → n ≤ length ys → n ≤ length (xs ++ ys)
 later n xs ys h = let l = length-append xs ys in omega (arith, l, h)
-
-both_true : (a b : Bool) → a ≡ true → b ≡ true → (a && b) ≡ true
-both_true a b e f = rw (e, f) refl
 
 some_so : {A : Type 0} {a b : A} → Some a ≡ Some b → a ≡ b
 some_so e = cc
@@ -134,7 +132,7 @@ module _ (R : Reader) where
   cells_walk cells h = every_on (Refers R.sorts (3 ∷ [])) (λ c. Walks (length R.sorts) (reference R.sorts (3 ∷ [])) c (c ∷ [])) (reference_walks R.sorts (3 ∷ [])) cells h
 
   upvalues_are : (m n : ℕ) → m ≡ n → nat_eq m n ≡ true
-  upvalues_are m n e = subst (λ n. nat_eq m n ≡ true) e (self_is m)
+  upvalues_are m n e = subst (λ n. nat_eq m n ≡ true) e (eq_refl m)
 
   function_walks : (code : Prototype) (cells : List ℕ) → R.is_checked code ≡ true → is_writable code ≡ true → length code.own.upvalues ≡ length cells → Every (Refers R.sorts (3 ∷ [])) cells
       → Walks (length R.sorts) (function_format R) (function_record code cells) cells

@@ -24,11 +24,12 @@ use Rattle.session_images.specs.Permanents.{by_keys, primitive_value, function_v
 use Rattle.session_images.specs.Laws.{IsLibrary}
 use Rattle.session_images.specs.Prelude.{HasFunctions}
 use Rattle.session_images.specs.Saved.{IsSmall}
-use Rattle.session_images.proofs.Keys.{after_unkeyed, base_inverse}
+use Rattle.session_images.proofs.Keys.{after_unkeyed, base_inverse, primitives_unkeyed}
 use Rattle.session_images.proofs.Resuming.{idle_apart, roots_valid}
 use Rattle.images_stand.specs.Standing.{IsObject, KeyFits, ArePermanents, IsHeldWhole, Knows, KnowsCode}
 use Rattle.images_stand.specs.Sessions.{IsKept, KnowsLibraries, KnowsPrelude, SessionsStand, SessionsAccepted}
 use Rattle.images_stand.proofs.Stand.{written_images_stand, written_images_accepted}
+use Rattle.image_bytes.proofs.Back.{equal_true}
 
 abbrev IsRight : Perm → Type 0
 IsRight p = IsObject p.object × KeyFits p.key
@@ -64,20 +65,13 @@ base_are = record {
 
 -- of functions the prelude's alone have keys
 
-primitives_unkeyed : (n : ℕ) (keys : List (List ℕ)) (kind : Kind) (m : ℕ) → key_of (by_keys primitive_value n keys) (object kind m) ≡ None
-primitives_unkeyed n [] kind m = refl
-primitives_unkeyed n (key ∷ keys) kind m = primitives_unkeyed (suc n) keys kind m
-
-equal_so : (a b : ℕ) → nat_eq a b ≡ true → a ≡ b
-equal_so a b h = search (arith, h)
-
 function_unkeyed : (n : ℕ) (keys : List (List ℕ)) (m : ℕ) → n + length keys ≤ m → key_of (by_keys function_value n keys) (object a_function m) ≡ None
 function_unkeyed n [] m h = refl
 function_unkeyed n (key ∷ keys) m h = by (nat_eq n m) refl (function_unkeyed (suc n) keys m (omega (arith, h)))
   where
     by : (b : Bool) → nat_eq n m ≡ b → key_of (by_keys function_value (suc n) keys) (object a_function m) ≡ None → cond b (Some (text_key key)) (key_of (by_keys function_value (suc n) keys) (object a_function m)) ≡ None
     by false e again = again
-    by true e again = let same = equal_so n m e in absurd (omega (arith, same, h))
+    by true e again = let same = equal_true n m e in absurd (omega (arith, same, h))
 
 base_unkeyed : (m : ℕ) → length function_keys ≤ m → key_of base_permanents (object a_function m) ≡ None
 unfolding base_permanents

@@ -8,6 +8,8 @@ use Rattle.int_core.specs.Value.{bind}
 use Rattle.image_core.specs.Numbers.{meeting, walk}
 use Rattle.image_core.proofs.Lists.{Every}
 use Rattle.image_bytes.specs.Format.{Fault, Format, allowed, byte, word, integer_of, raw, nothing, followed, tested, spell_case, case, tagged, spell_all, after_times, times, list_by, list}
+use Rattle.list_laws.proofs.Tests.{eq_refl}
+use Rattle.machine_sound.proofs.Values.{lt_true}
 
 pub bind_same : {A B : Type 0} (o : Option A) (f g : A → Option B) → ((a : A) → f a ≡ g a) → bind o f ≡ bind o g
 bind_same None f g h = refl
@@ -21,12 +23,6 @@ walk_append count met (n ∷ ms) ns = by (meeting count met n) (λ m. walk_appen
     by None again = refl
     by (Some m) again = again m
 
-pub before_is : (a b : ℕ) → a < b → nat_lt a b ≡ true
-before_is a b h = search (arith, h)
-
-pub self_is : (n : ℕ) → nat_eq n n ≡ true
-self_is n = search arith
-
 pub record Walks {A : Type 0} (count : ℕ) (F : Format A) (x : A) (ns : List ℕ) : Type 0 where
   pub walks : (met : ℕ) → length (F.spell x) < 2 ^ 32 → F.after met x ≡ walk count met ns
 
@@ -38,7 +34,7 @@ byte_walks n = record { walks = λ met small. refl }
 
 pub word_walks : {count : ℕ} (n : ℕ) → n < 2 ^ 32 → Walks count word n []
 unfolding word
-word_walks n h = record { walks = λ met small. ap (λ b. allowed b met) (before_is n (2 ^ 32) h) }
+word_walks n h = record { walks = λ met small. ap (λ b. allowed b met) (lt_true n (2 ^ 32) h) }
 
 pub integer_walks : {count : ℕ} (n : ℤ) → signed_fits 63 n ≡ true → Walks count integer_of n []
 unfolding integer_of
@@ -46,7 +42,7 @@ integer_walks n h = record { walks = λ met small. ap (λ b. allowed b met) h }
 
 pub raw_walks : {count : ℕ} (s : List ℕ) → Walks count (raw (length s)) s []
 unfolding raw
-raw_walks s = record { walks = λ met small. ap (λ b. allowed b met) (self_is (length s)) }
+raw_walks s = record { walks = λ met small. ap (λ b. allowed b met) (eq_refl (length s)) }
 
 pub nothing_walks : {count : ℕ} (x : Unit {0}) → Walks count nothing x []
 unfolding nothing

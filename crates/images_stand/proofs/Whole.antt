@@ -10,7 +10,8 @@ use Rattle.image_bytes.specs.Format.{Format, of_kind, byte, word, followed, test
 use Rattle.image_bytes.specs.Bytes.{Reader, item_format, spell_records, records_format, sort_byte, exactly, sorts_format, with_sorts, image_format}
 use Rattle.image_same.specs.Same.{InOrder}
 use Rattle.images_stand.proofs.Records.{later, Stand, items_walk, RecordStands, records_after}
-use Rattle.images_stand.proofs.Walks.{self_is, Walks, byte_walks, word_walks, tested_walks, byte_costs, tested_costs, fewer, times_walks, list_by_walks, quiet, walks_as}
+use Rattle.images_stand.proofs.Walks.{Walks, byte_walks, word_walks, tested_walks, byte_costs, tested_costs, fewer, times_walks, list_by_walks, quiet, walks_as}
+use Rattle.list_laws.proofs.Tests.{eq_refl}
 
 case_after : {A B : Type 0} (made : B → A) (of : A → Option B) (F : Format B) (x : A) (y : B) (met n : ℕ) → of x ≡ Some y → F.after met y ≡ Some n → (case made of F).after met x ≡ Some n
 unfolding case
@@ -90,7 +91,7 @@ module _ (R : Reader) (I : Image) where
 
     root_count_after : (exactly (length I.roots) 4).after 0 (length I.roots) ≡ Some 0
     unfolding exactly tested byte
-    root_count_after = ap (λ b. cond b (Some 0) None) (self_is (length I.roots))
+    root_count_after = ap (λ b. cond b (Some 0) None) (eq_refl (length I.roots))
 
     pub image_after : (image_format R (length I.roots)).after 0 I ≡ Some (length I.records)
     unfolding image_format exactly tested byte

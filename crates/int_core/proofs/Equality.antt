@@ -7,10 +7,10 @@ use Rattle.std.proofs.lemmas.Slice.Eq.{bytes_eq-Decides}
 use Rattle.int_core.specs.Value.{Plain, nil, boolean, integer, string, primitive, Kind, a_table, a_function, a_coroutine, Value, known, object, same, same_plain, same_kind, same_integer, same_truth, table_values}
 use Rattle.int_core.proofs.RowsLemmas.{AreValues}
 
-number_is : (m n : ℕ) → nat_eq m n ≡ true → m ≡ n
+pub number_is : (m n : ℕ) → nat_eq m n ≡ true → m ≡ n
 number_is m n h = grind (arith, nat_tests)
 
-number_self : (n : ℕ) → nat_eq n n ≡ true
+pub number_self : (n : ℕ) → nat_eq n n ≡ true
 number_self n = grind (arith, nat_tests)
 
 pub integer_is : (m n : ℤ) → same_integer m n ≡ true → m ≡ n

@@ -12,7 +12,7 @@ use Rattle.int_core.specs.Numeral.{signed, digits_value, integer_within}
 use Rattle.int_core.proofs.WrappedLemmas.{wrapped-pos, wrapped-pos_below}
 use Rattle.int_core.proofs.FloorLemmas.{wrapped-neg}
 
-digits_value-more : (base : ℕ) (digits : List ℕ) (i : ℕ) → i < length digits → digits_value base (take (i + 1) digits) ≡ digits_value base (take i digits) * base + digit_value (get_or digits i 0)
+pub digits_value-more : (base : ℕ) (digits : List ℕ) (i : ℕ) → i < length digits → digits_value base (take (i + 1) digits) ≡ digits_value base (take i digits) * base + digit_value (get_or digits i 0)
 digits_value-more base digits i h = fold_more (λ n c. n * base + digit_value c) 0 digits i 0 h
 
 pub digit-below : (base c : ℕ) → is_digit c base ≡ true → digit_value c < base

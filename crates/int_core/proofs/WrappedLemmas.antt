@@ -16,7 +16,7 @@ wrapped-pos n = refl
 pub wrapped-pos_below : (n : ℕ) → n < 2 ^ 64 → int_wrap w64 (pos n) ≡ cast_signed w64 n
 wrapped-pos_below n h = wrapped-pos n ∙ ap (cast_signed w64) (mod-eq_of_lt h)
 
-bits-below : (a : ℤ) → FitsSigned w64 a → cast_unsigned w64 a < 2 ^ 64
+pub bits-below : (a : ℤ) → FitsSigned w64 a → cast_unsigned w64 a < 2 ^ 64
 bits-below (pos n) fits = omega (arith, fits.sfits)
 bits-below (negsuc n) fits = omega arith
 

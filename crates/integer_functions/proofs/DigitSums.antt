@@ -6,9 +6,7 @@ use Rattle.std.specs.Char.{digit_value}
 use Rattle.int_core.specs.Arithmetic.{wrapped}
 use Rattle.int_core.specs.Numeral.{digits_value, digits_of, signed}
 use Rattle.library_rows.specs.Strings.{unsigned_in}
-
-digits_value-more : (base : ℕ) (digits : List ℕ) (i : ℕ) → i < length digits → digits_value base (take (i + 1) digits) ≡ digits_value base (take i digits) * base + digit_value (get_or digits i 0)
-digits_value-more base digits i h = fold_more (λ n c. n * base + digit_value c) 0 digits i 0 h
+use Rattle.int_core.proofs.NumeralLemmas.{digits_value-more}
 
 sum_step : (p q d : ℕ) → p % 2 ^ 64 ≡ q % 2 ^ 64 → (p % 2 ^ 64 + d) % 2 ^ 64 ≡ (q + d) % 2 ^ 64
 sum_step p q d e = omega arith

@@ -18,10 +18,7 @@ use Rattle.table_core.specs.declared.value.TableId.{TableId}
 use Rattle.lib_base.specs.Expanding.{IsExpanded}
 use Rattle.lib_base.specs.Lists.{items_from}
 use Rattle.lib_base.proofs.JoinRows.{reads_shapes_are}
-
-written_out : (env : List Value) (ps : List Plain) → args_of env (map written ps) ≡ map known ps
-written_out env [] = refl
-written_out env (p ∷ ps) = ap (λ vs. known p ∷ vs) (written_out env ps)
+use Rattle.library_rows.proofs.Plain.{written_out}
 
 told_is : (o : Outcome) (env : List Value) (H : Heap) → looked (told_as o) env H ≡ done_as H o
 told_is (error text) env H = refl

@@ -68,11 +68,11 @@ few_seen (v ∷ w ∷ x ∷ y ∷ z ∷ vs) a b c d h e f g k = absurd (omega (a
 
 -- written values, one after another
 
-first_of : (b c : Bool) → (b && c) ≡ true → b ≡ true
+pub first_of : (b c : Bool) → (b && c) ≡ true → b ≡ true
 first_of true c h = refl
 first_of false c h = absurd (cc)
 
-second_of : (b c : Bool) → (b && c) ≡ true → c ≡ true
+pub second_of : (b c : Bool) → (b && c) ≡ true → c ≡ true
 second_of true c h = h
 second_of false c h = absurd (cc)
 

@@ -13,7 +13,7 @@ use Rattle.lua_heap.specs.Reading.{value}
 use Rattle.lib_base.specs.Raw.{heap_of, Operates, table_or_nil}
 use Rattle.lib_base.specs.Metatables.{field_or, IsMetatableArgument, IsNoMetatable}
 
-present : (texts : List (List ℕ)) (v : Kept) → (v ≡ Nil → ⊥) → is_absent (shape (value texts v)) ≡ false
+pub present : (texts : List (List ℕ)) (v : Kept) → (v ≡ Nil → ⊥) → is_absent (shape (value texts v)) ≡ false
 present texts Nil h = absurd (h refl)
 present texts _ h = refl
 

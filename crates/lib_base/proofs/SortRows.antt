@@ -40,6 +40,7 @@ use Rattle.lib_base.proofs.JoinRows.{reads_shapes_are}
 use Rattle.lib_base.proofs.ListRows.{behind, pushed}
 use Rattle.lib_base.proofs.Seen.{or_nil_valid, there}
 use Rattle.lib_base.proofs.Sorted.{at_most, integers_sorted, rises_map, rises_of, texts_sorted}
+use Rattle.lib_base.proofs.Meaning.{first_of, second_of}
 
 -- what the row sees of values
 
@@ -94,14 +95,6 @@ module _ (texts : List (List ℕ)) {K : Type 0} (key : Kept → K) (made : K →
   in_order old new h p s =
       values new (recursion_from_All IsMade new (All-permutation IsMade old new p (All-from_recursion IsMade old h)))
       ∙ ap (map known) (sym s ∙ ap sorted (sym (plains old h)))
-
-first_of : (b c : Bool) → (b && c) ≡ true → b ≡ true
-first_of true c h = refl
-first_of false c h = absurd (cc)
-
-second_of : (b c : Bool) → (b && c) ≡ true → c ≡ true
-second_of true c h = h
-second_of false c h = absurd (cc)
 
 integer_made : (texts : List (List ℕ)) (v : Kept) → is_integer v ≡ true → IsMade texts number_of integer v
 integer_made texts (Int n) e = refl
@@ -245,10 +238,6 @@ module _ (vs : List Value) (H : Heap) (id : TableId) (e : nth vs 0 ≡ object a_
         where
           plus_zero : (n : ℕ) → n + zero ≡ n
           plus_zero n = omega arith
-
-pub no_nil : (texts : List (List ℕ)) (v : Kept) → (v ≡ Nil → ⊥) → is_absent (shape (value texts v)) ≡ false
-no_nil texts Nil h = absurd (h refl)
-no_nil texts _ h = refl
 
 -- all of a list is put back
 pub put_back_whole : {A : Type 0} (old new : List A) (n : ℕ) → length new ≡ length old → n ≡ length old → take n (new ++ drop (length new) old) ≡ new

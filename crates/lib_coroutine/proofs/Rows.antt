@@ -20,6 +20,7 @@ use Rattle.lua_heap.specs.Plain.{plain}
 use Rattle.move_laws.specs.Memory.{Leads, Makes}
 use Rattle.move_laws.proofs.Rows.{act_is}
 use Rattle.lib_coroutine.specs.Arguments.{can_be_called, coroutine_in}
+use Rattle.machine_errors.proofs.Calls.{nth_behind}
 
 -- worlds in which something else moves
 
@@ -146,10 +147,6 @@ created_is V v e f g =
     ∙ ap (λ b. cond b (made (add_coroutine V0 v) (object a_coroutine (length V.coroutines) ∷ []) tt) None) g)
     ∙ ap (run hand_over (E ++ object a_coroutine (length V.coroutines) ∷ [] ++ [])) (added_moving V v [] (nth (E ++ object a_coroutine (length V.coroutines) ∷ []) (length E) ∷ []))
 
-behind_first : (env vs : List Value) → nth (env ++ vs) (length env) ≡ nth vs 0
-behind_first [] vs = refl
-behind_first (v ∷ env) vs = behind_first env vs
-
 pub callable : (texts : List (List ℕ)) (v : Kept) → can_be_called v ≡ true → (can_call (shape (value texts v)) ≡ true) × (is_function (value texts v) ≡ true)
 callable texts (Prim n) e = (refl, refl)
 callable texts (Func id) e = (refl, refl)
@@ -174,6 +171,6 @@ create_leads {old} {mid} {new} {ending} v id e f g m k h = record {
       let n = object a_coroutine (length V.coroutines) in
       let both = made_world (sym (ap (λ b. cond b (made (add_coroutine V v) (n ∷ []) tt) None) g) ∙ m.is fuel) in
       let same : with_moving (add_coroutine V v) (nth (E ++ n ∷ []) (length E) ∷ []) ≡ plain new fuel =
-      ap (λ x. with_moving (add_coroutine V v) (x ∷ [])) (behind_first E (n ∷ []) ∙ both.1) ∙ ap (λ W. with_moving W (object a_coroutine id ∷ [])) both.0 ∙ sym (given_is (read 0 ∷ []) k fuel) in
+      ap (λ x. with_moving (add_coroutine V v) (x ∷ [])) (nth_behind E (n ∷ []) ∙ both.1) ∙ ap (λ W. with_moving W (object a_coroutine id ∷ [])) both.0 ∙ sym (given_is (read 0 ∷ []) k fuel) in
       created_is V v e f g ∙ ap (run hand_over (E ++ n ∷ [] ++ [])) same ∙ (h (E ++ n ∷ [] ++ [])).is fuel;
 }

@@ -97,10 +97,6 @@ now_runs old new co stack there h g =
       is = ap stack_of (g.is 0 h.stack h.is) ∙ in_progress_there (wait_for_another V h.stack) co.0 fs (suspended fs) (after_wait V h.stack co.0 d ∙ k);
     }
 
-pub woken_listed : (cells : List KeptCell) (coros : List Coro) (co : ℕ) (c d : Coro) → slice_get coros co ≡ Some c → open_cells_in d ≡ open_cells_in c → AreListed cells (map open_cells_in coros)
-    → AreListed cells (map open_cells_in (slice_set coros co d))
-woken_listed cells coros co c d e f = subst (AreListed cells) (sym (map_set open_cells_in coros co c d e f))
-
 -- one that has not begun
 
 not_fresh : (fs : List Frame) (body : Value) (o : Option Coroutine) → o ≡ Some (in_progress fs) → o ≡ Some (fresh body) → ⊥

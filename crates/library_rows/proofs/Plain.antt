@@ -26,7 +26,7 @@ unfolding shapes
 all_shapes [] = refl
 all_shapes (v ∷ vs) = ap (λ ss. shape v ∷ ss) (shifted (length vs) 0 v vs ∙ all_shapes vs)
 
-written_out : (env : List Value) (ps : List Plain) → args_of env (map written ps) ≡ map known ps
+pub written_out : (env : List Value) (ps : List Plain) → args_of env (map written ps) ≡ map known ps
 written_out env [] = refl
 written_out env (p ∷ ps) = ap (λ vs. known p ∷ vs) (written_out env ps)
 

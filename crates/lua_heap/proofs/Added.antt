@@ -14,7 +14,7 @@ use Rattle.machine_core.specs.World.{World}
 use Rattle.machine_sound.specs.Sound.{Sizes, sizes, Each, FunctionOk, Solid}
 use Rattle.machine_sound.proofs.Lists.{get_front}
 use Rattle.machine_sound.proofs.Values.{both_of}
-use Rattle.list_laws.proofs.Tests.{split}
+use Rattle.list_laws.proofs.Tests.{split, both_true}
 use Rattle.list_laws.proofs.Items.{append_nil, some_same, get_either}
 use Rattle.table_core.specs.declared.value.ProtoId.{ProtoId}
 use Rattle.table_core.specs.declared.value.Value.{Value as Kept}
@@ -60,14 +60,10 @@ kept_on P step old new b h = subst P (sym b.is) (grown P step old b.more h)
 
 -- constants
 
-and_true : (a b : Bool) → a ≡ true → b ≡ true → (a && b) ≡ true
-and_true true b e f = f
-and_true false b e f = e
-
 pub fits_take : (n : ℕ) (ks : List Const) → list_all constant_fits ks ≡ true → list_all constant_fits (take n ks) ≡ true
 fits_take zero ks h = refl
 fits_take (suc n) [] h = refl
-fits_take (suc n) (k ∷ ks) h = let b = both_of (constant_fits k) (list_all constant_fits ks) h in and_true (constant_fits k) (list_all constant_fits (take n ks)) b.0 (fits_take n ks b.1)
+fits_take (suc n) (k ∷ ks) h = let b = both_of (constant_fits k) (list_all constant_fits ks) h in both_true (constant_fits k) (list_all constant_fits (take n ks)) b.0 (fits_take n ks b.1)
 
 abbrev AreValues : List (List ℕ) → List Kept → List Const → Type 0
 AreValues texts vs ks = map (value texts) vs ≡ map (λ k. known (constant k)) ks

@@ -22,6 +22,8 @@ use Rattle.lua_heap.specs.Plain.{cell, coroutine, plain}
 use Rattle.lua_heap.specs.Cells.{open_cells_in, AreListed, CellsAreListed, IsOnce}
 use Rattle.lua_heap.specs.Captures.{OpensOnTop, cell_on_top, with_open_cell}
 use Rattle.lua_heap.proofs.Resumed.{IsRunning, is_running, set_cases, set_own}
+use Rattle.code_core.proofs.CheckedLemmas.{both}
+use Rattle.lua_stack.proofs.OpenCells.{none_below}
 
 -- a stack's own list, where a cell is put in
 
@@ -31,13 +33,9 @@ is_at frame register c = nat_eq c.frame frame && nat_eq c.register register
 pub self_at : (c : OpenCell) → is_at c.frame c.register c ≡ true
 self_at c = ap (λ b. b && nat_eq c.register c.register) (eq_refl c.frame) ∙ eq_refl c.register
 
-both_true : (a b : Bool) → (a && b) ≡ true → (a ≡ true) × (b ≡ true)
-both_true true b h = (refl, h)
-both_true false b h = absurd (cc)
-
 pub at_is : (frame register : ℕ) (c : OpenCell) → is_at frame register c ≡ true → (c.frame ≡ frame) × (c.register ≡ register)
 at_is frame register c h =
-    let b = both_true (nat_eq c.frame frame) (nat_eq c.register register) h in
+    let b = both (nat_eq c.frame frame) (nat_eq c.register register) h in
     (eq_true c.frame frame b.0, eq_true c.register register b.1)
 
 below_not : (frame register : ℕ) (c : OpenCell) → IsBelow frame register c → is_at frame register c ≡ true → ⊥
@@ -51,12 +49,6 @@ below_not frame register c b h =
 pub by_test : {A : Type 0} (b : Bool) → (b ≡ true → A) → (b ≡ false → A) → A
 by_test true f g = f refl
 by_test false f g = g refl
-
-none_below : (frame register : ℕ) (cs ds : List OpenCell) → AllBelow frame register cs → cell_at frame register (cs ++ ds) ≡ cell_at frame register ds
-none_below frame register [] ds b = refl
-none_below frame register (c ∷ cs) ds b =
-    by_test (is_at frame register c) (λ t. absurd (below_not frame register c b.0 t))
-    (λ t. ap (λ s. cond s (Some c.cell) (cell_at frame register (cs ++ ds))) t ∙ none_below frame register cs ds b.1)
 
 module _ (old new : List OpenCell) (c : OpenCell) (a : Adds old new c) where
   pub added_found : cell_at c.frame c.register new ≡ Some c.cell
@@ -184,8 +176,8 @@ module _ (texts : List (List ℕ)) (co : CoroId) (frame register : ℕ) where
   open_true : (k : KeptCell) → is_open_at co.0 frame register (cell texts k) ≡ true → k ≡ Open co frame register
   open_true (Closed v) h = absurd (cc)
   open_true (Open k f r) h =
-      let x = both_true (nat_eq co.0 k.0) (nat_eq frame f && nat_eq register r) h in
-      let y = both_true (nat_eq frame f) (nat_eq register r) x.1 in
+      let x = both (nat_eq co.0 k.0) (nat_eq frame f && nat_eq register r) h in
+      let y = both (nat_eq frame f) (nat_eq register r) x.1 in
       let same : k ≡ co = ap (λ n. record { 0 = n }) (sym (eq_true co.0 k.0 x.0)) in
       ap (λ (k : CoroId). Open k f r) same ∙ ap (λ f. Open co f r) (sym (eq_true frame f y.0)) ∙ ap (λ r. Open co frame r) (sym (eq_true register r y.1))
 

@@ -25,7 +25,7 @@ use Rattle.lua_heap.specs.Closing.{TakesOnTop, ClosesAll, ClosesSome, NoneIsOpen
 use Rattle.lua_heap.proofs.Captured.{is_at, at_is, by_test, list_stays, open_same, running_same, self_at}
 use Rattle.lua_heap.proofs.Resumed.{set_cases, set_own}
 
-eq_or : (m n : ℕ) → (m ≡ n) ⊎ (m ≢ n)
+pub eq_or : (m n : ℕ) → (m ≡ n) ⊎ (m ≢ n)
 eq_or zero zero = inl refl
 eq_or zero (suc n) = inr (λ e. omega (arith, e))
 eq_or (suc m) zero = inr (λ e. omega (arith, e))
@@ -160,7 +160,7 @@ close_step co f r q regs v (closed w ∷ cs) (suc n) e l s = ap (λ ds. closed w
 close_step co f r q regs v (open_at k g p ∷ cs) (suc n) e l s =
     ap (λ ds. cond (nat_eq co k && (nat_eq f g && not (nat_lt p r))) (closed (nth regs p)) (open_at k g p) ∷ ds) (close_step co f r q regs v cs n e l s)
 
-close_none : (co f r : ℕ) (regs : List Value) (cells : List Cell) → ((n q : ℕ) → slice_get cells n ≡ Some (open_at co f q) → q < r) → close_from co f r regs cells ≡ cells
+pub close_none : (co f r : ℕ) (regs : List Value) (cells : List Cell) → ((n q : ℕ) → slice_get cells n ≡ Some (open_at co f q) → q < r) → close_from co f r regs cells ≡ cells
 close_none co f r regs [] h = refl
 close_none co f r regs (closed w ∷ cs) h = ap (λ ds. closed w ∷ ds) (close_none co f r regs cs (λ n q e. h (suc n) q e))
 close_none co f r regs (open_at k g p ∷ cs) h =

@@ -13,7 +13,7 @@ use Rattle.list_laws.proofs.Items.{get_old}
 use Rattle.lua_heap.specs.Strings.{AreApart, AreShort}
 use Rattle.lua_heap.specs.Reading.{zeros, too_long, text_or, text_of, value, row}
 
-length_zeros : (n : ℕ) → length (zeros n) ≡ n
+pub length_zeros : (n : ℕ) → length (zeros n) ≡ n
 length_zeros zero = refl
 length_zeros (suc n) = ap suc (length_zeros n)
 

@@ -27,6 +27,7 @@ use Rattle.lua_heap.specs.Reading.{value, text_or, text_of, too_long, zeros}
 use Rattle.lua_meaning.specs.Opening.{entries_of, prelude_of}
 use Rattle.lua_opening.specs.Opened.{tables_of}
 use Rattle.lua_opening.specs.Functions.{shares, AddsFunctions}
+use Rattle.lua_heap.proofs.Reading.{length_zeros}
 
 -- worlds are the same where their parts are
 pub same_parts : (V W : World) → V.heap ≡ W.heap → V.functions ≡ W.functions → V.cells ≡ W.cells → V.coroutines ≡ W.coroutines → V.globals ≡ W.globals
@@ -64,13 +65,9 @@ entries_functions [] (p ∷ ps) h = absurd (omega (arith, h))
 entries_functions (f ∷ fs) [] h = absurd (omega (arith, h))
 entries_functions (f ∷ fs) (p ∷ ps) h = ap (λ l. shares 0 p ∷ l) (entries_functions fs ps (omega (arith, h)))
 
-zeros_length : (n : ℕ) → length (zeros n) ≡ n
-zeros_length zero = refl
-zeros_length (suc n) = ap suc (zeros_length n)
-
 pub too_long_is : (n : ℕ) (text : List ℕ) → length text ≤ greatest_string → too_long n ≡ text → ⊥
 unfolding too_long
-too_long_is n text short q = let a = ap length q in let b = zeros_length (suc greatest_string + n) in omega (arith, a, b, short)
+too_long_is n text short q = let a = ap length q in let b = length_zeros (suc greatest_string + n) in omega (arith, a, b, short)
 
 -- a short text that is read is there, so it is read so among more strings
 pub still_read : (texts more : List (List ℕ)) (n : ℕ) (text : List ℕ) → text_of texts n ≡ text → length text ≤ greatest_string → text_of (texts ++ more) n ≡ text

@@ -27,6 +27,8 @@ use Rattle.lua_stack.proofs.Parts.{take_next, take_whole}
 use Rattle.session_images.specs.Prelude.{environment_cell}
 use Rattle.lua_saving.specs.Made.{holds_environment, is_environment_cell, is_apart}
 use Rattle.lua_saving.specs.Saving.{IsAsMade, IsTouched}
+use Rattle.machine_runs.proofs.Opening.{number_count}
+use Rattle.session_images.proofs.Keys.{not_both}
 
 -- numbers
 
@@ -34,10 +36,6 @@ number_at : (from count n : ℕ) → n < count → slice_get (numbers from count
 number_at from zero n h = absurd (omega (arith, h))
 number_at from (suc count) zero h = let e : from + zero ≡ from = omega arith in ap Some (sym e)
 number_at from (suc count) (suc n) h = let e : suc from + n ≡ from + suc n = omega arith in number_at (suc from) count n (omega (arith, h)) ∙ ap Some e
-
-length_numbers : (from count : ℕ) → length (numbers from count) ≡ count
-length_numbers from zero = refl
-length_numbers from (suc count) = ap suc (length_numbers (suc from) count)
 
 length_ids : (ids : List FuncId) → length (map (λ (f : FuncId). f.0) ids) ≡ length ids
 length_ids [] = refl
@@ -63,7 +61,7 @@ pub all_numbered : (ids : List FuncId) (count n : ℕ) → length ids ≡ count 
 all_numbered ids count n same end h =
     sym (take_whole (map (λ (f : FuncId). f.0) ids))
     ∙ (ap (λ k. take k (map (λ (f : FuncId). f.0) ids)) (length_ids ids ∙ sym end)
-    ∙ (h ∙ (ap (λ k. take k (numbers 0 count)) (end ∙ (same ∙ sym (length_numbers 0 count))) ∙ take_whole (numbers 0 count))))
+    ∙ (h ∙ (ap (λ k. take k (numbers 0 count)) (end ∙ (same ∙ sym (number_count 0 count))) ∙ take_whole (numbers 0 count))))
 
 pub not_numbered : (ids : List FuncId) (count n : ℕ) (d : FuncId) → n < length ids → length ids ≡ count → ((get_or ids n d).0 ≡ n → ⊥) → map (λ (f : FuncId). f.0) ids ≡ numbers 0 count → ⊥
 not_numbered ids count n d low same other is =
@@ -71,7 +69,7 @@ not_numbered ids count n d low same other is =
     (sym (get_map (λ (f : FuncId). f.0) ids n (get_or ids n d) (at_default ids n d low)) ∙ (ap (λ l. slice_get l n) is ∙ number_so count n (omega (arith, low, same)))))
 
 pub count_differs : (ids : List FuncId) (count : ℕ) → (length ids ≡ count → ⊥) → map (λ (f : FuncId). f.0) ids ≡ numbers 0 count → ⊥
-count_differs ids count other is = other (sym (length_ids ids) ∙ (ap length is ∙ length_numbers 0 count))
+count_differs ids count other is = other (sym (length_ids ids) ∙ (ap length is ∙ number_count 0 count))
 
 -- the cell
 
@@ -130,10 +128,6 @@ pub passed_by : (fs : List Func) (n : ℕ) (f : Func) (cells : List CellId) → 
 passed_by fs n f cells e is unnamed =
     let next : suc n ≡ n + 1 = omega arith in
     drop_at fs n f e ∙ (ap (λ b. not b && list_all is_apart (drop (suc n) fs)) (ap (list_any is_environment_cell) (sym is) ∙ unnamed) ∙ ap (λ k. list_all is_apart (drop k fs)) next)
-
-not_both : (b : Bool) → not b ≡ true → b ≡ true → ⊥
-not_both true h k = cc
-not_both false h k = cc
 
 -- the prelude of these functions has as many as there are names
 prelude_length : (fs : List (List ℕ × Library)) (ps : List Prototype) → length ps ≡ length fs → length (entries_of fs ps) ≡ length fs

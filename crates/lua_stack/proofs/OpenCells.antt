@@ -95,7 +95,7 @@ below_false frame register c e = by (nat_lt c.frame frame) refl (nat_eq c.frame 
         let l : frame ≤ c.frame = grind (arith, nat_tests) in
         record { frame_at_least = l; register_at_least = λ g. absurd (no_such (let x : nat_eq c.frame frame ≡ true = grind (arith, nat_tests) in sym x ∙ q)) }
 
-none_below : (frame register : ℕ) (cs ds : List OpenCell) → AllBelow frame register cs → cell_at frame register (cs ++ ds) ≡ cell_at frame register ds
+pub none_below : (frame register : ℕ) (cs ds : List OpenCell) → AllBelow frame register cs → cell_at frame register (cs ++ ds) ≡ cell_at frame register ds
 none_below frame register [] ds b = refl
 none_below frame register (c ∷ cs) ds b =
     ap (λ t. cond t (Some c.cell) (cell_at frame register (cs ++ ds))) (not_at_less c.frame c.register frame register b.0.register_less) ∙ none_below frame register cs ds b.1

@@ -153,13 +153,13 @@ on_coroutine p A W X v w f g a s h =
     (λ i j k. each_bind (SameCoroutine p) (MadeAlike p A) (f i) (g j) (λ c d l. h i j c d k l) (slice_get W.coroutines i) (slice_get X.coroutines j) (coroutine_at p W X a i j k))
     (coroutine_number v) (coroutine_number w) (number_same p v w s)
 
-refused_same : (p : Pairs) (W X : World) (text : List ℕ) → AgreeInTurn p W X → Alike p ResumeShape (made W [] (refused text)) (made X [] (refused text))
+pub refused_same : (p : Pairs) (W X : World) (text : List ℕ) → AgreeInTurn p W X → Alike p ResumeShape (made W [] (refused text)) (made X [] (refused text))
 refused_same p W X text a = made_same p p ResumeShape W X [] [] (refused text) (refused text) (extends_self p) a tt refl
 
 appended : (p : Pairs) (W X : World) (i j : ℕ) → AgreeInTurn p W X → SameNumber p a_coroutine i j → AgreeInTurn p (record W { chain = W.chain ++ i ∷ [] }) (record X { chain = X.chain ++ j ∷ [] })
 appended p W X i j a h = chain_agrees p W X _ _ a (zip_append (SameNumber p a_coroutine) W.chain X.chain (i ∷ []) (j ∷ []) a.roots.chain (h, tt))
 
-into_same : (p : Pairs) (W X : World) (i j : ℕ) (fs gs : List Frame) → AgreeInTurn p W X → SameNumber p a_coroutine i j → SameFrames p fs gs → AgreeInTurn p (go_into W i fs) (go_into X j gs)
+pub into_same : (p : Pairs) (W X : World) (i j : ℕ) (fs gs : List Frame) → AgreeInTurn p W X → SameNumber p a_coroutine i j → SameFrames p fs gs → AgreeInTurn p (go_into W i fs) (go_into X j gs)
 unfolding go_into
 into_same p W X i j fs gs a h k = put_coroutine_same p _ _ i j (in_progress fs) (in_progress gs) (appended p W X i j a h) h (same_in_progress fs gs k)
 
@@ -167,7 +167,7 @@ waits_same : (p : Pairs) (W X : World) (s t : Stack) → AgreeInTurn p W X → S
 unfolding wait_for_another
 waits_same p W X s t a b = put_coroutine_same p W X s.coroutine t.coroutine (normal s.frames) (normal t.frames) a b.coroutine (same_normal s.frames t.frames b.frames)
 
-starts_same : (p : Pairs) (W X : World) (i j : ℕ) (vs ws : List Value) → AgreeInTurn p W X → SameNumber p a_coroutine i j → SameValues p vs ws → (c d : Coroutine) → SameCoroutine p c d → Alike p ResumeShape (starts_in W i c vs) (starts_in X j d ws)
+pub starts_same : (p : Pairs) (W X : World) (i j : ℕ) (vs ws : List Value) → AgreeInTurn p W X → SameNumber p a_coroutine i j → SameValues p vs ws → (c d : Coroutine) → SameCoroutine p c d → Alike p ResumeShape (starts_in W i c vs) (starts_in X j d ws)
 starts_same p W X i j vs ws a h s c d (same_fresh v w k) =
     each_bind (MadeAlike p CallShape) (MadeAlike p ResumeShape) _ _
     (λ x y l. record { now = l.now; more = l.more; agree = l.agree; values = tt; told = ap resumed l.told })

@@ -8,7 +8,7 @@ use Rattle.machine_core.specs.World.{Function, Coroutine, Cell, frames_of, lua_f
 use Rattle.machine_alike.specs.Agree.{Pairs, IsFirst, IsSecond, SameNumber, Both, SameTable, SameFunction, SameCoroutine, SameCell, OneToOne, Objects, SameObjects, Extends}
 use Rattle.machine_alike.proofs.Pairwise.{both_on, both_left, both_right, both_from, both_push, get_push_old, get_push_new, get_end, none_of}
 use Rattle.machine_alike.proofs.Same.{cell_on, table_on, function_on, coroutine_on}
-use Rattle.machine_alike.proofs.Tables.{kind_same}
+use Rattle.int_core.proofs.Equality.{kind_is}
 
 abbrev pub with_pair : (ℕ → Option ℕ) → ℕ → ℕ → ℕ → Option ℕ
 with_pair f i j n = cond (nat_eq n i) (Some j) (f n)
@@ -40,7 +40,7 @@ object_cases : (p : Pairs) (k : Kind) (i j : ℕ) (l : Kind) (n m : ℕ) → (wi
 object_cases p k i j l n m h = go (same_kind l k) refl h
   where
     go : (b : Bool) → same_kind l k ≡ b → cond b (with_pair (p.objects l) i j n) (p.objects l n) ≡ Some m → ((l ≡ k) × (n ≡ i) × (m ≡ j)) ⊎ (p.objects l n ≡ Some m)
-    go true e h = ⊎_elim (λ t. inl (kind_same l k e, t.0, t.1)) inr (pair_cases (p.objects l) i j n m h)
+    go true e h = ⊎_elim (λ t. inl (kind_is l k e, t.0, t.1)) inr (pair_cases (p.objects l) i j n m h)
     go false e h = inr h
 
 pub object_new : (p : Pairs) (k : Kind) (i j : ℕ) → SameNumber (with_object p k i j) k i j
@@ -53,7 +53,7 @@ extends_object p k i j fresh = record {
 }
   where
     go : (l : Kind) (n m : ℕ) → p.objects l n ≡ Some m → (b : Bool) → same_kind l k ≡ b → cond b (with_pair (p.objects l) i j n) (p.objects l n) ≡ Some m
-    go l n m h true e = pair_old (p.objects l) i j n m (subst (λ x. p.objects x i ≡ None) (sym (kind_same l k e)) fresh) h
+    go l n m h true e = pair_old (p.objects l) i j n m (subst (λ x. p.objects x i ≡ None) (sym (kind_is l k e)) fresh) h
     go l n m h false e = h
 
 one_object : (p : Pairs) (k : Kind) (i j : ℕ) → OneToOne p → ((n : ℕ) → p.objects k n ≡ Some j → ⊥) → OneToOne (with_object p k i j)
@@ -63,7 +63,7 @@ one_object p k i j one out = record {
 }
   where
     go : (l : Kind) (a b m : ℕ) (t : Bool) → same_kind l k ≡ t → cond t (with_pair (p.objects l) i j a) (p.objects l a) ≡ Some m → cond t (with_pair (p.objects l) i j b) (p.objects l b) ≡ Some m → a ≡ b
-    go l a b m true e h g = pair_one (p.objects l) i j (subst (λ x. (n : ℕ) → p.objects x n ≡ Some j → ⊥) (sym (kind_same l k e)) out) (one.objects l) a b m h g
+    go l a b m true e h g = pair_one (p.objects l) i j (subst (λ x. (n : ℕ) → p.objects x n ≡ Some j → ⊥) (sym (kind_is l k e)) out) (one.objects l) a b m h g
     go l a b m false e h g = one.objects l a b m h g
 
 -- the next number is unpaired on both sides

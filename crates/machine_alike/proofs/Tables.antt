@@ -11,17 +11,7 @@ use Rattle.int_core.specs.Value.{Kind, a_table, a_function, a_coroutine, same_ki
 use Rattle.int_core.specs.Heap.{filled}
 use Rattle.machine_alike.specs.Agree.{Pairs, Each, SameValue, same_known, same_object, SameValues, SameRow, OneToOne}
 use Rattle.machine_alike.proofs.Pairwise.{zip_append, zip_length, cond_rel}
-
-pub kind_same : (k l : Kind) → same_kind k l ≡ true → k ≡ l
-kind_same a_table a_table h = refl
-kind_same a_function a_function h = refl
-kind_same a_coroutine a_coroutine h = refl
-kind_same a_table a_function h = cc
-kind_same a_table a_coroutine h = cc
-kind_same a_function a_table h = cc
-kind_same a_function a_coroutine h = cc
-kind_same a_coroutine a_table h = cc
-kind_same a_coroutine a_function h = cc
+use Rattle.int_core.proofs.Equality.{kind_is}
 
 pub nat_eq_same : (f : ℕ → Option ℕ) (i i' j j' : ℕ) → ((a b m : ℕ) → f a ≡ Some m → f b ≡ Some m → a ≡ b) → f i ≡ Some j → f i' ≡ Some j' → nat_eq i i' ≡ nat_eq j j'
 nat_eq_same f i i' j j' one h k = ⊎_elim
@@ -37,7 +27,7 @@ module _ (p : Pairs) (one : OneToOne p) where
   equal_same v w v' w' (same_object k i j h) (same_object l m n g) = go (same_kind k l) refl
     where
       go : (b : Bool) → same_kind k l ≡ b → b && nat_eq i m ≡ b && nat_eq j n
-      go true e = nat_eq_same (p.objects k) i m j n (one.objects k) h (subst (λ x. p.objects x m ≡ Some n) (sym (kind_same k l e)) g)
+      go true e = nat_eq_same (p.objects k) i m j n (one.objects k) h (subst (λ x. p.objects x m ≡ Some n) (sym (kind_is k l e)) g)
       go false e = refl
 
   pub nil_same : (v w : Value) → SameValue p v w → is_nil v ≡ is_nil w

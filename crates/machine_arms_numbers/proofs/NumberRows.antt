@@ -31,7 +31,7 @@ pub is_integer : (v : Kept) (n : ℤ) → Some n ≡ integer_in v → v ≡ Int 
 is_integer (Int m) n e = ap Int (sym (some_is refl e))
 is_integer _ n e = absurd (cc)
 
-shape_integer : (texts : List (List ℕ)) (v : Kept) → integer_of_shape (shape (value texts v)) ≡ integer_in v
+pub shape_integer : (texts : List (List ℕ)) (v : Kept) → integer_of_shape (shape (value texts v)) ≡ integer_in v
 shape_integer texts (Int n) = refl
 shape_integer texts _ = refl
 

@@ -31,6 +31,7 @@ use Rattle.machine_calls.specs.Calling.{CanEnter}
 use Rattle.machine_calls.specs.Entering.{EntersSo, HasFunction}
 use Rattle.machine_calls.proofs.Callees.{reached_is_function}
 use Rattle.machine_calls.proofs.Over.{entering, enters_is}
+use Rattle.machine_errors.proofs.Calls.{nth_first, drop_one}
 
 last_mapped : {A B : Type 0} (f : A → B) (xs : List A) → last (map f xs) ≡ option_map f (last xs)
 last_mapped f [] = refl
@@ -179,14 +180,6 @@ asked_prim old new n arguments m = record { is = λ fuel env W. ap (ends (calls_
 
 -- the row
 
-first_given : (f : Kept → Value) (vs : List Kept) → f Nil ≡ known nil → nth (map f vs) 0 ≡ f (first_of vs)
-first_given f [] e = sym e
-first_given f (v ∷ vs) e = refl
-
-rest_given : (f : Kept → Value) (vs : List Kept) → drop 1 (map f vs) ≡ map f (drop 1 vs)
-rest_given f [] = refl
-rest_given f (v ∷ vs) = refl
-
 abbrev asked_from : World → Callee → Outcome
 asked_from V c = follows_asked V.moving (enters_paid (with_moving V []) (with_moving V []) c)
 
@@ -196,8 +189,8 @@ pub asked_is : (old : Memory) (fuel : ℕ) (arguments : List Kept) (c : Callee) 
 asked_is old fuel arguments c a e =
     let f = value old.strings in
     let V = plain old fuel in
-    ap (λ v. asked_from V (callee_of greatest_chain V.heap v (drop 1 V.moving))) (first_given f old.moving.items refl)
-    ∙ ap (λ vs. asked_from V (callee_of greatest_chain V.heap (f (first_of old.moving.items)) vs)) (rest_given f old.moving.items ∙ ap (map f) (sym a))
+    ap (λ v. asked_from V (callee_of greatest_chain V.heap v (drop 1 V.moving))) (nth_first f old.moving.items refl)
+    ∙ ap (λ vs. asked_from V (callee_of greatest_chain V.heap (f (first_of old.moving.items)) vs)) (drop_one f old.moving.items ∙ ap (map f) (sym a))
     ∙ ap (asked_from V) e
 
 pub asked_fault : (old new : Memory) (fuel : ℕ) (arguments : List Kept) (text : List ℕ) (e : Ending) → arguments ≡ drop 1 old.moving.items

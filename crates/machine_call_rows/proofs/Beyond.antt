@@ -24,15 +24,12 @@ use Rattle.move_laws.specs.Memory.{IsSound, Runs}
 use Rattle.move_laws.proofs.Places.{place_is}
 use Rattle.move_laws.proofs.Running.{shown}
 use Rattle.machine_moves.specs.Moves.{NoneIsOpenFrom}
+use Rattle.code_core.proofs.CheckedLemmas.{both}
 
 -- a list of open cells, each at its own place
 
 abbrev is_at : (frame register : ℕ) → OpenCell → Bool
 is_at frame register c = nat_eq c.frame frame && nat_eq c.register register
-
-both_true : (a b : Bool) → (a && b) ≡ true → (a ≡ true) × (b ≡ true)
-both_true true b h = (refl, h)
-both_true false b h = absurd (cc)
 
 first_found : (c : OpenCell) (cs : List OpenCell) → cell_at c.frame c.register (c ∷ cs) ≡ Some c.cell
 first_found c cs = ap (λ b. cond b (Some c.cell) (cell_at c.frame c.register cs)) (ap (λ b. b && nat_eq c.register c.register) (eq_refl c.frame) ∙ eq_refl c.register)
@@ -44,7 +41,7 @@ behind_first c cs frame register id once e = by (is_at frame register c) refl
     by : (b : Bool) → is_at frame register c ≡ b → cond b (Some c.cell) (cell_at frame register cs) ≡ Some id
     by false t = e
     by true t =
-        let s = both_true (nat_eq c.frame frame) (nat_eq c.register register) t in
+        let s = both (nat_eq c.frame frame) (nat_eq c.register register) t in
         let none : cell_at frame register cs ≡ None =
         ap (λ f. cell_at f register cs) (sym (eq_true c.frame frame s.0)) ∙ ap (λ r. cell_at c.frame r cs) (sym (eq_true c.register register s.1)) ∙ once in
         absurd (let bad : None ≡ Some id = sym none ∙ e in cc)

@@ -28,6 +28,7 @@ use Rattle.machine_calls.specs.Waiting.{CallsSo, MayCall}
 use Rattle.machine_calls.proofs.Over.{may_enter}
 use Rattle.machine_call_rows.specs.Rows.{IsWaitOfCall, MayReadValues}
 use Rattle.machine_call_rows.proofs.Read.{call_text, registers_read, steps_call, whole_text}
+use Rattle.machine_calls.proofs.Given.{itself}
 
 -- what the registers hold that were read
 
@@ -76,10 +77,6 @@ has_given W register n f g = record {
 }
 
 -- the function is there
-
-itself : (links : ℕ) (H : Heap) (n : ℕ) (vs : List Value) → callee_of links H (object a_function n) vs ≡ callee (object a_function n) vs
-itself zero H n vs = refl
-itself (suc links) H n vs = refl
 
 pub function_called : (W : Memory) (at : Place) (id : FuncId) (arguments : List Kept) (wait : KeptWait) (keeps : ℕ) → IsSound W → place_of (plain W 0) ≡ Some at → MayCall W (Func id) arguments wait (GivenUp keeps) → HasFunction W id.0
 function_called W at id arguments wait keeps s e h =

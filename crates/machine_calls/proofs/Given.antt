@@ -108,7 +108,7 @@ module _ (old new : Memory) (co : CoroId) (s s' : KeptStack) (register given : �
 
 -- a function is called as it is, through no link
 
-itself : (links : ℕ) (H : Heap) (n : ℕ) (vs : List Value) → callee_of links H (object a_function n) vs ≡ callee (object a_function n) vs
+pub itself : (links : ℕ) (H : Heap) (n : ℕ) (vs : List Value) → callee_of links H (object a_function n) vs ≡ callee (object a_function n) vs
 itself zero H n vs = refl
 itself (suc links) H n vs = refl
 

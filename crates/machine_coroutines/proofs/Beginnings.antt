@@ -21,7 +21,7 @@ use Rattle.lua_heap.specs.Plain.{coroutine, plain}
 use Rattle.move_laws.specs.Memory.{Runs, Makes}
 use Rattle.move_laws.proofs.Running.{changed_stack_is_put, set_same}
 use Rattle.machine_moves.specs.Tops.{TopIs}
-use Rattle.machine_moves.proofs.OnTop.{kept_as, runs_after, stack_kept}
+use Rattle.machine_moves.proofs.OnTop.{kept_as, runs_after, stack_kept, push_put}
 use Rattle.machine_coroutines.specs.Beginning.{HasResumed, IsRunning, Leaves, PushesClosing}
 
 -- changes of two places
@@ -48,10 +48,6 @@ put_own V n k e = ap (λ cs. record V { coroutines = cs }) (set_same V.coroutine
 get_past : (V : World) (i n : ℕ) (gs : List Frame) → i ≢ n → slice_get (put_frames V i gs).coroutines n ≡ slice_get V.coroutines n
 unfolding put_frames
 get_past V i n gs d = get_set_other V.coroutines i n (in_progress gs) d
-
-push_put : (W : World) (s : Stack) (f : Frame) → push W s f ≡ put_frames W s.coroutine (s.frames ++ f ∷ [])
-unfolding push
-push_put W s f = refl
 
 -- a world in which the coroutine that was closed is dead
 abbrev dead_after : World → ℕ → Coroutine → World

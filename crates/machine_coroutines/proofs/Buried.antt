@@ -21,9 +21,10 @@ use Rattle.lua_heap.specs.declared.world.World.{World as Memory}
 use Rattle.lua_heap.specs.Reading.{value}
 use Rattle.lua_heap.specs.Plain.{cell, coroutine, plain}
 use Rattle.lua_heap.specs.Cells.{AreListed, CellsAreListed, IsOnce, open_cells_in}
-use Rattle.lua_heap.proofs.Closed.{kept_open}
+use Rattle.lua_heap.proofs.Closed.{kept_open, eq_or}
 use Rattle.move_laws.proofs.Running.{set_same}
 use Rattle.machine_coroutines.specs.Burying.{AreWithin, ClosesEach}
+use Rattle.code_core.proofs.CheckedLemmas.{both as both_true}
 
 pub read_there : {A : Type 0} (xs : List A) (i : ℕ) (d : A) → i < length xs → slice_get xs i ≡ Some (get_or xs i d)
 read_there [] i d l = absurd (omega (arith, l))
@@ -34,20 +35,10 @@ by_test : {A : Type 0} (b : Bool) → (b ≡ true → A) → (b ≡ false → A)
 by_test true f g = f refl
 by_test false f g = g refl
 
-eq_or : (m n : ℕ) → (m ≡ n) ⊎ (m ≢ n)
-eq_or zero zero = inl refl
-eq_or zero (suc n) = inr (λ e. omega (arith, e))
-eq_or (suc m) zero = inr (λ e. omega (arith, e))
-eq_or (suc m) (suc n) = ⊎_elim (λ e. inl (ap suc e)) (λ d. inr (λ e. d (omega (arith, e)))) (eq_or m n)
-
 -- places of a stack's list
 
 abbrev is_at : (frame register : ℕ) → OpenCell → Bool
 is_at frame register c = nat_eq c.frame frame && nat_eq c.register register
-
-both_true : (a b : Bool) → (a && b) ≡ true → (a ≡ true) × (b ≡ true)
-both_true true b h = (refl, h)
-both_true false b h = absurd (cc)
 
 at_is : (frame register : ℕ) (c : OpenCell) → is_at frame register c ≡ true → (c.frame ≡ frame) × (c.register ≡ register)
 at_is frame register c h =

@@ -22,7 +22,7 @@ use Rattle.move_laws.specs.Memory.{Runs, ChangesStack, Leads, Makes}
 use Rattle.move_laws.proofs.Rows.{first, ended}
 use Rattle.move_laws.proofs.Running.{changed_stack_is_put, set_same}
 use Rattle.machine_moves.specs.Tops.{TopIs}
-use Rattle.machine_moves.proofs.OnTop.{kept_as, runs_after, stack_kept}
+use Rattle.machine_moves.proofs.OnTop.{kept_as, runs_after, stack_kept, put_same}
 use Rattle.machine_coroutines.specs.Closings.{LeavesWith, closing_of, error_or, shape_of, values_of}
 
 -- such a frame is on top
@@ -63,10 +63,6 @@ last_mapped f (y ∷ z ∷ xs) x e = last_mapped f (z ∷ xs) x e
 put_as : (W : World) (s : Stack) (f : Frame) → put_top W s f ≡ put_frames W s.coroutine (without_last s.frames ++ f ∷ [])
 unfolding put_top
 put_as W s f = refl
-
-put_same : (W : World) (co : ℕ) (fs : List Frame) → slice_get W.coroutines co ≡ Some (in_progress fs) → put_frames W co fs ≡ W
-unfolding put_frames
-put_same W co fs e = ap (λ cs. record W { coroutines = cs }) (set_same W.coroutines co (in_progress fs) e)
 
 abbrev told_closing : World → Stack → Option Frame → Option (Made ClosingShape)
 told_closing V k o = bind o (next_closing V k)

@@ -14,7 +14,7 @@ use Rattle.machine_core.specs.PrimitiveRows.{own_row, primitive_row, row_numbere
 use Rattle.machine_ends.specs.Falls.{anywhere, ended, After, not_made, not_told, stands, after_enter, after_closing as closed_after, after_beginning, may_be, Falls}
 use Rattle.machine_ends.specs.Falls as to
 use Rattle.machine_ends.specs.Laws.{PrimitiveFalls}
-use Rattle.machine_ends.proofs.Texts.{failing_falls}
+use Rattle.machine_ends.proofs.Texts.{failing_falls, handed_falls}
 
 -- with some credit, whatever is on top
 abbrev At : ℕ → Option TopShape → Row → Type 0
@@ -25,10 +25,6 @@ RichAt r = Falls (anywhere true 100 None) r
 
 abbrev GoesOn : After → Row → Type 0
 GoesOn a r = elim a [ not_made ↦ ⊥ | not_told ↦ Unit {0} | stands y ↦ Falls y r ]
-
-handed_falls : (rich : Bool) (c : ℕ) (t : TopShape) → 1 < c → Falls (anywhere rich c (Some t)) (handed t)
-handed_falls rich c lua_top l = omega arith
-handed_falls rich c _ l = l
 
 pub hand_over_falls : (rich : Bool) (c : ℕ) (top : Option TopShape) → 1 < c → Falls (anywhere rich c top) hand_over
 hand_over_falls rich c top l = (tt, λ n t. by (may_be top t) t)

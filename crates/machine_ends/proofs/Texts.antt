@@ -98,7 +98,7 @@ read_falls w c r (suc n) k f = (tt, f)
 
 -- leaving
 
-handed_falls : (rich : Bool) (c : ℕ) (t : TopShape) → 1 < c → Falls (anywhere rich c (Some t)) (handed t)
+pub handed_falls : (rich : Bool) (c : ℕ) (t : TopShape) → 1 < c → Falls (anywhere rich c (Some t)) (handed t)
 handed_falls rich c lua_top l = omega arith
 handed_falls rich c _ l = l
 

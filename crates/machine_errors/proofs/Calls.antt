@@ -71,7 +71,7 @@ pub nth_second : (f : Kept → Value) (vs : List Kept) → f Nil ≡ known nil �
 nth_second f [] e = sym e
 nth_second f (v ∷ vs) e = nth_first f vs e
 
-drop_one : (f : Kept → Value) (vs : List Kept) → drop 1 (map f vs) ≡ map f (drop 1 vs)
+pub drop_one : (f : Kept → Value) (vs : List Kept) → drop 1 (map f vs) ≡ map f (drop 1 vs)
 drop_one f [] = refl
 drop_one f (v ∷ vs) = refl
 

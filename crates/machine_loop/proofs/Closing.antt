@@ -32,6 +32,7 @@ use Rattle.table_core.specs.declared.value.Value.{Value as Kept}
 use Rattle.machine_arms_tables.specs.Frame.{Code, Moment, moment, world_at, IsReadyAt, StepsOn}
 use Rattle.machine_arms_tables.proofs.Steps.{at_opcode, last_of}
 use Rattle.machine_loop.specs.Running.{ClosesNothing, PassesClose, Running}
+use Rattle.lua_heap.proofs.Closed.{close_none}
 
 -- nothing is pending further on either
 
@@ -52,25 +53,6 @@ none_further r a (q ∷ qs) l e = by (last_pending r qs) refl (nat_le r q) refl 
 
 -- no cell is closed
 
-both_true : (a b : Bool) → (a && b) ≡ true → (a ≡ true) × (b ≡ true)
-both_true true b h = (refl, h)
-both_true false b h = absurd (cc)
-
-closes_none : (co f r : ℕ) (regs : List Value) (cells : List Cell) → ((n q : ℕ) → slice_get cells n ≡ Some (open_at co f q) → q < r) → close_from co f r regs cells ≡ cells
-closes_none co f r regs [] h = refl
-closes_none co f r regs (closed w ∷ cs) h = ap (λ ds. closed w ∷ ds) (closes_none co f r regs cs (λ n q e. h (suc n) q e))
-closes_none co f r regs (open_at k g p ∷ cs) h =
-    let rest = closes_none co f r regs cs (λ n q e. h (suc n) q e) in
-    by_test (nat_eq co k && (nat_eq f g && not (nat_lt p r)))
-    (λ t.
-    let x = both_true (nat_eq co k) (nat_eq f g && not (nat_lt p r)) t in
-    let y = both_true (nat_eq f g) (not (nat_lt p r)) x.1 in
-    let c = eq_true co k x.0 in
-    let d = eq_true f g y.0 in
-    let l : p < r = h 0 p (ap (λ k. Some (open_at k g p)) (sym c) ∙ ap (λ g. Some (open_at co g p)) (sym d)) in
-    absurd (let z : not (nat_lt p r) ≡ false = ap not (lt_true p r l) in let bad : true ≡ false = sym y.1 ∙ z in cc))
-    (λ t. ap (λ b. cond b (closed (nth regs p)) (open_at k g p) ∷ close_from co f r regs cs) t ∙ ap (λ ds. open_at k g p ∷ ds) rest)
-
 kept_open : (texts : List (List ℕ)) (c : KeptCell) (co f q : ℕ) → cell texts c ≡ open_at co f q → (k : CoroId) × (c ≡ Open k f q) × (k.0 ≡ co)
 kept_open texts (Closed v) co f q e = absurd (cc)
 kept_open texts (Open k g p) co f q e =
@@ -81,7 +63,7 @@ kept_open texts (Open k g p) co f q e =
 
 module _ (g : Around) (cells : List KeptCell) (register a : ℕ) (none : ClosesNothing g cells register) (l : register ≤ a) where
   pub stays : (regs : List Value) → close_from g.context.coroutine (length g.context.below) a regs (map (cell g.texts) cells) ≡ map (cell g.texts) cells
-  stays regs = closes_none g.context.coroutine (length g.context.below) a regs (map (cell g.texts) cells) (λ n q e.
+  stays regs = close_none g.context.coroutine (length g.context.below) a regs (map (cell g.texts) cells) (λ n q e.
       let x = map_get (cell g.texts) cells n (open_at g.context.coroutine (length g.context.below) q) e in
       let k = kept_open g.texts x.0 g.context.coroutine (length g.context.below) q x.2 in
       let m : q < register = none.below n k.0 q (x.1 ∙ ap (λ (c : KeptCell). Some c) k.1) k.2 in

@@ -23,10 +23,7 @@ use Rattle.machine_moves.specs.declared.ending.Ending.TheVariants.{Raised}
 use Rattle.machine_moves.specs.Ending.{ending_of}
 use Rattle.machine_arms_numbers.specs.Numbers.{integer_in}
 use Rattle.machine_loops.specs.Loops.{ReadsLoop}
-
-pub integer_is : (texts : List (List ℕ)) (v : Kept) → integer_of_shape (shape (value texts v)) ≡ integer_in v
-integer_is texts Nil = refl
-integer_is texts _ = refl
+use Rattle.machine_arms_numbers.proofs.NumberRows.{shape_integer}
 
 -- an integer that is put into a value
 pub kept_integer : (n : ℤ) → FitsSigned w64 n → known (integer n) ≡ known (integer (to_z w64 (of_z w64 n)))
@@ -55,9 +52,9 @@ loop_read W base a b c i l d f g h p q r = record {
       act_is (on_own (read_register base)) (λ _ s. expand (second_of base more (integer_of_shape s))) [] V V (x ∷ []) (shape x) ((f []).is fuel)
       ∙ act_is (on_own (read_register (base + 1))) (λ _ s. expand (third_of base more (integer_of_shape (shape x)) (integer_of_shape s))) (x ∷ []) V V (y ∷ []) (shape y) ((g (x ∷ [])).is fuel)
       ∙ act_is (on_own (read_register (base + 2))) (λ _ s. expand (more (integer_of_shape (shape x)) (integer_of_shape (shape y)) (integer_of_shape s))) (x ∷ y ∷ []) V V (z ∷ []) (shape z) ((h (x ∷ y ∷ [])).is fuel)
-      ∙ ap (λ o. end (more o (integer_of_shape (shape y)) (integer_of_shape (shape z)))) (integer_is W.strings a ∙ sym p)
-      ∙ ap (λ o. end (more i o (integer_of_shape (shape z)))) (integer_is W.strings b ∙ sym q)
-      ∙ ap (λ o. end (more i l o)) (integer_is W.strings c ∙ sym r);
+      ∙ ap (λ o. end (more o (integer_of_shape (shape y)) (integer_of_shape (shape z)))) (shape_integer W.strings a ∙ sym p)
+      ∙ ap (λ o. end (more i o (integer_of_shape (shape z)))) (shape_integer W.strings b ∙ sym q)
+      ∙ ap (λ o. end (more i l o)) (shape_integer W.strings c ∙ sym r);
 }
 
 -- which row that is

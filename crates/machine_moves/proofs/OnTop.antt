@@ -113,11 +113,11 @@ popped_is old new co s s' env r c e = record {
 
 -- a frame that is pushed
 
-put_same : (W : World) (co : ℕ) (fs : List Frame) → slice_get W.coroutines co ≡ Some (in_progress fs) → put_frames W co fs ≡ W
+pub put_same : (W : World) (co : ℕ) (fs : List Frame) → slice_get W.coroutines co ≡ Some (in_progress fs) → put_frames W co fs ≡ W
 unfolding put_frames
 put_same W co fs e = ap (λ cs. record W { coroutines = cs }) (set_same W.coroutines co (in_progress fs) e)
 
-push_put : (W : World) (s : Stack) (f : Frame) → push W s f ≡ put_frames W s.coroutine (s.frames ++ f ∷ [])
+pub push_put : (W : World) (s : Stack) (f : Frame) → push W s f ≡ put_frames W s.coroutine (s.frames ++ f ∷ [])
 unfolding push
 push_put W s f = refl
 

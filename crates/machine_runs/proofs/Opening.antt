@@ -236,7 +236,7 @@ main_count : (globals count : ℕ) → length (main_cells globals count) ≡ cou
 main_count globals zero = refl
 main_count globals (suc count) = ap suc (nil_count count)
 
-number_count : (from count : ℕ) → length (numbers from count) ≡ count
+pub number_count : (from count : ℕ) → length (numbers from count) ≡ count
 number_count from zero = refl
 number_count from (suc count) = ap suc (number_count (suc from) count)
 

@@ -18,7 +18,7 @@ use Rattle.machine_sound.proofs.Held.{lua_settles}
 use Rattle.machine_sound.proofs.WaitingMoves.{top_is}
 use Rattle.machine_sound.proofs.Coroutines.{with_coroutines, coroutines_grow, coroutines_solid, registers_by, registers_are}
 use Rattle.machine_sound.proofs.Frames.{stack_is}
-use Rattle.machine_sound.proofs.Steps.{runs_good}
+use Rattle.machine_sound.proofs.Steps.{runs_good, then_good}
 use Rattle.machine_sound.proofs.Budgets.{solid_budget}
 use Rattle.machine_runs.specs.Runs.{resumed_main, after_waking, wakes, with_budget, turn}
 use Rattle.machine_runs.specs.Laws.{MayTurn}
@@ -185,10 +185,6 @@ budget_solid n W budget s = solid_budget n W [] budget s
 
 pub budget_turn : (W : World) (budget : ℕ) → MayTurn W → MayTurn (with_budget W budget)
 budget_turn W budget t = record { idle = t.idle; main = t.main; is_main = t.is_main; coroutine = t.coroutine; there = t.there; waits = t.waits }
-
-then_good : (n : ℕ) (o : Outcome) (f : Ending → World → Outcome) → StepGood n o → ((e : Ending) (W : World) → SoundAfter n e W → StepGood n (f e W)) → StepGood n (and_then o f)
-then_good n trapped f g k = absurd g
-then_good n (ends e W) f g k = k e W g
 
 pub turn_good : (n : ℕ) (rows : ℕ → Row) → PrimitivesSafe n rows → (count : ℕ) (W : World) (budget : ℕ) → Sound n W → MayTurn W → StepGood n (turn rows count W budget)
 turn_good n rows p count W budget s t =

@@ -117,7 +117,7 @@ not_second p pc op h = from (is_extra op) refl
     from true e = let k = subst (λ op. is_second p pc op ≡ false) (extra_is op e) h in absurd (cc)
     from false e = e
 
-false_of : (b : Bool) → IsTrue (not b) → b ≡ false
+pub false_of : (b : Bool) → IsTrue (not b) → b ≡ false
 false_of true h = absurd (cc)
 false_of false h = refl
 

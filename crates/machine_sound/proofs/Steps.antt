@@ -25,7 +25,7 @@ steps_good n rows p raised W s = from_world_good n W (step_by rows raised W) s.s
 steps_good n rows p unwinding W s = from_world_good n W (step_by rows unwinding W) s.sound (from_waiting n (act see_top (λ _ top. unwound top)) W s.sound.solid s.ready unwinding_safe)
 steps_good n rows p _ W s = s
 
-then_good : (n : ℕ) (o : Outcome) (f : Ending → World → Outcome) → StepGood n o → ((e : Ending) (W : World) → SoundAfter n e W → StepGood n (f e W)) → StepGood n (and_then o f)
+pub then_good : (n : ℕ) (o : Outcome) (f : Ending → World → Outcome) → StepGood n o → ((e : Ending) (W : World) → SoundAfter n e W → StepGood n (f e W)) → StepGood n (and_then o f)
 then_good n trapped f g k = absurd g
 then_good n (ends e W) f g k = k e W g
 

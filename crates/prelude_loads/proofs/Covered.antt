@@ -6,7 +6,6 @@ use Rattle.int_core.specs.Value.{Kind, a_table, a_function, a_coroutine, Value, 
 use Rattle.int_core.specs.Heap.{Table}
 use Rattle.machine_core.specs.World.{Function, Coroutine, World}
 use Rattle.machine_alike.specs.Agree.{Pairs, SameNumber}
-use Rattle.machine_alike.proofs.Tables.{kind_same}
 use Rattle.image_core.specs.Visit.{place, IsMet, greatest_count}
 use Rattle.image_core.specs.Image.{Item, Record, closed_record}
 use Rattle.image_core.specs.Records.{Part, an_object, a_cell, same_part, of_value, field_parts, parts, is_reached, parts_in_order, Naming, record_of, naming, image_by}
@@ -15,6 +14,7 @@ use Rattle.image_core.proofs.Lists.{get_split, map_some, chosen_from, place_met,
 use Rattle.image_core.proofs.Making.{table_yes, table_no, function_yes, function_no, coroutine_yes, coroutine_no}
 use Rattle.image_core.proofs.Parts.{part_tells, part_self}
 use Rattle.image_load.specs.Loads.{CanLoad, IsWritten}
+use Rattle.int_core.proofs.Equality.{kind_is}
 
 no_both : (kind : Kind) (r : Record) → is_cell r ≡ true → is_of kind r ≡ true → ⊥
 no_both kind (closed_record i) c h = cc
@@ -38,7 +38,7 @@ module _ (base : Pairs) (W V : World) (T : Target) (name : Value → Option Item
 
   -- what has a record of an object's sort is an object of that sort
   part_of : (kind : Kind) (o : Part) → IsWritten W name roots o → is_of kind (record_of N W o) ≡ true → (i : ℕ) × (o ≡ an_object kind i)
-  part_of kind (an_object k i) w h = let e : k ≡ kind = kind_same k kind (sym (ap (is_kind kind) w) ∙ h) in (i, ap (λ k. an_object k i) e)
+  part_of kind (an_object k i) w h = let e : k ≡ kind = kind_is k kind (sym (ap (is_kind kind) w) ∙ h) in (i, ap (λ k. an_object k i) e)
   part_of kind (a_cell i) w h = absurd (no_both kind (record_of N W (a_cell i)) w h)
 
   paired : (kind : Kind) (n : ℕ) (r : Record) → slice_get records n ≡ Some r → is_of kind r ≡ true → (i : ℕ) × SameNumber q kind i (new_number T records kind n)

@@ -14,10 +14,7 @@ use Rattle.prelude_stays.specs.Kept.{Home, Apart, RowOk, MetaOk, TableOk, WaitOk
 use Rattle.prelude_stays.proofs.Cells.{in_frames}
 use Rattle.prelude_stays.proofs.Coroutines.{frames_held}
 use Rattle.prelude_loads.proofs.Lists.{each_so, option_so, zip_back, both_at, both_back, each_at}
-
-lua_is : (f : Frame) (l : LuaFrame) → lua_frame f ≡ Some l → f ≡ lua l
-lua_is (lua f) l e = let k : f ≡ l = cc in ap lua k
-lua_is _ l e = absurd (cc)
+use Rattle.machine_sound.proofs.Writes.{lua_is}
 
 -- what a register holds of a frame whose function does not hold the environment there
 module _ (e : ℕ) (gs : List Guard) (cos : List Coroutine) (ok : Each (CoroutineOk e gs) cos) where

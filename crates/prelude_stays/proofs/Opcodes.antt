@@ -21,10 +21,7 @@ use Rattle.machine_sound.proofs.Values.{both_of, all_get, lt_of}
 use Rattle.prelude_stays.specs.Guards.{Guard, guard_with, Reads, Row, apart, takes, from_upvalue, from_register, from_register_named}
 use Rattle.prelude_stays.proofs.Steps.{fails_reads}
 use Rattle.prelude_guard.specs.Checks.{takes_by, is_taken, takes_below_by, takes_below, reads_from, names_none, spares, is_apart}
-
-pub false_of : (b : Bool) → IsTrue (not b) → b ≡ false
-false_of true h = absurd (cc)
-false_of false h = refl
+use Rattle.machine_sound.proofs.RowEnds.{false_of}
 
 -- what is taken to registers below a place is taken to none from there on
 one_above : (held : ℕ → Bool) (from r : ℕ) (w : Instruction) (op : Option Opcode) → from ≤ r → IsTrue (takes_below_by held from w op) → takes_by held r w op ≡ false

@@ -34,11 +34,11 @@ on_script : (A B : Type 0) (b : Bool) → b ≡ false → B → MatchBool b A B
 on_script A B true is given = absurd (cc)
 on_script A B false is given = given
 
-of_chunk : (A B : Type 0) (b : Bool) → b ≡ true → MatchBool b A B → A
+pub of_chunk : (A B : Type 0) (b : Bool) → b ≡ true → MatchBool b A B → A
 of_chunk A B true is given = given
 of_chunk A B false is given = absurd (cc)
 
-of_script : (A B : Type 0) (b : Bool) → b ≡ false → MatchBool b A B → B
+pub of_script : (A B : Type 0) (b : Bool) → b ≡ false → MatchBool b A B → B
 of_script A B true is given = absurd (cc)
 of_script A B false is given = given
 

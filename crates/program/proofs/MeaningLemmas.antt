@@ -32,6 +32,7 @@ use Rattle.program.specs.Meaning.{MeansOn, EndsWith, IsWaiting}
 use Rattle.machine_runs.specs.Laws.{AreShort}
 use Rattle.program.specs.Running.{HoldsCode}
 use Rattle.program.specs.Sessions.{status_of_close}
+use Rattle.program.proofs.CodeLemmas.{of_script}
 
 abbrev pub Short : List ℕ → Type 0
 Short line = length line ≤ greatest_string
@@ -45,12 +46,8 @@ read_of source tree s = record {
   lawful = s.lawful;
 }
 
-tree_of : (source : List ℕ) (tree : Block) → IsRead source tree → HasTree source tree
+pub tree_of : (source : List ℕ) (tree : Block) → IsRead source tree → HasTree source tree
 tree_of source tree r = record { limited = r.limited; tokens = r.tokens; lexed = r.lexed; derived = r.derived }
-
-pub by_script : (A B : Type 0) (b : Bool) → b ≡ false → MatchBool b A B → B
-by_script A B true is given = absurd (cc)
-by_script A B false is given = given
 
 pub name_is_short : (name : List ℕ) → length name ≤ 65536 → IsTrue (name_fits (Some (source_name name)))
 name_is_short name short = grind (arith, nat_tests, short)
@@ -58,7 +55,7 @@ name_is_short name short = grind (arith, nat_tests, short)
 -- the code in a file and the prelude's are the codes of their trees
 code_is : (name content : List ℕ) (code : Prototype) (tree : Block) → begins_chunk content ≡ false → HoldsCode name content code → IsSource (script_in content) tree → code ≡ code_of (Some (source_name name)) (placed tree)
 code_is name content code tree begins holds source =
-    let made : IsCodeOf (source_name name) (script_in content) true code = by_script (IsAccepted content code) (IsCodeOf (source_name name) (script_in content) true code) (begins_chunk content) begins holds in
+    let made : IsCodeOf (source_name name) (script_in content) true code = of_script (IsAccepted content code) (IsCodeOf (source_name name) (script_in content) true code) (begins_chunk content) begins holds in
     made.code_is ∙ ap (λ t. code_of (Some (source_name name)) (placed t)) (source.only made.tree made.is_source.has_tree)
 
 pub prelude_is : (code : Prototype) (tree : Block) → IsPreludeCode code → IsRead prelude_text tree → code ≡ code_of None (placed tree)

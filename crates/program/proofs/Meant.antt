@@ -31,8 +31,9 @@ use Rattle.machine_runs.specs.Laws.{AreShort}
 use Rattle.program.specs.Running.{HoldsCode, RunsOn, IsNotRun}
 use Rattle.program.specs.Sessions as session
 use Rattle.program.specs.Sessions.{status_of_close, IsLeft, Ends}
-use Rattle.program.proofs.MeaningLemmas.{read_of, by_script, name_is_short, ends_with}
+use Rattle.program.proofs.MeaningLemmas.{read_of, name_is_short, ends_with}
 use Rattle.program.proofs.Endings.{told_lines, not_ended}
+use Rattle.program.proofs.CodeLemmas.{of_script}
 
 -- a file that is not run has another status
 pub not_run_ends : (name : List ℕ) (files : Device FileMap) (status : ℕ) → IsNotRun name files status → has_ended status ≡ true → ⊥
@@ -44,7 +45,7 @@ pub run_meant : {builds : Builds Body} → BuildsSources builds → ScriptsDo �
     → length name ≤ 65536 → AreShort lines → begins_chunk content ≡ false → RunsOn builds name content lines budget run
     → (m : Meaning Body State) × MeansOn builds name content lines budget m × RunsAs run m
 run_meant {builds = builds} sources law alike name content lines budget run short fits begins goes =
-    let made : IsCodeOf (source_name name) (script_in content) true goes.code = by_script (IsAccepted content goes.code) (IsCodeOf (source_name name) (script_in content) true goes.code) (begins_chunk content) begins goes.holds in
+    let made : IsCodeOf (source_name name) (script_in content) true goes.code = of_script (IsAccepted content goes.code) (IsCodeOf (source_name name) (script_in content) true goes.code) (begins_chunk content) begins goes.holds in
     let own = goes.is_prelude.compiled in
     let read : IsRead prelude_text own.tree = read_of prelude_text own.tree own.is_source in
     let code : goes.code ≡ code_of (Some (source_name name)) (placed made.tree) = made.code_is in
@@ -57,7 +58,7 @@ run_meant {builds = builds} sources law alike name content lines budget run shor
     (meant.0, record { is_script = begins; tree = made.tree; is_source = made.is_source; prelude = own.tree; is_prelude = read; means = meant.1 }, meant.2)
 
 -- what is left of a run that came to an end tells how it closed
-ended_so : (prelude : Prototype) (run : Run) (save : Option (List ℕ)) (files : Device FileMap) (status : ℕ) → IsLeft prelude run save files status → has_ended status ≡ true → status ≡ status_of_close run.close
+pub ended_so : (prelude : Prototype) (run : Run) (save : Option (List ℕ)) (files : Device FileMap) (status : ℕ) → IsLeft prelude run save files status → has_ended status ≡ true → status ≡ status_of_close run.close
 ended_so prelude run save files _ (session.kept kept) ended = refl
 ended_so prelude run save files _ _ ended = absurd (cc)
 

@@ -40,7 +40,7 @@ use Rattle.program.proofs.Endings.{Ran, short_of}
 
 -- a file whose session does not go on
 
-not_resumed_ends : (name : List ℕ) (files : Device FileMap) (status : ℕ) → IsNotResumed name files status → has_ended status ≡ true → ⊥
+pub not_resumed_ends : (name : List ℕ) (files : Device FileMap) (status : ℕ) → IsNotResumed name files status → has_ended status ≡ true → ⊥
 not_resumed_ends name files _ (resuming.absent lacks) ended = cc
 not_resumed_ends name files _ _ ended = cc
 

@@ -44,15 +44,10 @@ use Rattle.program.specs.Sessions.{functions_of, IsKept}
 use Rattle.program.specs.Running as running
 use Rattle.program.specs.Running.{HoldsCode, RunsOn, IsNotRun, not_run, has_run, IsRun}
 use Rattle.program.proofs.DeviceLemmas.{files_of, stream_of, grows_by_none, only_same, keeps_telling, kept_others, same_content, not_lacking, no_content, stays, told_lacking}
-use Rattle.program.proofs.MeaningLemmas.{by_script, meaning_run, ends_with, handed_short, usable_short, waiting, waits_too}
+use Rattle.program.proofs.MeaningLemmas.{meaning_run, ends_with, handed_short, usable_short, waiting, waits_too}
 use Rattle.program.proofs.Endings.{Ran, ran_so, short_of, told_so}
 use Rattle.program.proofs.Meant.{not_run_ends, done, run_meant}
-
--- the choice by the first byte
-
-by_chunk : (A B : Type 0) (b : Bool) → b ≡ true → MatchBool b A B → A
-by_chunk A B true is given = given
-by_chunk A B false is given = absurd (cc)
+use Rattle.program.proofs.CodeLemmas.{of_chunk, of_script}
 
 -- what a file without code refuses
 
@@ -60,14 +55,14 @@ script_refuses : (name content content' : List ℕ) (held : Option FileMap) (cod
 script_refuses name content content' held code found has begins none holds =
     let same : content' ≡ content = same_content name content content' held found has in
     let own : HoldsCode name content code = subst (λ c. HoldsCode name c code) same holds in
-    let made = by_script (IsAccepted content code) (IsCodeOf (source_name name) (script_in content) true code) (begins_chunk content) begins own in
+    let made = of_script (IsAccepted content code) (IsCodeOf (source_name name) (script_in content) true code) (begins_chunk content) begins own in
     none made.tree made.is_source
 
 chunk_refuses : (name content content' : List ℕ) (held : Option FileMap) (code : Prototype) → IfSome held (λ h. h name ≡ Some content) → Holds held name content' → begins_chunk content ≡ true → HoldsNoChunk content → HoldsCode name content' code → ⊥
 chunk_refuses name content content' held code found has begins none holds =
     let same : content' ≡ content = same_content name content content' held found has in
     let own : HoldsCode name content code = subst (λ c. HoldsCode name c code) same holds in
-    none code (by_chunk (IsAccepted content code) (IsCodeOf (source_name name) (script_in content) true code) (begins_chunk content) begins own)
+    none code (of_chunk (IsAccepted content code) (IsCodeOf (source_name name) (script_in content) true code) (begins_chunk content) begins own)
 
 -- a file that is not run
 
@@ -216,7 +211,7 @@ run_of {builds = builds} sources does law alike name content budget save prelude
   session = λ content' text run has told goes ended. ran.session text run told (same_run name content content' budget files.content prelude code (lines_of text) run found has only own goes) ended;
   ran_script = λ content' text has begins told ended.
       let its : HoldsCode name content' code = subst (λ c. HoldsCode name c code) (sym (same_content name content content' files.content found has)) own.holds in
-      let made = by_script (IsAccepted content' code) (IsCodeOf (source_name name) (script_in content') true code) (begins_chunk content') begins its in
+      let made = of_script (IsAccepted content' code) (IsCodeOf (source_name name) (script_in content') true code) (begins_chunk content') begins its in
       let went = ran_so prelude (Does (library builds) (started prelude code) budget) save files input out last status text ran.ends told ended in
       (went.0, record { tree = made.tree; is_source = made.is_source; prelude = prelude; is_prelude = is_prelude; code = code; holds = its; checked = checked; means = made.means; runs = went.1 }, went.2);
   fault = ran.fault;
@@ -262,14 +257,14 @@ run_of {builds = builds} sources does law alike name content budget save prelude
     script_refuses' content' has begins none =
         let same : content' ≡ content = same_content name content content' files.content found has in
         let its : HoldsCode name content' code = subst (λ c. HoldsCode name c code) (sym same) own.holds in
-        let made = by_script (IsAccepted content' code) (IsCodeOf (source_name name) (script_in content') true code) (begins_chunk content') begins its in
+        let made = of_script (IsAccepted content' code) (IsCodeOf (source_name name) (script_in content') true code) (begins_chunk content') begins its in
         none made.tree made.is_source
 
     chunk_refuses' : (content' : List ℕ) → Holds files.content name content' → begins_chunk content' ≡ true → HoldsNoChunk content' → ⊥
     chunk_refuses' content' has begins none =
         let same : content' ≡ content = same_content name content content' files.content found has in
         let its : HoldsCode name content' code = subst (λ c. HoldsCode name c code) (sym same) own.holds in
-        none code (by_chunk (IsAccepted content' code) (IsCodeOf (source_name name) (script_in content') true code) (begins_chunk content') begins its)
+        none code (of_chunk (IsAccepted content' code) (IsCodeOf (source_name name) (script_in content') true code) (begins_chunk content') begins its)
 
     its_run : (content' : List ℕ) (lines : List (List ℕ)) (m : Meaning Body State) → Holds files.content name content' → AreShort lines → MeansOn builds name content' lines budget m
         → (run : Run) × CodeRun (library builds) (started prelude code) lines budget run × RunsAs run m

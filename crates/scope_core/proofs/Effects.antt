@@ -30,11 +30,11 @@ bare_locals text zero fs = refl
 bare_locals text (suc k) [] = refl
 bare_locals text (suc k) (f ∷ fs) = ap (λ b. is_local text f || b) (bare_locals text k fs)
 
-bare_all_locals : (text : List ℕ) (fs : List Frame) → list_any (is_local text) (bare fs) ≡ list_any (is_local text) fs
+pub bare_all_locals : (text : List ℕ) (fs : List Frame) → list_any (is_local text) (bare fs) ≡ list_any (is_local text) fs
 bare_all_locals text [] = refl
 bare_all_locals text (f ∷ fs) = ap (λ b. is_local text f || b) (bare_all_locals text fs)
 
-bare_needed : (text : List ℕ) (fs : List Frame) → needed text (bare fs) ≡ needed text fs
+pub bare_needed : (text : List ℕ) (fs : List Frame) → needed text (bare fs) ≡ needed text fs
 bare_needed text fs = ap (λ b. if (bytes_eq text environment || b) then text else environment) (bare_all_locals text fs)
 
 pub bare_declare_all : (fs : List Frame) (vs : List Variable) → declare_all (bare fs) vs ≡ bare (declare_all fs vs)

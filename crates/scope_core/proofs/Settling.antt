@@ -92,7 +92,7 @@ firsts_added up names texts = added up names [] texts ∙ ap (map up) (all_fresh
 
 -- Variables alone decide registers.
 
-own_bare : (fs : List Frame) → own_variables (bare fs) ≡ own_variables fs
+pub own_bare : (fs : List Frame) → own_variables (bare fs) ≡ own_variables fs
 own_bare [] = refl
 own_bare (f ∷ fs) = refl
 

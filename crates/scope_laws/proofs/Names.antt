@@ -13,16 +13,12 @@ use Rattle.scope_core.proofs.Growing.{extends_same}
 use Rattle.scope_core.proofs.Levels.{add_all, text_of_up}
 use Rattle.scope_core.proofs.Effects.{Effect, bare_declare_all, closed_declare, closed_entered, level_declare, grown_declare, grown_length, outside_append, names_outside}
 use Rattle.scope_core.proofs.WalkEffects.{body_effect, open_effect}
-use Rattle.scope_core.proofs.Settling.{firsts_added}
+use Rattle.scope_core.proofs.Settling.{firsts_added, own_bare}
 use Rattle.tree_terms.specs.Labels.{Named}
 use Rattle.scope_laws.specs.Keeping.{ExpKeeps, ExpsKeep, FieldsKeep, FieldKeeps, BodyKeeps, BlockKeeps, StatsKeep, StatKeeps, ArmsKeep}
 use Rattle.scope_laws.specs.Finding.{CapturesAreThere, ExpFinds, ExpsFind, FieldsFind, FieldFinds, BodyFinds, BlockFinds, StatsFind, StatFinds, ArmsFind}
 use Rattle.scope_laws.proofs.Named.{has, HasAll, KnowsAll, first_has, last_has, adds_nothing, has_added, known_added, all_known}
 use Rattle.scope_laws.proofs.Views.{View, as_of, view_named, view_names, names_length, view_counts, view_iterates, view_stat, view_stats, view_block, place_there, captures_there, name_known}
-
-own_bare : (fs : List Frame) → own_variables (bare fs) ≡ own_variables fs
-own_bare [] = refl
-own_bare (f ∷ fs) = refl
 
 -- the names that a function has from outside it
 abbrev outside_of : List Frame → Body → List (List ℕ)

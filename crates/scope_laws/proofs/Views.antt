@@ -18,7 +18,7 @@ use Rattle.scope_core.specs.Reaching.{captured_at, declared_at}
 use Rattle.scope_core.specs.Walked.{own_variables, own_upvalues}
 use Rattle.scope_core.proofs.Growing.{knows}
 use Rattle.scope_core.proofs.Levels.{Closed, add_all}
-use Rattle.scope_core.proofs.Effects.{bare_declare_all, bare_length}
+use Rattle.scope_core.proofs.Effects.{bare_declare_all, bare_length, bare_needed}
 use Rattle.tree_terms.specs.Levels.{level_after, levels_after, levels_in}
 use Rattle.tree_terms.specs.Labels.{Named}
 use Rattle.scope_laws.specs.Keeping.{BlockKeeps, StatsKeep, StatKeeps}
@@ -238,13 +238,6 @@ captures_there (text ∷ texts) {gs} {frames} {c} {hidden} {t} {us} found w k h 
 
 -- A name that is met: its variable is the function's own, or among its upvalues.
 
-same_locals : (text : List ℕ) (fs : List Frame) → list_any (is_local text) (bare fs) ≡ list_any (is_local text) fs
-same_locals text [] = refl
-same_locals text (f ∷ fs) = ap (λ b. is_local text f || b) (same_locals text fs)
-
-pub same_needed : (text : List ℕ) (fs : List Frame) → needed text (bare fs) ≡ needed text fs
-same_needed text fs = ap (λ b. if (bytes_eq text environment || b) then text else environment) (same_locals text fs)
-
 pub name_known : {gs : List Frame} {c : ℕ} {hidden : List ℕ} {t : ℕ} {us : List UpName} (s : Scope) (name : Name) → View gs s.frames c hidden t us → HasAll us (outside_all c (at s (Naming name) ∷ [])) → knows gs (needed name.text gs) ≡ true
 name_known {gs = []} s name w h = absurd (omega (arith, w.depth))
 name_known {gs = g ∷ gs} {c} {hidden} {t} {us} s name w h =
@@ -253,7 +246,7 @@ name_known {gs = g ∷ gs} {c} {hidden} {t} {us} s name w h =
     let bared : HasAll us ((if list_any (is_local (needed name.text (bare (g ∷ gs)))) (take (length (bare (g ∷ gs)) - c) (bare (g ∷ gs))) then [] else needed name.text (bare (g ∷ gs)) ∷ []) ++ []) =
     subst (λ fs. HasAll us ((if list_any (is_local (needed name.text fs)) (take (length fs - c) fs) then [] else needed name.text fs ∷ []) ++ [])) w.seen h in
     let own : HasAll us ((if list_any (is_local text) (take (length (bare (g ∷ gs)) - c) (bare (g ∷ gs))) then [] else text ∷ []) ++ []) =
-    subst (λ x. HasAll us ((if list_any (is_local x) (take (length (bare (g ∷ gs)) - c) (bare (g ∷ gs))) then [] else x ∷ []) ++ [])) (same_needed name.text (g ∷ gs)) bared in
+    subst (λ x. HasAll us ((if list_any (is_local x) (take (length (bare (g ∷ gs)) - c) (bare (g ∷ gs))) then [] else x ∷ []) ++ [])) (bare_needed name.text (g ∷ gs)) bared in
     let here : HasAll us ((if (is_local text g || false) then [] else text ∷ []) ++ []) =
     subst (λ n. HasAll us ((if list_any (is_local text) (take n (bare (g ∷ gs))) then [] else text ∷ []) ++ [])) one own in
     known_by (register_of text g.variables) (upvalue_of text g.upvalues)

@@ -32,7 +32,7 @@ after_unkeyed (x ∷ xs) ys v h = by (same x.object v) h (after_unkeyed xs ys v)
     by true h f = absurd (cc)
     by false h f = f h
 
-primitives_unkeyed : (n : ℕ) (keys : List (List ℕ)) (kind : Kind) (m : ℕ) → key_of (by_keys primitive_value n keys) (object kind m) ≡ None
+pub primitives_unkeyed : (n : ℕ) (keys : List (List ℕ)) (kind : Kind) (m : ℕ) → key_of (by_keys primitive_value n keys) (object kind m) ≡ None
 primitives_unkeyed n [] kind m = refl
 primitives_unkeyed n (key ∷ keys) kind m = primitives_unkeyed (suc n) keys kind m
 
@@ -108,7 +108,7 @@ has_key [] k j p e is = absurd (none_some p e)
 has_key (x ∷ ps) k zero p e is = let same : x ≡ p = cc in or_left (same_key k x.key) (list_any (same_key k) (map key_in ps)) (subst (λ l. same_key k l ≡ true) (is ∙ ap key_in (sym same)) (key_self k))
 has_key (x ∷ ps) k (suc j) p e is = or_right (same_key k x.key) (list_any (same_key k) (map key_in ps)) (has_key ps k j p e is)
 
-not_both : (b : Bool) → not b ≡ true → b ≡ true → ⊥
+pub not_both : (b : Bool) → not b ≡ true → b ≡ true → ⊥
 not_both true h k = cc
 not_both false h k = cc
 

@@ -14,7 +14,7 @@ use Rattle.machine_alike.proofs.Frames.{made_same, moving_agrees, coroutine_agre
 use Rattle.machine_alike.proofs.Calls.{enters_same}
 use Rattle.machine_alike.proofs.Rows.{outcome_on, rows_keep}
 use Rattle.machine_alike.proofs.Keeps.{steps_keep}
-use Rattle.machine_alike.proofs.Coroutines.{chain_agrees}
+use Rattle.machine_alike.proofs.Coroutines.{chain_agrees, starts_same}
 use Rattle.machine_runs.specs.Runs.{resumed_main, after_waking, wakes, with_budget, turn}
 
 -- rows that make no function
@@ -32,28 +32,11 @@ resumed_none (refused text) = λ n t. λ n t. handed_none t
 
 -- main goes on
 
-into_agrees : (p : Pairs) (W X : World) (i j : ℕ) (fs gs : List Frame) → AgreeInTurn p W X → SameNumber p a_coroutine i j → SameFrames p fs gs → AgreeInTurn p (go_into W i fs) (go_into X j gs)
-unfolding go_into put_coroutine
-into_agrees p W X i j fs gs a h k = coroutine_agrees p (record W { chain = W.chain ++ i ∷ [] }) (record X { chain = X.chain ++ j ∷ [] }) i j _ _ (chain_agrees p W X (W.chain ++ i ∷ []) (X.chain ++ j ∷ []) a (zip_append (SameNumber p a_coroutine) W.chain X.chain (i ∷ []) (j ∷ []) a.roots.chain (h, tt))) h (same_in_progress fs gs k)
-
-refuses : (p : Pairs) (W X : World) (text : List ℕ) → AgreeInTurn p W X → Alike p ResumeShape (made W [] (refused text)) (made X [] (refused text))
-refuses p W X text a = made_same p p ResumeShape W X [] [] (refused text) (refused text) (extends_self p) a tt refl
-
-starts : (p : Pairs) (W X : World) (i j : ℕ) (vs ws : List Value) → AgreeInTurn p W X → SameNumber p a_coroutine i j → SameValues p vs ws → (c d : Coroutine) → SameCoroutine p c d → Alike p ResumeShape (starts_in W i c vs) (starts_in X j d ws)
-starts p W X i j vs ws a h s c d (same_fresh v w k) =
-    each_bind (MadeAlike p CallShape) (MadeAlike p ResumeShape) _ _
-    (λ x y l. record { now = l.now; more = l.more; agree = l.agree; values = tt; told = ap resumed l.told })
-    (enters (go_into W i []) v vs) (enters (go_into X j []) w ws)
-    (enters_same p (go_into W i []) (go_into X j []) v w vs ws (into_agrees p W X i j [] [] a h tt) k s)
-starts p W X i j vs ws a h s c d (same_suspended fs gs k) =
-    made_same p p ResumeShape _ _ [] [] (resumed is_entered) (resumed is_entered) (extends_self p) (moving_agrees p (go_into W i fs) (go_into X j gs) vs ws (into_agrees p W X i j fs gs a h k) s) tt refl
-starts p W X i j vs ws a h s c d _ = refuses p W X _ a
-
 resumes : (p : Pairs) (W X : World) → AgreeInTurn p W X → Alike p ResumeShape (resumed_main W) (resumed_main X)
 resumes p W X a =
     each_bind (SameNumber p a_coroutine) (MadeAlike p ResumeShape) _ _
     (λ i j h. each_bind (SameCoroutine p) (MadeAlike p ResumeShape) _ _
-    (λ c d k. starts p (record W { moving = [] }) (record X { moving = [] }) i j W.moving X.moving (moving_agrees p W X [] [] a tt) h a.moving c d k)
+    (λ c d k. starts_same p (record W { moving = [] }) (record X { moving = [] }) i j W.moving X.moving (moving_agrees p W X [] [] a tt) h a.moving c d k)
     (slice_get W.coroutines i) (slice_get X.coroutines j) (coroutine_at p W X a i j h))
     W.main X.main a.roots.main
 

@@ -11,6 +11,7 @@ use Rattle.source_builds.specs.Builds.{IsBuiltTo, BuildsSources}
 use Rattle.source_builds.specs.Readings.{IsReading, has_tree, is_refused, breaks_rule, Met, HasMet, AsRead}
 use Rattle.source_builds.specs.Laws.{ReadingsAreOne, WhatIsMetIsBuilt}
 use Rattle.source_builds.proofs.OneReading.{readings_are_one}
+use Rattle.code_core.proofs.CheckedLemmas.{both}
 
 abbrev is_for : (name source : List ℕ) → Met → Bool
 is_for name source m = bytes_eq name m.name && bytes_eq source m.source
@@ -24,14 +25,9 @@ record IsFor (name source : List ℕ) (m : Met) : Type 0 where
   name_is : name ≡ m.name
   source_is : source ≡ m.source
 
-and_both : (a b : Bool) → (a && b) ≡ true → (a ≡ true) × (b ≡ true)
-and_both true true e = (refl, refl)
-and_both true false e = absurd (cc)
-and_both false b e = absurd (cc)
-
 is_it : (name source : List ℕ) (m : Met) → is_for name source m ≡ true → IsFor name source m
 is_it name source m e =
-    let k = and_both (bytes_eq name m.name) (bytes_eq source m.source) e in
+    let k = both (bytes_eq name m.name) (bytes_eq source m.source) e in
     record { name_is = (bytes_eq-Decides name m.name).0 k.0; source_is = (bytes_eq-Decides source m.source).0 k.1 }
 
 -- a body that is looked up is that of a source

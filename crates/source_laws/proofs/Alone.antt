@@ -25,16 +25,13 @@ use Rattle.grammar_laws.specs.Formed.{BlockIsFormed}
 use Rattle.grammar_laws.specs.Counted.{BlockIsCounted}
 use Rattle.source_laws.proofs.Around.{Around, constants_of, functions_of, stack_of}
 use Rattle.source_laws.proofs.Statements.{stats_placed, return_placed}
+use Rattle.code_bounds.proofs.Statements.{stats_fit}
 
 -- the locals before the first statement and behind the last one have registers
 
 first_room : (cs : List Const) (stack : ℕ) (ss : Stats) (t : ℕ) → StatsHaveRoom cs stack ss t → t ≤ stack
 first_room cs stack EndStats t s = s
 first_room cs stack (MoreStats stat ss) t s = s.0
-
-last_room : (cs : List Const) (stack : ℕ) (ss : Stats) (t : ℕ) → StatsHaveRoom cs stack ss t → levels_after ss t ≤ stack
-last_room cs stack EndStats t s = s
-last_room cs stack (MoreStats stat ss) t s = last_room cs stack ss (level_after stat t) s.1.1
 
 block_room : (cs : List Const) (stack : ℕ) (block : Block) (t : ℕ) → BlockHasRoom cs stack block t → t ≤ stack
 block_room cs stack (Falls ss tokens line) t s = first_room cs stack ss t s
@@ -45,7 +42,7 @@ block_fits :
     → BlockMakes x.source (functions_of x) block 0 → BlockHasRoom (constants_of x) (stack_of x) block params → BlockIsFormed block → BlockIsCounted block
     → made_in_block block ≤ x.most → weight_of_block block ≤ x.heavy → BlockFits x.setting params block
 block_fits x (Falls ss tokens line) params k f h m s o c b w =
-    (stats_placed x ss true false params 0 [] [] false k f h m s o c.1 (omega (arith, b)) w, last_room (constants_of x) (stack_of x) ss params s)
+    (stats_placed x ss true false params 0 [] [] false k f h m s o c.1 (omega (arith, b)) w, stats_fit (constants_of x) (stack_of x) ss params s)
 block_fits x (Returns ss es tokens line) params k f h m s o c b w = (
   stats_placed x ss false false params 0 [] [] false k.0 f.0 h.0 m.0 s.0 o.0 c.1 (omega (arith, b)) (omega (arith, w)),
   return_placed x es (closings_after ss false) (levels_after ss params) (0 + made_in_stats ss) k.1.0 f.1 h.1 m.1 s.1 (omega (arith, b)) (omega (arith, w)),

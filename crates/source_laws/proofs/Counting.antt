@@ -19,30 +19,11 @@ use Rattle.scope_core.specs.Held.{held, held_behind, count as held_count}
 use Rattle.tree_terms.specs.Labels.{Named, names_ahead, names_passed}
 use Rattle.scope_laws.specs.Keeping.{StatsKeep}
 use Rattle.tree_terms.specs.Weight.{weight_of_stat, weight_of_arms, weight_of_stats, weight_of_block, weight_of_body}
-use Rattle.code_bounds.proofs.Holding.{some_name}
+use Rattle.code_bounds.proofs.Holding.{some_name, some_held}
 use Rattle.scope_laws.proofs.Rules.{few_after}
 use Rattle.code_checked.proofs.Described.{known_below}
 
 -- an expression holds a value at least
-
-pub held_some : (e : Exp) → 1 ≤ held e
-held_some (Nil line) = omega arith
-held_some (True line) = omega arith
-held_some (False line) = omega arith
-held_some (Int line z) = omega arith
-held_some (Str line bytes) = omega arith
-held_some (Vararg line) = omega arith
-held_some (Function line body) = omega arith
-held_some (Var line name) = some_name name.place
-held_some (Index line o k) = omega arith
-held_some (Call line f es) = omega arith
-held_some (Method line o name es) = omega arith
-held_some (Unary line op e) = held_some e
-held_some (Binary line op e d) = omega arith
-held_some (And line e d) = omega arith
-held_some (Or line e d) = omega arith
-held_some (Paren line e) = held_some e
-held_some (Table line fs) = omega arith
 
 pub count_same : (es : Exps) → held_count es ≡ count es
 count_same EndExps = refl
@@ -51,7 +32,7 @@ count_same (MoreExps e es) = let same = count_same es in omega (arith, same)
 pub values_below : (es : Exps) (base before : ℕ) → base + before ≤ 250 → base + held_behind before es ≤ 250 → base + before + count es ≤ 250
 values_below EndExps base before le room = omega (arith, le)
 values_below (MoreExps e es) base before le room =
-    let some = held_some e in
+    let some = some_held e in
     let rest = values_below es base (before + 1) (omega (arith, room, some)) (omega (arith, room)) in
     omega (arith, rest)
 

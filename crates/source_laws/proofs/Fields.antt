@@ -22,7 +22,7 @@ use Rattle.grammar_laws.proofs.PlacedFunctions.{placed_has}
 use Rattle.grammar_laws.proofs.PlacedWeight.{placed_weighs}
 use Rattle.grammar_laws.proofs.WholeSizes.{weighs, takes}
 
-light : (block : Block) → BlockIsCounted block → weight_of_block block ≤ tokens_of block
+pub light : (block : Block) → BlockIsCounted block → weight_of_block block ≤ tokens_of block
 light (Falls ss tokens line) c = c.0
 light (Returns ss es tokens line) c = c.0
 

@@ -21,9 +21,10 @@ use Rattle.source_laws.specs.Fields.{FunctionFits, LoopFits}
 use Rattle.tree_terms.specs.Weight.{weight, weight_of_exps, weight_of_fields, weight_of_stat, weight_of_arms, weight_of_stats, weight_of_block, weight_of_body}
 use Rattle.code_bounds.proofs.Functions.{body_made}
 use Rattle.code_checked.specs.Near.{NameIsNear, AreCaptured, ExpIsNear, ExpsAreNear, FieldsAreNear, TargetIsNear, TargetsAreNear, StatIsNear, ArmsAreNear, StatsAreNear, BlockIsNear, AreNear}
-use Rattle.source_laws.proofs.Counting.{held_some, count_same, values_below, levels_few, locals_few}
+use Rattle.source_laws.proofs.Counting.{count_same, values_below, levels_few, locals_few}
 use Rattle.code_bounds.proofs.Counts.{arguments_weigh}
 use Rattle.scope_laws.proofs.Rules.{few_after}
+use Rattle.code_bounds.proofs.Holding.{some_held}
 
 -- a function under way: its code has the function's `...` and upvalues
 record Around : Type 0 where
@@ -75,8 +76,8 @@ module _ (source : Option (List ℕ)) where
     near_exp x (Str line bytes) hidden size t j le room k n f i s w = (omega (arith, room), tt)
     near_exp x (Vararg line) hidden size t j le room k n f i s w = (omega (arith, room), x.varargs ∙ k)
     near_exp x (Function line body) hidden size t j le room k n f i s w = (omega (arith, room), (known_captures x hidden size (upvalues_of body) n.1, near_body body k n.0 f i.1 s w))
-    near_exp x (Var line name) hidden size t j le room k n f i s w = (let some = held_some (Var line name) in omega (arith, room, some), known_place x hidden size name.place le n)
-    near_exp x (Index line object key) hidden size t j le room k n f i s w = (let some = held_some object in omega (arith, room, some), (near_exp x object hidden size t j le (omega (arith, room)) k.0 n.0 f.0 i.0 s.0 (omega (arith, w)), near_exp x key hidden size (t + 1) (j + made_by object) le (omega (arith, room)) k.1 n.1 f.1 i.1 s.1 (omega (arith, w))))
+    near_exp x (Var line name) hidden size t j le room k n f i s w = (let some = some_held (Var line name) in omega (arith, room, some), known_place x hidden size name.place le n)
+    near_exp x (Index line object key) hidden size t j le room k n f i s w = (let some = some_held object in omega (arith, room, some), (near_exp x object hidden size t j le (omega (arith, room)) k.0 n.0 f.0 i.0 s.0 (omega (arith, w)), near_exp x key hidden size (t + 1) (j + made_by object) le (omega (arith, room)) k.1 n.1 f.1 i.1 s.1 (omega (arith, w))))
     near_exp x (Call line called es) hidden size t j le room k n f i s w =
         let same = count_same es in
         let args = arguments_weigh es in
@@ -85,11 +86,11 @@ module _ (source : Option (List ℕ)) where
         let same = count_same es in
         let args = arguments_weigh es in
         (omega (arith, room, same), (near_exp x object hidden size t j le (omega (arith, room)) k.0 n.0 f.0 i.0 s.0 (omega (arith, w)), near_exps x es hidden size t 2 (t + 2) (j + made_by object) le (omega arith) (omega (arith, room)) k.1 n.1 f.1 i.1 s.1 (omega (arith, w, args))))
-    near_exp x (Unary line op e) hidden size t j le room k n f i s w = (let some = held_some e in omega (arith, room, some), near_exp x e hidden size t j le (omega (arith, room)) k n f i s (omega (arith, w)))
-    near_exp x (Binary line op e d) hidden size t j le room k n f i s w = (let some = held_some e in omega (arith, room, some), (near_exp x e hidden size t j le (omega (arith, room)) k.0 n.0 f.0 i.0 s.0 (omega (arith, w)), near_exp x d hidden size (t + 1) (j + made_by e) le (omega (arith, room)) k.1 n.1 f.1 i.1 s.1 (omega (arith, w))))
-    near_exp x (And line e d) hidden size t j le room k n f i s w = (let some = held_some e in omega (arith, room, some), (near_exp x e hidden size t j le (omega (arith, room)) k.0 n.0 f.0 i.0 s.0 (omega (arith, w)), near_exp x d hidden size t (j + made_by e) le (omega (arith, room)) k.1 n.1 f.1 i.1 s.1 (omega (arith, w))))
-    near_exp x (Or line e d) hidden size t j le room k n f i s w = (let some = held_some e in omega (arith, room, some), (near_exp x e hidden size t j le (omega (arith, room)) k.0 n.0 f.0 i.0 s.0 (omega (arith, w)), near_exp x d hidden size t (j + made_by e) le (omega (arith, room)) k.1 n.1 f.1 i.1 s.1 (omega (arith, w))))
-    near_exp x (Paren line e) hidden size t j le room k n f i s w = (let some = held_some e in omega (arith, room, some), near_exp x e hidden size t j le (omega (arith, room)) k n f i s (omega (arith, w)))
+    near_exp x (Unary line op e) hidden size t j le room k n f i s w = (let some = some_held e in omega (arith, room, some), near_exp x e hidden size t j le (omega (arith, room)) k n f i s (omega (arith, w)))
+    near_exp x (Binary line op e d) hidden size t j le room k n f i s w = (let some = some_held e in omega (arith, room, some), (near_exp x e hidden size t j le (omega (arith, room)) k.0 n.0 f.0 i.0 s.0 (omega (arith, w)), near_exp x d hidden size (t + 1) (j + made_by e) le (omega (arith, room)) k.1 n.1 f.1 i.1 s.1 (omega (arith, w))))
+    near_exp x (And line e d) hidden size t j le room k n f i s w = (let some = some_held e in omega (arith, room, some), (near_exp x e hidden size t j le (omega (arith, room)) k.0 n.0 f.0 i.0 s.0 (omega (arith, w)), near_exp x d hidden size t (j + made_by e) le (omega (arith, room)) k.1 n.1 f.1 i.1 s.1 (omega (arith, w))))
+    near_exp x (Or line e d) hidden size t j le room k n f i s w = (let some = some_held e in omega (arith, room, some), (near_exp x e hidden size t j le (omega (arith, room)) k.0 n.0 f.0 i.0 s.0 (omega (arith, w)), near_exp x d hidden size t (j + made_by e) le (omega (arith, room)) k.1 n.1 f.1 i.1 s.1 (omega (arith, w))))
+    near_exp x (Paren line e) hidden size t j le room k n f i s w = (let some = some_held e in omega (arith, room, some), near_exp x e hidden size t j le (omega (arith, room)) k n f i s (omega (arith, w)))
     near_exp x (Table line fs) hidden size t j le room k n f i s w = (omega (arith, room), near_fields x fs hidden size t 0 j le (omega (arith, room)) k n f i s (omega (arith, w)))
 
     -- `before` registers above a base
@@ -150,7 +151,7 @@ module _ (source : Option (List ℕ)) where
     near_stat x (While line e block) hidden named loops closing t j le room k n f i s w = (near_exp x e hidden t t j (omega (arith, le)) (omega (arith, room)) k.0 n.0 f.0 i.0 s.0 (omega (arith, w)), near_block x block true hidden named true closing t (j + made_by e) le k.1 n.1 f.1 i.1 s.1 (omega (arith, w)))
     near_stat x (Repeat line block e) hidden named loops closing t j le room k n f i s w =
         let ends = k.1.0 in
-        let some = held_some e in
+        let some = some_held e in
         (near_block x block false hidden named true closing t j le k.0 n.0 f.0 i.0 s.0 (omega (arith, w)), near_exp x e hidden (levels_in block t) (levels_in block t) (j + made_in_block block) (omega (arith, ends, some)) ends k.1.1 n.1 f.1 i.1 s.1 (omega (arith, w)))
     near_stat x (If line arms) hidden named loops closing t j le room k n f i s w = near_arms x arms hidden named loops closing t j le (omega (arith, room)) k n f i s (omega (arith, w))
     near_stat x (IfElse line arms block) hidden named loops closing t j le room k n f i s w = (near_arms x arms hidden named loops closing t j le (omega (arith, room)) k.0 n.0 f.0 i.0 s.0 (omega (arith, w)), near_block x block true hidden named loops closing t (j + made_in_arms arms) le k.1 n.1 f.1 i.1 s.1 (omega (arith, w)))

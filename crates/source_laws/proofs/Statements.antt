@@ -31,6 +31,7 @@ use Rattle.grammar_laws.specs.Formed.{IsCall, AreTargets, StatIsFormed, ArmsAreF
 use Rattle.grammar_laws.specs.Counted.{StatIsCounted, ArmsAreCounted, StatsAreCounted, BlockIsCounted}
 use Rattle.source_laws.proofs.Around.{Around, constants_of, functions_of, stack_of, counting, iterating}
 use Rattle.source_laws.proofs.Expressions.{constant_found, inner_placed, captures_placed, exp_placed, exps_placed}
+use Rattle.source_laws.proofs.Fields.{light}
 
 call_open : (e : Exp) → IsCall e → is_open e ≡ true
 call_open (Call line f es) o = refl
@@ -51,16 +52,12 @@ call_open (Or line e d) o = absurd o
 call_open (Paren line e) o = absurd o
 call_open (Table line fs) o = absurd o
 
-block_weighs : (block : Block) → BlockIsCounted block → weight_of_block block ≤ tokens_of block
-block_weighs (Falls ss tokens line) c = c.0
-block_weighs (Returns ss es tokens line) c = c.0
-
 module _ (x : Around) where
   -- a block of 16000 tokens has fewer than 2 ^ 17 instructions
   near : (block : Block) (closing : Bool) (outer t j : ℕ) → BlockIsCounted block → tokens_of block ≤ 16000 → IsNear (constants_of x) block closing outer t j
   near block closing outer t j c few = λ back.
       let short = block_short (constants_of x) back block closing outer t j in
-      let weighs = block_weighs block c in
+      let weighs = light block c in
       omega (arith, short, weighs, few)
 
   -- what is assigned

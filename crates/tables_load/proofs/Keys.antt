@@ -19,11 +19,7 @@ use Rattle.image_sound.specs.Reads.{ItemRead, All, RowRead}
 use Rattle.image_sound.proofs.Given.{numbers_name_records}
 use Rattle.tables_load.specs.Laws.{IsHome}
 use Rattle.tables_load.proofs.NewKeys.{KeysNew}
-
-kind_self : (k : Kind) → same_kind k k ≡ true
-kind_self a_table = refl
-kind_self a_function = refl
-kind_self a_coroutine = refl
+use Rattle.image_core.proofs.Parts.{kind_self}
 
 module _ (perms : List Perm) (env : ℕ) (T : Target) (home : IsHome perms env T) (rs : List Record) where
   abbrev R : Reader

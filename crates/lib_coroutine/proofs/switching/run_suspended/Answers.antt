@@ -1,8 +1,9 @@
 use Rattle.std.proofs.Common.{rules, ◌≡◌, [], ◌∷◌, ◌++◌, refl}
 use Rattle.std.specs.Prelude.{slice_set}
 use Rattle.lua_heap.specs.declared.world.World.{World as Memory}
-use Rattle.lib_coroutine.proofs.Switched.{goes, now_runs, still_within, woken_listed}
+use Rattle.lib_coroutine.proofs.Switched.{goes, now_runs, still_within}
 use Rattle.lib_coroutine.proofs.switching.run_suspended.Goals as goal
+use Rattle.lua_heap.proofs.Listed.{coroutine_listed}
 
 pub get_mut-requires : goal.get_mut-requires
 get_mut-requires c = still_within c.args.world.now c.wait_for_another.new.self c.args.co c.requires.suspended.stack c.requires.suspended.there c.wait_for_another.ensures.plain c.requires.running
@@ -27,4 +28,4 @@ returns-clause-running c =
 pub returns-clause-listed : goal.returns-clause-listed
 returns-clause-listed c = λ a.
     let M : Memory = c.wait_for_another.new.self in
-    woken_listed M.cells.objects M.coros.objects c.args.co.0 c.get_mut.result.now c.wake.new.coro c.get_mut.ensures.value c.wake.ensures.cells (c.wait_for_another.ensures.listed a)
+    coroutine_listed M.cells.objects M.coros.objects c.args.co.0 c.get_mut.result.now c.wake.new.coro c.get_mut.ensures.value c.wake.ensures.cells (c.wait_for_another.ensures.listed a)

@@ -5,7 +5,7 @@ use Rattle.tree_core.specs.Tree as tree
 use Rattle.tree_core.specs.declared.tree.Block.{out-Block}
 use Rattle.tree_core.specs.declared.tree.Arm.{out-Arm}
 use Rattle.tree_core.specs.Plain.{plain_exp, plain_exps, plain_stat, plain_stat_node, plain_block, plain_body, plain_arm, num_for_of}
-use Rattle.tree_core.proofs.Rows.{plain-local, plain-assign, plain-if, plain-num_for, plain-gen_for}
+use Rattle.tree_core.proofs.Rows.{plain-local, plain-assign, plain-if, plain-num_for, plain-gen_for, without_result, with_result}
 use Rattle.code_core.specs.declared.opcode.Opcode.TheVariants.{ForPrep, TForPrep, TForCall, TForLoop}
 use Rattle.code_of.specs.Coded.{with_abc, with_abx}
 use Rattle.code_of.specs.Sizes.{block_size}
@@ -15,7 +15,7 @@ use Rattle.code_expr.specs.Listing.{listed}
 use Rattle.code_expr.specs.Patches.{replaced}
 use Rattle.code_stat.specs.declared.writer.Writer.{Writer}
 use Rattle.code_stat.specs.Forms.{choice, level_at}
-use Rattle.code_stat.proofs.Plain.{falls_of, returns_of, ends_at, marks_at, chosen_of, arms_front}
+use Rattle.code_stat.proofs.Plain.{ends_at, marks_at, chosen_of, arms_front}
 use Rattle.code_stat.proofs.Heights.{stat_height, stats_height, choice_height, block_inside, within_height}
 use Rattle.code_stat.proofs.Drafting.{written_sized}
 use Rattle.code_stat.proofs.Choosing.{full_wrote, empty_wrote}
@@ -191,7 +191,7 @@ block-returns-in_ok-end_scopes-in-None-clause-code t c =
     let b = out-Block c.args.block.now in
     let top = top_is c.args.self.now c.statements.new.self (tree.stats (map plain_stat b.stats.items)) c.args.closing c.args.outer c.args.level c.in_ok-end-in-None.end.level c.closed_below-top.result c.made-before.result c.made-behind.result
     c.in_ok-end-in-None.ensures.code c.in_ok-end-in-None.ensures.level c.made-before.ensures c.made-behind.ensures c.closed_below-top.ensures in
-    subst (λ p. WroteBlock c.args.self.now (record c.statements.new.self { emitter = c.write_close.new.emitter; variables = c.end_scopes.new.self }) p c.args.closing c.args.outer c.args.level) (sym (falls_of c.args.block.now c.in-None.is))
+    subst (λ p. WroteBlock c.args.self.now (record c.statements.new.self { emitter = c.write_close.new.emitter; variables = c.end_scopes.new.self }) p c.args.closing c.args.outer c.args.level) (sym (without_result c.args.block.now c.in-None.is))
     (falls_wrote c.args.self.now c.statements.new.self (record c.statements.new.self { emitter = c.write_close.new.emitter; variables = c.end_scopes.new.self }) (tree.stats (map plain_stat b.stats.items)) b.tokens b.line c.args.closing c.args.outer c.args.level c.closed_below-top.result
     c.in_ok-end-in-None.ensures.code top c.in_ok-write_close-in-None.ensures refl refl)
 
@@ -199,26 +199,26 @@ pub block-returns-in_ok-end_scopes-in-Some-clause-code : goal.block-returns-in_o
 block-returns-in_ok-end_scopes-in-Some-clause-code t c =
     let b = out-Block c.args.block.now in
     let after : Writer = record c.statements-in-Some.new.self { emitter = c.write_return.new.emitter; variables = c.end_scopes-in-Some.new.self } in
-    subst (λ p. WroteBlock c.args.self.now after p c.args.closing c.args.outer c.args.level) (sym (returns_of c.args.block.now c.in-Some.values c.in-Some.is))
+    subst (λ p. WroteBlock c.args.self.now after p c.args.closing c.args.outer c.args.level) (sym (with_result c.args.block.now c.in-Some.values c.in-Some.is))
     (returns_wrote c.args.self.now c.statements-in-Some.new.self after (tree.stats (map plain_stat b.stats.items)) (tree.exps (plain_exps c.in-Some.values.items)) b.tokens b.line c.args.closing c.in_ok-end-in-Some.end.closing c.args.outer c.args.level
     c.in_ok-end-in-Some.end.level c.statements-in-Some.new.self.back.back c.in_ok-end-in-Some.ensures.code c.in_ok-end-in-Some.ensures.level c.in_ok-end-in-Some.ensures.closing refl c.in_ok-write_return-in-Some.ensures refl refl)
 
 pub open_block-returns-in-None-clause-code : goal.open_block-returns-in-None-clause-code
-open_block-returns-in-None-clause-code t c = subst (λ p. WroteOpen c.args.self.now c.statements.new.self p c.args.closing c.args.level) (sym (falls_of c.args.block.now c.in-None.is)) c.in_ok-end.ensures.code
+open_block-returns-in-None-clause-code t c = subst (λ p. WroteOpen c.args.self.now c.statements.new.self p c.args.closing c.args.level) (sym (without_result c.args.block.now c.in-None.is)) c.in_ok-end.ensures.code
 
 pub open_block-returns-in-None-clause-level : goal.open_block-returns-in-None-clause-level
-open_block-returns-in-None-clause-level t c = c.in_ok-end.ensures.level ∙ sym (ap (λ p. levels_in p c.args.level) (falls_of c.args.block.now c.in-None.is))
+open_block-returns-in-None-clause-level t c = c.in_ok-end.ensures.level ∙ sym (ap (λ p. levels_in p c.args.level) (without_result c.args.block.now c.in-None.is))
 
 pub open_block-returns-in_ok-write_return-in-Some-clause-code : goal.open_block-returns-in_ok-write_return-in-Some-clause-code
 open_block-returns-in_ok-write_return-in-Some-clause-code t c =
     let b = out-Block c.args.block.now in
     let after : Writer = record c.statements.new.self { emitter = c.write_return.new.emitter } in
-    subst (λ p. WroteOpen c.args.self.now after p c.args.closing c.args.level) (sym (returns_of c.args.block.now c.in-Some.values c.in-Some.is))
+    subst (λ p. WroteOpen c.args.self.now after p c.args.closing c.args.level) (sym (with_result c.args.block.now c.in-Some.values c.in-Some.is))
     (open_returns c.args.self.now c.statements.new.self after (tree.stats (map plain_stat b.stats.items)) (tree.exps (plain_exps c.in-Some.values.items)) b.tokens b.line c.args.closing c.in_ok-end.end.closing c.args.level
     c.in_ok-end.end.level c.statements.new.self.back.back c.in_ok-end.ensures.code c.in_ok-end.ensures.level c.in_ok-end.ensures.closing refl c.in_ok-write_return-in-Some.ensures refl refl)
 
 pub open_block-returns-in_ok-write_return-in-Some-clause-level : goal.open_block-returns-in_ok-write_return-in-Some-clause-level
-open_block-returns-in_ok-write_return-in-Some-clause-level t c = c.in_ok-end.ensures.level ∙ sym (ap (λ p. levels_in p c.args.level) (returns_of c.args.block.now c.in-Some.values c.in-Some.is))
+open_block-returns-in_ok-write_return-in-Some-clause-level t c = c.in_ok-end.ensures.level ∙ sym (ap (λ p. levels_in p c.args.level) (with_result c.args.block.now c.in-Some.values c.in-Some.is))
 
 -- an `if`
 
@@ -403,7 +403,7 @@ block-returns-in_ok-end_scopes-in-None-clause-variables t c =
     let b = out-Block c.args.block.now in
     let a = c.args.self.now in
     let ss = tree.stats (map plain_stat b.stats.items) in
-    let is = falls_of c.args.block.now c.in-None.is in
+    let is = without_result c.args.block.now c.in-None.is in
     let after : Writer = record c.statements.new.self { emitter = c.write_close.new.emitter; variables = c.end_scopes.new.self } in
     let first : c.count-first.result ≡ length a.variables = search rules in
     let code : WroteBlock a after (tree.Falls ss b.tokens b.line) c.args.closing c.args.outer c.args.level =
@@ -418,7 +418,7 @@ block-returns-in_ok-end_scopes-in-Some-clause-variables t c =
     let a = c.args.self.now in
     let ss = tree.stats (map plain_stat b.stats.items) in
     let es = tree.exps (plain_exps c.in-Some.values.items) in
-    let is = returns_of c.args.block.now c.in-Some.values c.in-Some.is in
+    let is = with_result c.args.block.now c.in-Some.values c.in-Some.is in
     let after : Writer = record c.statements-in-Some.new.self { emitter = c.write_return.new.emitter; variables = c.end_scopes-in-Some.new.self } in
     let first : c.count-first.result ≡ length a.variables = search rules in
     let code : WroteBlock a after (tree.Returns ss es b.tokens b.line) c.args.closing c.args.outer c.args.level =
@@ -428,11 +428,11 @@ block-returns-in_ok-end_scopes-in-Some-clause-variables t c =
     (c.place-returned.ensures ∙ block_ends a after (tree.Returns ss es b.tokens b.line) c.args.closing c.args.outer c.args.level code))
 
 pub open_block-returns-in-None-clause-variables : goal.open_block-returns-in-None-clause-variables
-open_block-returns-in-None-clause-variables t c = subst (λ p. DeclaresOpen c.args.self.now c.statements.new.self p c.args.closing c.args.level) (sym (falls_of c.args.block.now c.in-None.is)) c.in_ok-end.ensures.variables
+open_block-returns-in-None-clause-variables t c = subst (λ p. DeclaresOpen c.args.self.now c.statements.new.self p c.args.closing c.args.level) (sym (without_result c.args.block.now c.in-None.is)) c.in_ok-end.ensures.variables
 
 pub open_block-returns-in_ok-write_return-in-Some-clause-variables : goal.open_block-returns-in_ok-write_return-in-Some-clause-variables
 open_block-returns-in_ok-write_return-in-Some-clause-variables t c =
-    subst (λ p. DeclaresOpen c.args.self.now (record c.statements.new.self { emitter = c.write_return.new.emitter }) p c.args.closing c.args.level) (sym (returns_of c.args.block.now c.in-Some.values c.in-Some.is)) c.in_ok-end.ensures.variables
+    subst (λ p. DeclaresOpen c.args.self.now (record c.statements.new.self { emitter = c.write_return.new.emitter }) p c.args.closing c.args.level) (sym (with_result c.args.block.now c.in-Some.values c.in-Some.is)) c.in_ok-end.ensures.variables
 
 -- those of an `if`
 
