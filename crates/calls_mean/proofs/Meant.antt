@@ -59,7 +59,7 @@ short_lines (text ∷ texts) h =
 
 -- the prelude has a function for each key
 
-entries_length : {F : Type 0} (names : List (List ℕ × Library)) (fs : List F) → length fs ≡ length names → length (entries_of names fs) ≡ length names
+pub entries_length : {F : Type 0} (names : List (List ℕ × Library)) (fs : List F) → length fs ≡ length names → length (entries_of names fs) ≡ length names
 entries_length [] fs h = refl
 entries_length (n ∷ names) [] h = absurd (omega (arith, h))
 entries_length (n ∷ names) (f ∷ fs) h = ap suc (entries_length names fs (omega (arith, h)))

@@ -42,11 +42,6 @@ use Rattle.calls_mean.proofs.Meant.{all_there}
 
 -- the prelude has a function for each key
 
-entries_length : {F : Type 0} (names : List (List ℕ × Library)) (fs : List F) → length fs ≡ length names → length (entries_of names fs) ≡ length names
-entries_length [] fs h = refl
-entries_length (n ∷ names) [] h = absurd (omega (arith, h))
-entries_length (n ∷ names) (f ∷ fs) h = ap suc (entries_length names fs (omega (arith, h)))
-
 module _ (builds : Builds Body) (name content text image bytes : List ℕ) (budget : ℕ) (s : IsSavingCall builds name content text image bytes budget) where
   -- the run of the call
   record Saved : Type 0 where

@@ -61,7 +61,7 @@ tag_of tag = at0 (eqb_tells tag 0)
 same_value : {A : Type 0} {x y : A} {bytes rest : List ℕ} → read x bytes ≡ read y rest → y ≡ x
 same_value e = cc
 
-same_rest : {A : Type 0} {x y : A} {bytes rest : List ℕ} → read x bytes ≡ read y rest → bytes ≡ rest
+pub same_rest : {A : Type 0} {x y : A} {bytes rest : List ℕ} → read x bytes ≡ read y rest → bytes ≡ rest
 same_rest e = cc
 
 integer_spelled : (tag : ℕ) (n : ℤ) (x : Const) (bytes behind rest : List ℕ) → tag ≡ 3 → x ≡ Int n → behind ≡ rest → Spelled IntegerOf n bytes behind → Spelled (TaggedOf tag) x bytes rest

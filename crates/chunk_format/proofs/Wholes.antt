@@ -6,7 +6,7 @@ use Rattle.chunk_format.specs.Grammar.{NumberOf, SourceOf, HeadOf, ListsOf, Deta
 use Rattle.chunk_format.proofs.Exact.{Spelled, Exact, halves, exact_then, exact_gives}
 use Rattle.chunk_format.proofs.Bases.{exact_byte, exact_flag, exact_number}
 use Rattle.chunk_format.proofs.Formats.{exact_name, exact_instruction, exact_upvalue, exact_change, exact_abs_line, exact_local, exact_list}
-use Rattle.chunk_format.proofs.Constants.{exact_constant}
+use Rattle.chunk_format.proofs.Constants.{exact_constant, same_rest}
 
 exact_source : (parent : Option (List ℕ)) → Exact (SourceOf parent) (read_source parent)
 exact_source parent = exact_then exact_name (λ name. exact_gives (or_parents parent name))
@@ -27,9 +27,6 @@ exact_details =
 
 read_value : {A : Type 0} {x y : A} {bytes rest : List ℕ} → read x bytes ≡ read y rest → x ≡ y
 read_value e = cc
-
-read_rest : {A : Type 0} {x y : A} {bytes rest : List ℕ} → read x bytes ≡ read y rest → bytes ≡ rest
-read_rest e = cc
 
 -- functions, and how many of them
 
@@ -78,7 +75,7 @@ module _ {Rule : Prototype → List ℕ → Type 0} {get : ℕ → List ℕ → 
       let pair = read_value e in
       let no_ps : ps ≡ [] = ap (λ q. q.0) (sym pair) in
       let same : left ≡ after = ap (λ q. q.1) pair in
-      let behind = read_rest e in
+      let behind = same_rest e in
       record { front = []; whole = behind; spells = record { value = no_ps; nothing = refl }; counted = rw no_ps (omega arith) }
   sound_all (suc n) left after bytes rest ps e =
       let h = halves (get left bytes) _ (ps, after) rest e in
@@ -86,7 +83,7 @@ module _ {Rule : Prototype → List ℕ → Type 0} {get : ℕ → List ℕ → 
       let pair = read_value k.got_rest in
       all_spelled n left h.first.1 k.first.1 after bytes h.behind k.behind rest h.first.0 k.first.0 ps
       (exact.sound left h.first.1 bytes h.behind h.first.0 h.got_first) (sound_all n h.first.1 k.first.1 h.behind k.behind k.first.0 k.got_first)
-      (ap (λ q. q.0) (sym pair)) (ap (λ q. q.1) pair) (read_rest k.got_rest)
+      (ap (λ q. q.0) (sym pair)) (ap (λ q. q.1) pair) (same_rest k.got_rest)
 
   complete_all : (n left after : ℕ) (ps : List Prototype) (front rest : List ℕ) → TimesOf Rule n ps front → left ≡ after + count (prototypes ps) → read_functions get n left (front ++ rest) ≡ read (ps, after) rest
   complete_all zero left after ps front rest h counted =
@@ -157,7 +154,7 @@ module _ {Inner : Option (List ℕ) → Prototype → List ℕ → Type 0} {get 
       let c = halves (read_number l.behind) _ (p, after) rest l.got_rest in
       let f = halves (read_functions (get h.first.source) c.first left c.behind) _ (p, after) rest c.got_rest in
       let d = halves (read_details f.behind) _ (p, after) rest f.got_rest in
-      finish parent left after bytes d.behind rest p _ f.first.1 (read_value d.got_rest) (read_rest d.got_rest)
+      finish parent left after bytes d.behind rest p _ f.first.1 (read_value d.got_rest) (same_rest d.got_rest)
       (body_spelled parent h.first l.first c.first f.first.0 d.first left f.first.1 bytes h.behind l.behind c.behind f.behind d.behind
       ((exact_head parent).sound bytes h.behind h.first h.got_first)
       (exact_lists.sound h.behind l.behind l.first l.got_first)

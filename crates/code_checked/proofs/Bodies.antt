@@ -137,7 +137,7 @@ last_fits op n m (inr h) = ap (λ b. is_return op || b) (lt-ltb n m h) ∙ or_tr
     or_true true = refl
     or_true false = refl
 
-some_same : {A : Type 0} (x y : A) → Some x ≡ Some y → x ≡ y
+pub some_same : {A : Type 0} (x y : A) → Some x ≡ Some y → x ≡ y
 some_same x y e = cc
 
 module _ (source : Option (List ℕ)) (params : List Name) (vararg : Bool) (inner : Block) (ups : List UpName) (line : ℕ) where

@@ -21,14 +21,11 @@ use Rattle.code_checked.proofs.Pieces.{closed, returned, Ends, Land, Has, Kept, 
 use Rattle.code_checked.proofs.Units.{leaves_none, begins_none}
 use Rattle.code_checked.proofs.Words.{abc_fits}
 use Rattle.code_checked.proofs.Found.{grows_none}
-use Rattle.code_checked.proofs.Bodies.{has_all, kept_at, last_returns, rules_hold, last_fits, function, function_whole, whole_piece}
+use Rattle.code_checked.proofs.Bodies.{has_all, kept_at, last_returns, rules_hold, last_fits, function, function_whole, whole_piece, some_same}
 
 and_false : (b : Bool) → not (b && false) ≡ true
 and_false true = refl
 and_false false = refl
-
-some_same : {A : Type 0} (x y : A) → Some x ≡ Some y → x ≡ y
-some_same x y e = cc
 
 pub length_words : (xs : List Coded) → length (words xs) ≡ length xs
 length_words [] = refl

@@ -34,12 +34,9 @@ use Rattle.move_laws.specs.Memory.{InOrder}
 use Rattle.eris_read.specs.Known.{IsNamed}
 use Rattle.eris_read.specs.Loaded.{LoadsBy, LoadsImage}
 use Rattle.eris_read.specs.Unpersist.{CanRead, target}
+use Rattle.image_placed.proofs.ObjectsPlaced.{length_mapped}
 
 -- counts
-
-length_mapped : {A B : Type 0} (f : A → B) (xs : List A) → length (map f xs) ≡ length xs
-length_mapped f [] = refl
-length_mapped f (x ∷ xs) = ap suc (length_mapped f xs)
 
 pub starts : (W : Memory) (perms : List Perm) → Starts (target (plain W 0) perms) W
 starts W perms = record {

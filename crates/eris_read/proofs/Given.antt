@@ -12,7 +12,7 @@ use Rattle.int_core.specs.Operations.{is_function}
 use Rattle.int_core.specs.Heap.{Table}
 use Rattle.list_laws.proofs.Items.{some_same}
 use Rattle.machine_sound.proofs.Lists.{get_within}
-use Rattle.image_core.proofs.Lists.{chosen_get}
+use Rattle.image_core.proofs.Lists.{chosen_get, map_some}
 use Rattle.machine_core.specs.World.{Function, Coroutine, World}
 use Rattle.machine_sound.specs.Sound.{Each, Sizes, sizes, Valid, Solid}
 use Rattle.image_core.specs.Image.{PermKey, Perm, Item, plain, numbered, permanent, environment, Image, Record, table_record, function_record, fresh_record, suspended_record, dead_record, failed_record}
@@ -97,10 +97,6 @@ function_sort : (v : Value) → is_sort a_function (sort_of_object v) ≡ true �
 function_sort (known (primitive n)) h = refl
 function_sort (object a_function n) h = refl
 function_sort _ h = absurd (cc)
-
-map_some : {A B : Type 0} (f : A → B) (o : Option A) (y : B) → option_map f o ≡ Some y → (x : A) × (o ≡ Some x) × (f x ≡ y)
-map_some f None y h = absurd (cc)
-map_some f (Some x) y h = (x, refl, cc)
 
 code_there : (V : World) (v : Value) (p : Prototype) → code_of V v ≡ Some p → (n : ℕ) × (f : Function) × (v ≡ object a_function n) × (slice_get V.functions n ≡ Some f) × (f.code ≡ p)
 code_there V (known q) p h = absurd (cc)

@@ -27,6 +27,7 @@ use Rattle.image_records.specs.Names.{perm, object_of, proto_of, code_in, has_ke
 use Rattle.eris_read.specs.Unpersist.{CanRead, code_of}
 use Rattle.eris_read.specs.Known.{IsFunction, IsObject, IsPermanent, IsSmall, IsSmallNumber}
 use Rattle.lua_heap.proofs.Numbered.{checked_there}
+use Rattle.image_reading.proofs.Fronts.{map_last}
 
 -- a permanent of another key does not count
 passed_by : (ps : List Perm) (p : Perm) (rest : List Perm) (name : PermKey) → same_key p.key name ≡ false → object_named (ps ++ p ∷ rest) name ≡ object_named (ps ++ rest) name
@@ -46,10 +47,6 @@ kept (x ∷ es) e there rest name = by (same_key (key x.0) (key e.0)) refl (λ a
         → object_named (map perm (x ∷ es) ++ perm e ∷ rest) name ≡ object_named (map perm (x ∷ es) ++ rest) name
     by true same again = by_name same (same_key (key x.0) name) refl
     by false other again = ap (cond (same_key (key x.0) name) (object_of x.1.object)) (again (sym (ap (λ b. cond b true (has_key es (key e.0))) other) ∙ there))
-
-map_last : {A B : Type 0} (f : A → B) (xs : List A) (x : A) → map f (xs ++ x ∷ []) ≡ map f xs ++ f x ∷ []
-map_last f [] x = refl
-map_last f (y ∷ xs) x = ap (λ ys. f y ∷ ys) (map_last f xs x)
 
 pub object_added : (es : List (Key × Named)) (e : Key × Named) (rest : List Perm) (name : PermKey) → object_named (map perm (added es e) ++ rest) name ≡ object_named (map perm es ++ perm e ∷ rest) name
 object_added es e rest name = by (has_key es (key e.0)) refl

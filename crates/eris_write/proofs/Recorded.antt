@@ -45,6 +45,7 @@ use Rattle.eris_write.specs.Writing.{Writes, texts_in, inside_in, naming_in, rea
 use Rattle.eris_write.proofs.Putting.{or_none as or_no_other, puts_both, puts_then, puts_as, puts_is, writes_both, writes_as}
 use Rattle.eris_write.proofs.Spelled.{all_both, list_spelled, word_spelled, code_spelled, function_spelled, reference_spelled, closed_spelled, open_spelled, closing_spelled, error_spelled, lua_spelled, wait_number_is, wait_spelled, fresh_spelled, suspended_spelled, dead_spelled, failed_spelled, no_coroutine_spelled, xpcall_spelled, record_is}
 use Rattle.eris_write.proofs.Written.{value_fields, one_on}
+use Rattle.graph_core.proofs.Framed.{not_there}
 
 -- functions
 
@@ -252,18 +253,13 @@ one_frame w fs n f a b c g h k =
     ∙ all_both (frame_format R) (map N (map G (take n fs))) (N (G f) ∷ []) ∙ ap (λ l. frames_bytes w (take n fs) R ++ l) (append_nil (frame_bytes w f R))))
     (writes_both w (frames_fields w (take n fs)) (fields_of (texts_in w) f) (frames_bytes w (take n fs)) (frame_bytes w f) h k)
 
-not_past : {A : Type 0} (xs : List A) (n : ℕ) → n < length xs → slice_get xs n ≡ None → ⊥
-not_past [] n l e = absurd (omega arith)
-not_past (x ∷ xs) zero l e = absurd (cc)
-not_past (x ∷ xs) (suc n) l e = not_past xs n (omega arith) e
-
 pub next_frame : (w : Writer) (fs : List KeptFrame) (n : ℕ) (a b c : Output) → n < length fs → Writes w a b (frames_fields w (take n fs)) (frames_bytes w (take n fs))
     → Writes w b c (fields_at (texts_in w) fs n) (bytes_at w fs n) → Writes w a c (frames_fields w (take (n + 1) fs)) (frames_bytes w (take (n + 1) fs))
 next_frame w fs n a b c l h k = go (slice_get fs n) refl k
   where
     go : (o : Option KeptFrame) → slice_get fs n ≡ o → Writes w b c (elim o [ None ↦ [] | Some f ↦ fields_of (texts_in w) f ]) (λ R. elim o [ None ↦ [] | Some f ↦ frame_bytes w f R ])
         → Writes w a c (frames_fields w (take (n + 1) fs)) (frames_bytes w (take (n + 1) fs))
-    go None e k = absurd (not_past fs n l e)
+    go None e k = absurd (not_there fs n l e)
     go (Some f) e k = one_frame w fs n f a b c e h k
 
 -- coroutines

@@ -15,10 +15,10 @@ use Rattle.machine_runs.specs.Runs.{resumed_main, after_waking, wakes, with_budg
 use Rattle.functions_stay.specs.Laws.{Keeps, KeepsIfMade, KeepsAtEnd, RowsKeep, StepsKeep, RunsKeep, OnwardKeeps}
 use Rattle.functions_stay.proofs.Moves.{same, still, keeps_then, kept_after, starts_kept, moves_keep}
 
-none_some : {A : Type 0} (x : A) → None ≡ Some x → ⊥
+pub none_some : {A : Type 0} (x : A) → None ≡ Some x → ⊥
 none_some x e = cc
 
-map_some : {A B : Type 0} (f : A → B) (o : Option A) (y : B) → option_map f o ≡ Some y → (x : A) × (o ≡ Some x) × (f x ≡ y)
+pub map_some : {A B : Type 0} (f : A → B) (o : Option A) (y : B) → option_map f o ≡ Some y → (x : A) × (o ≡ Some x) × (f x ≡ y)
 map_some f None y e = absurd (none_some y e)
 map_some f (Some x) y e = (x, refl, some_same (f x) y e)
 

@@ -126,7 +126,7 @@ lua_met w v a b c d e h k l m =
     (fields_both w c d e rs es
     (with_nils w c d v.registers.now v.nils (fields_as w c d (flat_map (λ x. value_field w x ∷ []) v.registers.now) (map of_value (map (value T) v.registers.now)) (listed w v.registers.now) l)) m))
 
-not_there : {A : Type 0} (xs : List A) (n : ℕ) → n < length xs → slice_get xs n ≡ None → ⊥
+pub not_there : {A : Type 0} (xs : List A) (n : ℕ) → n < length xs → slice_get xs n ≡ None → ⊥
 not_there [] n l e = absurd (omega arith)
 not_there (x ∷ xs) zero l e = absurd (cc)
 not_there (x ∷ xs) (suc n) l e = not_there xs n (omega arith) e

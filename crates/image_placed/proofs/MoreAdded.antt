@@ -132,7 +132,7 @@ zip_push R [] (b ∷ ys) x y h r = absurd h
 zip_push R (a ∷ xs) [] x y h r = absurd h
 zip_push R (a ∷ xs) (b ∷ ys) x y h r = (h.0, zip_push R xs ys x y h.1 r)
 
-map_push : {A B : Type 0} (f : A → B) (xs : List A) (x : A) → map f (xs ++ x ∷ []) ≡ map f xs ++ f x ∷ []
+pub map_push : {A B : Type 0} (f : A → B) (xs : List A) (x : A) → map f (xs ++ x ∷ []) ≡ map f xs ++ f x ∷ []
 map_push f [] x = refl
 map_push f (y ∷ xs) x = ap (λ l. f y ∷ l) (map_push f xs x)
 

@@ -35,10 +35,7 @@ use Rattle.image_placed.specs.declared.texts.Part.TheVariants.{Function as Funct
 use Rattle.image_placed.specs.Placing.{AddsObjects, AreMade, PlacesObjects, AreOpen, AreAll, AreListedBut, PlacesCoroutines, PlacesAll, part_read}
 use Rattle.image_placed.proofs.ObjectsAdded.{objects_none, objects_then}
 use Rattle.image_placed.proofs.OpenListed.{stack_listed, none_listed, cells_listed, all_listed}
-
-map_push : {A B : Type 0} (f : A → B) (xs : List A) (x : A) → map f (xs ++ x ∷ []) ≡ map f xs ++ f x ∷ []
-map_push f [] x = refl
-map_push f (y ∷ xs) x = ap (λ l. f y ∷ l) (map_push f xs x)
+use Rattle.image_placed.proofs.MoreAdded.{map_push}
 
 both_by : {B : Type 0} (o : Option B) (whole front back : List B) → whole ≡ front ++ back
     → elim o [ None ↦ whole | Some y ↦ y ∷ whole ] ≡ elim o [ None ↦ front | Some y ↦ y ∷ front ] ++ back
@@ -221,7 +218,7 @@ one_listed : (C : List Cell) (L : List (Option (List OpenCell))) (os : List Open
 one_listed C L os own from to None e l open_ones b = subst (AreListedBut C (L ++ None ∷ []) os) (sym l) (none_listed C L os from b)
 one_listed C L os own from to (Some cells) e l open_ones b = stack_listed C L os own from to cells open_ones b e l
 
-length_mapped : {A B : Type 0} (f : A → B) (xs : List A) → length (map f xs) ≡ length xs
+pub length_mapped : {A B : Type 0} (f : A → B) (xs : List A) → length (map f xs) ≡ length xs
 length_mapped f [] = refl
 length_mapped f (x ∷ xs) = ap suc (length_mapped f xs)
 

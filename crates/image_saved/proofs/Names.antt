@@ -11,7 +11,7 @@ use Rattle.image_core.proofs.Lists.{map_some, none_some}
 use Rattle.image_saved.specs.Permanents.{same_key, object_named, NamesAreRead}
 use Rattle.image_saved.proofs.Equal.{key_is, key_self}
 
-some_so : {A : Type 0} {a b : A} → Some a ≡ Some b → a ≡ b
+pub some_so : {A : Type 0} {a b : A} → Some a ≡ Some b → a ≡ b
 some_so e = cc
 
 -- a permanent that gave a value its key

@@ -14,11 +14,11 @@ use Rattle.image_sound.specs.Reads.{Gives, ItemRead, All, RowRead, WaitRead, Lua
 use Rattle.image_bytes.proofs.Back.{equal_true}
 
 -- the two halves of a reading that went through
-halves : {A B : Type 0} (got : Got A) (more : A → ℕ → List ℕ → Got B) (y : B) (m : ℕ) (rest : List ℕ) → and_then got more ≡ read y m rest → (x : A) × (k : ℕ) × (behind : List ℕ) × (got ≡ read x k behind) × (more x k behind ≡ read y m rest)
+pub halves : {A B : Type 0} (got : Got A) (more : A → ℕ → List ℕ → Got B) (y : B) (m : ℕ) (rest : List ℕ) → and_then got more ≡ read y m rest → (x : A) × (k : ℕ) × (behind : List ℕ) × (got ≡ read x k behind) × (more x k behind ≡ read y m rest)
 halves (read x k behind) more y m rest e = (x, k, behind, refl, e)
 halves (refused f) more y m rest e = absurd (cc)
 
-read_so : {A : Type 0} {x y : A} {m n : ℕ} {a b : List ℕ} → read x m a ≡ read y n b → x ≡ y
+pub read_so : {A : Type 0} {x y : A} {m n : ℕ} {a b : List ℕ} → read x m a ≡ read y n b → x ≡ y
 read_so e = cc
 
 pub any_gives : {A : Type 0} {F : Format A} → Gives F (λ _. Unit {0})

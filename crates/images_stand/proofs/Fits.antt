@@ -29,9 +29,7 @@ use Rattle.list_laws.proofs.Tests.{both_true}
 use Rattle.machine_sound.proofs.Values.{lt_true}
 use Rattle.image_same.proofs.Order.{same_is}
 use Rattle.image_bytes.proofs.Back.{equal_true}
-
-some_so : {A : Type 0} {a b : A} → Some a ≡ Some b → a ≡ b
-some_so e = cc
+use Rattle.image_saved.proofs.Names.{some_so}
 
 and_four : (a b c d : Bool) → a ≡ true → b ≡ true → c ≡ true → d ≡ true → (a && (b && (c && d))) ≡ true
 and_four a b c d e f g h = rw (e, f, g, h) refl

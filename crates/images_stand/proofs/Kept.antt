@@ -35,11 +35,8 @@ use Rattle.image_sound.proofs.Savable.{open_cells_there}
 use Rattle.images_stand.specs.Standing.{IsObject, KeyFits, ArePermanents, PlainIsHeld, FieldIsHeld, IsItem, Knows, name, all_fields}
 use Rattle.images_stand.proofs.Items.{Refers, PlainStands, ItemStands}
 use Rattle.images_stand.proofs.Records.{Stand, RowStands, AreNew, WaitStands, LuaStands, ErrorStands, FrameStands, RecordStands, registers_bound}
-use Rattle.image_saved.proofs.Names.{KeyFrom, key_found}
+use Rattle.image_saved.proofs.Names.{KeyFrom, key_found, some_so}
 use Rattle.image_bytes.proofs.Back.{below_true}
-
-some_so : {A : Type 0} {a b : A} → Some a ≡ Some b → a ≡ b
-some_so e = cc
 
 every_two : {A : Type 0} (P Q : A → Type 0) (xs : List A) → Every P xs → Every Q xs → Every (λ x. P x × Q x) xs
 every_two P Q [] h k = tt

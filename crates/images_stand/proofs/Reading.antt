@@ -11,9 +11,7 @@ use Rattle.image_saved.proofs.Equal.{key_is, key_self}
 use Rattle.images_stand.specs.Standing.{IsObject, ArePermanents, PlainIsHeld, IsItem}
 use Rattle.images_stand.specs.Readers.{object_sort, a_value, a_record, becomes, ReadersKnow}
 use Rattle.images_stand.proofs.Kept.{Named, by_environment, by_key, named_so}
-
-some_so : {A : Type 0} {a b : A} → Some a ≡ Some b → a ≡ b
-some_so e = cc
+use Rattle.image_saved.proofs.Names.{some_so}
 
 -- each key stands for its object
 module _ (env : ℕ) (perms : List Perm) (are : ArePermanents perms) where

@@ -15,15 +15,13 @@ use Rattle.image_bytes.specs.Bytes.{Reader, reference, item_format, is_table_or_
 use Rattle.images_stand.proofs.Items.{Refers, reference_walks, ItemStands, item_walks, item_costs, only_walks}
 use Rattle.images_stand.proofs.Walks.{bind_same, walk_append, Walks, byte_walks, word_walks, raw_walks, nothing_walks, followed_walks, tested_walks, case_walks, tagged_walks, word_costs, fewer, times_walks, spelled_list, list_by_walks, list_walks, quiet, walks_as}
 use Rattle.list_laws.proofs.Tests.{eq_refl, both_true}
+use Rattle.image_saved.proofs.Names.{some_so}
 
 pub sooner : (n : ℕ) (xs ys : List ℕ) → n ≤ length xs → n ≤ length (xs ++ ys)
 sooner n xs ys h = let l = length-append xs ys in omega (arith, l, h)
 
 pub later : (n : ℕ) (xs ys : List ℕ) → n ≤ length ys → n ≤ length (xs ++ ys)
 later n xs ys h = let l = length-append xs ys in omega (arith, l, h)
-
-some_so : {A : Type 0} {a b : A} → Some a ≡ Some b → a ≡ b
-some_so e = cc
 
 single : (ns : List ℕ) → flat_map (λ n. n ∷ []) ns ≡ ns
 single [] = refl

@@ -21,14 +21,12 @@ use Rattle.move_laws.specs.Memory.{Leads, Makes}
 use Rattle.move_laws.proofs.Rows.{act_is}
 use Rattle.lib_coroutine.specs.Arguments.{can_be_called, coroutine_in}
 use Rattle.machine_errors.proofs.Calls.{nth_behind}
+use Rattle.machine_calls.proofs.Left.{world_made}
 
 -- worlds in which something else moves
 
 abbrev pub with_moving : World → List Value → World
 with_moving W vs = record W { moving = vs }
-
-world_made : {V W : World} → ◌≡◌ {A = Option (Made (Unit {0}))} (made V [] tt) (made W [] tt) → V ≡ W
-world_made {V} e = ap (λ (o : Option (Made (Unit {0}))). elim o as (λ _. World) [ Some d ↦ d.world | None ↦ V ]) e
 
 pub given_is : {mid new : Memory} {vs : List Value} (xs : List Arg) → Makes mid new (give xs) vs [] tt → (fuel : ℕ) → plain new fuel ≡ with_moving (plain mid fuel) (args_of vs xs)
 given_is xs h fuel = world_made (sym (h.is fuel))

@@ -32,6 +32,8 @@ use Rattle.lua_heap.specs.Reading.{text_or, value}
 use Rattle.lua_heap.specs.Codes.{functions, AreCodes, code_or_none, no_code, prototype_at}
 use Rattle.lua_heap.specs.Plain.{function, coroutine, plain}
 use Rattle.lua_heap.specs.Places.{line_in, place_in, nth_place, stack_if_runs, running_stack}
+use Rattle.lua_stack.proofs.Told.{last_map}
+use Rattle.lua_stack.proofs.Pushed.{get_past}
 
 abbrev Line : Type 0
 Line = List ℕ × ℕ
@@ -62,15 +64,6 @@ source_case : (source : Option (List ℕ)) (line : Option ℕ)
     → bind source (λ name. bind line (λ n. Some (position name n))) ≡ option_map text_of_line (bind source (λ name. bind line (λ n. Some (name, n))))
 source_case None line = refl
 source_case (Some name) line = line_case name line
-
-pub last_mapped : {A B : Type 0} (f : A → B) (xs : List A) → last (map f xs) ≡ option_map f (last xs)
-last_mapped f [] = refl
-last_mapped f (x ∷ xs) =
-    ap (slice_get (f x ∷ map f xs)) (mapped_length f xs) ∙ slice_get-map f (x ∷ xs) (length xs)
-  where
-    mapped_length : {A B : Type 0} (f : A → B) (xs : List A) → length (map f xs) ≡ length xs
-    mapped_length f [] = refl
-    mapped_length f (x ∷ xs) = ap suc (mapped_length f xs)
 
 module _ (W : Memory) (fuel : ℕ) where
   function_case : (pc : ℕ) (o : Option Func)
@@ -147,7 +140,7 @@ module _ (W : Memory) (fuel : ℕ) where
   pub where_is : (level : ℕ) → where_text (plain W fuel) level ≡ text_or_nothing (bind (running_stack W) (λ s. nth_place W s.frames level))
   where_is level =
       ap (λ (o : Option ℕ). elim (bind (bind o (λ co. bind (frames_at co) (λ frames. Some (stack_at co frames)))) (λ s. slice_get (filter_map (frame_place (plain W fuel)) (reverse s.frames)) level)) [ None ↦ [] | Some text ↦ text ])
-      (last_mapped (λ (co : CoroId). co.0) W.chain.items)
+      (last_map (λ (co : CoroId). co.0) W.chain.items)
       ∙ in_chain level (last W.chain.items)
 
 -- checked code
@@ -249,17 +242,12 @@ module _ (W : Memory) (frames : List KeptFrame) (n : ℕ) (f : KeptFrame) (here 
 
 -- a function without code that is there has no line
 
-past : {A : Type 0} (xs : List A) (n : ℕ) → length xs ≤ n → slice_get xs n ≡ None
-past [] n h = refl
-past (x ∷ xs) zero h = absurd (omega (arith, h))
-past (x ∷ xs) (suc n) h = past xs n (omega (arith, h))
-
 pub no_place : (W : Memory) (function : FuncId) (pc : ℕ) (g : Func) → AreCodes W.strings W.codes → slice_get W.funcs.objects function.0 ≡ Some g → length W.codes.list.items ≤ g.code.0
     → None ≡ place_in W (function, pc)
 unfolding no_code
 no_place W function pc g h e l =
     let c = h.count in
-    let none : slice_get (functions W.codes) g.code.0 ≡ None = past (functions W.codes) g.code.0 (omega (arith, l, c)) in
+    let none : slice_get (functions W.codes) g.code.0 ≡ None = get_past (functions W.codes) g.code.0 (omega (arith, l, c)) in
     sym (ap (λ (o : Option Func). bind o (λ g. line_in (prototype_at (functions W.codes) g.code.0) pc)) e ∙ ap (λ (o : Option Prototype). line_in (code_or_none o) pc) none)
 
 -- a string's text

@@ -18,7 +18,7 @@ use Rattle.lua_heap.specs.declared.world.World.{World as Memory}
 use Rattle.lua_heap.specs.Reading.{value}
 use Rattle.lua_heap.specs.Plain.{coroutine, plain}
 use Rattle.lua_heap.specs.Cells.{IsOnce, AreListed, list_or_empty, open_cells_in}
-use Rattle.lua_heap.proofs.Placed.{last_mapped}
+use Rattle.lua_stack.proofs.Told.{last_map}
 
 -- lists
 
@@ -39,7 +39,7 @@ set_cases (z ∷ zs) zero (suc k) x y e = inr e
 set_cases (z ∷ zs) (suc n) zero x y e = inr e
 set_cases (z ∷ zs) (suc n) (suc k) x y e = ⊎_elim (λ p. inl (ap suc p.0, p.1)) (λ q. inr q) (set_cases zs n k x y e)
 
-without_mapped : {A B : Type 0} (f : A → B) (xs : List A) → map f (without_last xs) ≡ without_last (map f xs)
+pub without_mapped : {A B : Type 0} (f : A → B) (xs : List A) → map f (without_last xs) ≡ without_last (map f xs)
 without_mapped f xs = taken f (length xs - 1) xs ∙ ap (λ n. take (n - 1) (map f xs)) (sym (mapped_length f xs))
   where
     taken : {A B : Type 0} (f : A → B) (n : ℕ) (xs : List A) → map f (take n xs) ≡ take n (map f xs)
@@ -101,7 +101,7 @@ pub is_running : (W : Memory) (fuel : ℕ) (s : Stack) → stack_of (plain W fue
 is_running W fuel s e =
     let coroutines : List Coroutine = map (coroutine W.strings) W.coros.objects in
     let a = bind_some (λ n. bind (bind (slice_get coroutines n) running_frames) (λ fs. Some (stack_with n fs))) (last (map (λ (co : CoroId). co.0) W.chain.items)) s e in
-    let co = mapped_some (λ (co : CoroId). co.0) (last W.chain.items) a.0 (sym (last_mapped (λ (co : CoroId). co.0) W.chain.items) ∙ a.1) in
+    let co = mapped_some (λ (co : CoroId). co.0) (last W.chain.items) a.0 (sym (last_map (λ (co : CoroId). co.0) W.chain.items) ∙ a.1) in
     let b = bind_some (λ fs. Some (stack_with a.0 fs)) (bind (slice_get coroutines a.0) running_frames) s a.2 in
     let d = bind_some running_frames (slice_get coroutines a.0) b.0 b.1 in
     let m = map_get (coroutine W.strings) W.coros.objects a.0 d.0 d.1 in
@@ -183,7 +183,7 @@ module _ (W new : Memory) (fuel : ℕ) (rest : new ≡ record W { coros = new.co
   now = ap (λ (V : Memory). plain V fuel) rest
 
   last_ids : (o : Option CoroId) → last new.chain.items ≡ o → last ids ≡ option_map (λ (co : CoroId). co.0) o
-  last_ids o e = last_mapped (λ (co : CoroId). co.0) new.chain.items ∙ ap (option_map (λ (co : CoroId). co.0)) e
+  last_ids o e = last_map (λ (co : CoroId). co.0) new.chain.items ∙ ap (option_map (λ (co : CoroId). co.0)) e
 
   pub nobody_goes_on : last new.chain.items ≡ None → new.coros.objects ≡ W.coros.objects → plain new fuel ≡ back_to_resumer (plain W fuel)
   nobody_goes_on e is =

@@ -27,10 +27,6 @@ added_none a b cell p c f n =
       named = ap (λ (W : Memory). map (λ f. f.0) W.prelude.funcs.items) c.rest ∙ ap (map (λ f. f.0)) n;
     }
 
-pub is_none : {A : Type 0} (xs : List A) → length xs ≡ 0 → xs ≡ []
-is_none [] e = refl
-is_none (x ∷ xs) e = absurd (omega (arith, e))
-
 get_middle : {A : Type 0} (xs ys : List A) (x : A) → slice_get (xs ++ x ∷ ys) (length xs) ≡ Some x
 get_middle [] ys x = refl
 get_middle (z ∷ xs) ys x = get_middle xs ys x

@@ -55,11 +55,11 @@ no_text texts text short absent _ e = absurd (cc)
 abbrev pub named : Bor (List ℕ) × Item → Value × Value
 named r = meant r.0.now r.1
 
-length_map : {A B : Type 0} (f : A → B) (xs : List A) → length (map f xs) ≡ length xs
+pub length_map : {A B : Type 0} (f : A → B) (xs : List A) → length (map f xs) ≡ length xs
 length_map f [] = refl
 length_map f (x ∷ xs) = ap suc (length_map f xs)
 
-at_default : {A : Type 0} (xs : List A) (n : ℕ) (d : A) → n < length xs → slice_get xs n ≡ Some (get_or xs n d)
+pub at_default : {A : Type 0} (xs : List A) (n : ℕ) (d : A) → n < length xs → slice_get xs n ≡ Some (get_or xs n d)
 at_default [] n d h = absurd (omega (arith, h))
 at_default (x ∷ xs) zero d h = refl
 at_default (x ∷ xs) (suc n) d h = at_default xs n d (omega (arith, h))

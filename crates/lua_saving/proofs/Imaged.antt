@@ -34,10 +34,7 @@ use Rattle.session_images.proofs.Resuming.{roots_valid}
 use Rattle.lua_saving.specs.Saving.{IsAsMade, IsImage, IsLarge}
 use Rattle.lua_saving.proofs.Fields.{none_refused}
 use Rattle.images_joined.proofs.Held.{held_of}
-
-length_map : {A B : Type 0} (f : A → B) (xs : List A) → length (map f xs) ≡ length xs
-length_map f [] = refl
-length_map f (x ∷ xs) = ap suc (length_map f xs)
+use Rattle.lua_opening.proofs.RowByRow.{length_map}
 
 -- a session has five roots
 pub five : (W : Memory) (roots : List Kept) → ((fuel : ℕ) → map (value W.strings) roots ≡ session_roots (plain W fuel)) → length roots ≡ root_count

@@ -29,6 +29,7 @@ use Rattle.lua_saving.specs.Made.{holds_environment, is_environment_cell, is_apa
 use Rattle.lua_saving.specs.Saving.{IsAsMade, IsTouched}
 use Rattle.machine_runs.proofs.Opening.{number_count}
 use Rattle.session_images.proofs.Keys.{not_both}
+use Rattle.lua_opening.proofs.RowByRow.{at_default}
 
 -- numbers
 
@@ -43,11 +44,6 @@ length_ids (x ∷ ids) = ap suc (length_ids ids)
 
 number_so : (count n : ℕ) → n < count → slice_get (numbers 0 count) n ≡ Some n
 number_so count n h = let e : 0 + n ≡ n = omega arith in number_at 0 count n h ∙ ap Some e
-
-at_default : {A : Type 0} (xs : List A) (n : ℕ) (d : A) → n < length xs → slice_get xs n ≡ Some (get_or xs n d)
-at_default [] n d h = absurd (omega (arith, h))
-at_default (x ∷ xs) zero d h = refl
-at_default (x ∷ xs) (suc n) d h = at_default xs n d (omega (arith, h))
 
 pub numbered_more : (ids : List FuncId) (count n : ℕ) (d : FuncId) → n < length ids → length ids ≡ count → (get_or ids n d).0 ≡ n → take n (map (λ (f : FuncId). f.0) ids) ≡ take n (numbers 0 count)
     → take (n + 1) (map (λ (f : FuncId). f.0) ids) ≡ take (n + 1) (numbers 0 count)

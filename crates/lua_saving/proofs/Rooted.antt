@@ -6,9 +6,7 @@ use Rattle.machine_core.specs.World.{World}
 use Rattle.machine_sound.specs.Sound.{Each, sizes, Valid, OptionOk, Solid, standing, ChainOk, idle, Sound}
 use Rattle.image_core.proofs.Lists.{none_some}
 use Rattle.image_load.specs.Session.{with_roots}
-
-some_so : {A : Type 0} {a b : A} → Some a ≡ Some b → a ≡ b
-some_so e = cc
+use Rattle.image_saved.proofs.Names.{some_so}
 
 -- no coroutine runs, whichever is the main one
 other_main : (W : World) (main : Option ℕ) → W.chain ≡ [] → ChainOk W.main (map standing W.coroutines) W.chain → ChainOk main (map standing W.coroutines) W.chain

@@ -15,6 +15,7 @@ use Rattle.scope_core.specs.Least.{IsLeastOf, is_before, meet}
 use Rattle.scope_core.proofs.Leasts.{first_met, earlier_met, later_met}
 use Rattle.lua_scope.specs.Met.{meet_all, met_declared, met_names, met_declarations, met_exp, met_exps, met_fields, met_field, met_body, met_stats, met_block, met_stat, met_arms}
 use Rattle.lua_scope.proofs.Meeting.{meet_append}
+use Rattle.scope_core.proofs.Going.{append_nil}
 
 abbrev broken : List Located → List Violation
 broken parts = flat_map (λ located. part_violations located.around located.part) parts
@@ -164,10 +165,6 @@ step_least all (Some w) v l = by (is_before v w) refl where
   by : (b : Bool) → is_before v w ≡ b → IsLeastOf (all ++ v ∷ []) (if b then Some v else Some w)
   by true e = earlier_met all v w e l
   by false e = later_met all v w e l
-
-append_nil : {X : Type 0} (xs : List X) → xs ++ [] ≡ xs
-append_nil [] = refl
-append_nil (x ∷ xs) = ap (λ ys. x ∷ ys) (append_nil xs)
 
 least_of_all : (all : List Violation) (o : Option Violation) (vs : List Violation) → IsLeastOf all o → IsLeastOf (all ++ vs) (meet_all o vs)
 least_of_all all o [] l = subst (λ xs. IsLeastOf xs o) (sym (append_nil all)) l

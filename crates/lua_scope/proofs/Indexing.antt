@@ -15,7 +15,7 @@ use Rattle.tree_core.specs.Tree.{Stat, Label, stats}
 use Rattle.scope_core.specs.Rules.{Found, Missing, Fine, Entering, is_label, declares_variable, is_empty_or_label, only_labels, find_behind}
 use Rattle.lua_scope.specs.declared.index.LabelPlace.{LabelPlace}
 use Rattle.lua_scope.specs.Indexed.{declared_behind, first_label, found_in, label_of, or_first, IsEndFrom}
-use Rattle.lua_scope.proofs.Looping.{front}
+use Rattle.scope_core.proofs.Holding.{front}
 
 -- a statement that is no label adds nothing
 pub no_label : (o : Option LabelPlace) (place : LabelPlace) → o ≡ or_first o false place

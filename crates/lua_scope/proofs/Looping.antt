@@ -3,10 +3,7 @@ use Rattle.std.proofs.Common.{arith, ℕ, suc, ◌+◌, ◌≡◌, ◌≤◌, �
 use Rattle.std.specs.Prelude.{slice_index_or}
 use Rattle.std.proofs.lemmas.List.{drop_more, drop_all, get_or-map, length-map, reverse-append}
 use Rattle.std.proofs.Math.Seq.{take-suc}
-
--- an item of a list begins what is left of it
-pub front : {X : Type 0} (xs : List X) (i : ℕ) (x : X) → i < length xs → x ≡ slice_index_or xs i x → drop i xs ≡ x ∷ drop (i + 1) xs
-front xs i x h e = drop_more xs i x h ∙ ap (λ y. y ∷ drop (i + 1) xs) (sym e)
+use Rattle.scope_core.proofs.Holding.{front}
 
 pub on :
     {S X V : Type 0} (M : S → List X → V) (step : S → X → List X → S)

@@ -14,7 +14,8 @@ use Rattle.lua_scope.specs.declared.labels.BlockPlace.{BlockPlace}
 use Rattle.lua_scope.specs.declared.checks.Flags.{Flags}
 use Rattle.lua_scope.specs.Blocks.{around_of, arounds, moved, scope_at}
 use Rattle.lua_scope.specs.Met.{meet_all, met_stat, met_stats}
-use Rattle.lua_scope.proofs.Looping.{front, passed}
+use Rattle.lua_scope.proofs.Looping.{passed}
+use Rattle.scope_core.proofs.Holding.{front}
 
 pub one_more : (blocks : List BlockPlace) (block : BlockPlace) → arounds (blocks ++ block ∷ []) ≡ around_of block ∷ arounds blocks
 one_more blocks block = ap (map around_of) (reverse-append blocks (block ∷ []))

@@ -27,7 +27,7 @@ take_both (suc a) zero xs = let e : min 0 (suc a) ≡ 0 = omega arith in ap (λ 
 take_both {A = A} (suc a) (suc b) [] = let e : min (suc b) (suc a) ≡ suc (min b a) = omega arith in ap (λ n. take {A = A} n []) (sym e)
 take_both (suc a) (suc b) (x ∷ xs) = let e : min (suc b) (suc a) ≡ suc (min b a) = omega arith in ap (λ l. x ∷ l) (take_both a b xs) ∙ ap (λ n. take n (x ∷ xs)) (sym e)
 
-drop_over : {A : Type 0} (n : ℕ) (xs : List A) → length xs ≤ n → drop n xs ≡ []
+pub drop_over : {A : Type 0} (n : ℕ) (xs : List A) → length xs ≤ n → drop n xs ≡ []
 drop_over zero [] l = refl
 drop_over (suc n) [] l = refl
 drop_over zero (x ∷ xs) l = absurd (omega arith)

@@ -7,19 +7,15 @@ use Rattle.lua_stack.specs.declared.frame.Record.{Record}
 use Rattle.lua_stack.specs.declared.stack.Stack.TheInside.{Inside}
 use Rattle.lua_stack.specs.Frames.{KeptStack, HasLuaTop, TopBecomes, with_opened, with_registers}
 use Rattle.lua_stack.specs.View.{part, put_all, registers_at, seen, AreOpen, IsStack}
-use Rattle.lua_stack.proofs.Parts.{grown_front, length_part, length_put_all, map_take, part_kept, part_put_in, put_all_is, take_put_all, take_take}
+use Rattle.lua_stack.proofs.Parts.{grown_front, length_part, length_put_all, map_take, part_kept, part_put_in, put_all_is, take_put_all, take_take, drop_nil}
 use Rattle.lua_stack.proofs.Stacked.{stacked_longer, under_more}
 use Rattle.lua_stack.proofs.Ends.{map_more, shown, stands}
 use Rattle.lua_stack.proofs.Tops.{retop}
 use Rattle.lua_stack.proofs.Own.{made, whole}
 use Rattle.lua_stack.proofs.OpenCells.{kept_open}
-use Rattle.lua_stack.proofs.LaidOut.{map_drop}
+use Rattle.lua_stack.proofs.LaidOut.{map_drop, drop_over}
 
 -- what writing comes to
-
-drop_nil : {A : Type 0} (n : ℕ) → drop {A = A} n [] ≡ []
-drop_nil zero = refl
-drop_nil (suc n) = refl
 
 take_written : (vs : List Value) (at : ℕ) (w : Value) → at ≤ length vs → take (suc at) (write at w vs) ≡ take at vs ++ w ∷ []
 take_written [] zero w l = refl
@@ -48,11 +44,6 @@ write_all_is (w ∷ ws) vs at l =
     ∙ ap (λ l. l ++ (ws ++ drop (suc at + length ws) (write at w vs))) (take_written vs at w l)
     ∙ ap (λ l. (take at vs ++ w ∷ []) ++ (ws ++ l)) (drop_written vs at (suc at + length ws) w (omega arith) l ∙ ap (λ n. drop n vs) e)
     ∙ append_assoc (take at vs) (w ∷ []) (ws ++ drop (at + suc (length ws)) vs)
-
-drop_over : {A : Type 0} (n : ℕ) (xs : List A) → length xs ≤ n → drop n xs ≡ []
-drop_over n [] l = drop_nil n
-drop_over zero (x ∷ xs) l = absurd (omega arith)
-drop_over (suc n) (x ∷ xs) l = drop_over n xs (omega arith)
 
 -- the registers that the list reaches, over a list of values that has grown
 module _ (grown old vs : List Kept) (base kept at size : ℕ) (l : at ≤ kept) (m : size ≡ max kept (at + length vs)) (room : base + size ≤ length grown) (fits : base + kept ≤ length old) (same : take (base + kept) grown ≡ take (base + kept) old) where

@@ -178,7 +178,7 @@ part_second vs ws xs at to n l e q =
 pub grown_front : {A : Type 0} (xs ys : List A) (n : ℕ) → take (length xs) ys ≡ xs → n ≤ length xs → take n ys ≡ take n xs
 grown_front xs ys n e l = sym (take_take ys n (length xs) l) ∙ ap (take n) e
 
-drop_nil : {A : Type 0} (n : ℕ) → drop {A = A} n [] ≡ []
+pub drop_nil : {A : Type 0} (n : ℕ) → drop {A = A} n [] ≡ []
 drop_nil zero = refl
 drop_nil (suc n) = refl
 

@@ -20,7 +20,7 @@ tells_as top k frame e h = record {
   handlers = λ f. ap Rattle.machine_core.specs.Moves.handler_value (h f) ∙ (kept_tells k).handlers f ∙ ap (Rattle.lua_stack.specs.Frames.handlers_of f) (sym e);
 }
 
-last_map : {A B : Type 0} (f : A → B) (xs : List A) → last (map f xs) ≡ option_map f (last xs)
+pub last_map : {A B : Type 0} (f : A → B) (xs : List A) → last (map f xs) ≡ option_map f (last xs)
 last_map f [] = refl
 last_map f (x ∷ xs) = let n = length-map xs f in ap (slice_get (f x ∷ map f xs)) n ∙ get_map f (x ∷ xs) (length xs)
 

@@ -32,11 +32,7 @@ use Rattle.machine_calls.specs.Entering.{EntersSo, HasFunction}
 use Rattle.machine_calls.proofs.Callees.{reached_is_function}
 use Rattle.machine_calls.proofs.Over.{entering, enters_is}
 use Rattle.machine_errors.proofs.Calls.{nth_first, drop_one}
-
-last_mapped : {A B : Type 0} (f : A → B) (xs : List A) → last (map f xs) ≡ option_map f (last xs)
-last_mapped f [] = refl
-last_mapped f (x ∷ []) = refl
-last_mapped f (x ∷ y ∷ xs) = last_mapped f (y ∷ xs)
+use Rattle.lua_stack.proofs.Told.{last_map}
 
 abbrev with_moving : World → List Value → World
 with_moving V vs = record V { moving = vs }
@@ -128,7 +124,7 @@ frame_seen W s h =
     let t = lua_seen (last h.stack.frames) h.is in
     let top : LuaFrame = lua_of (value W.strings) t.0 in
     let fs = map f h.stack.frames in
-    let on_top : last fs ≡ Some (lua top) = last_mapped f h.stack.frames ∙ ap (option_map f) t.1 in
+    let on_top : last fs ≡ Some (lua top) = last_map f h.stack.frames ∙ ap (option_map f) t.1 in
     let k = stack_kept W h.co h.stack 0 h.runs in
     let frames = s.sound.solid.coroutines h.co.0 (in_progress fs) (get_map (coroutine W.strings) W.coros.objects h.co.0 (Running h.stack) h.runs.there) in
     let ok = frames.each (length fs - 1) (lua top) (last_there fs (lua top) on_top) in

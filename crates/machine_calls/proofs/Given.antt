@@ -30,7 +30,7 @@ use Rattle.machine_calls.specs.Waiting.{CallsSo, EntersOver, follows, made_ready
 use Rattle.machine_calls.proofs.Blamed.{room_own}
 use Rattle.machine_calls.proofs.Over.{enters_is, functions_own, paid_so}
 
-set_twice : {A : Type 0} (xs : List A) (i : ℕ) (x y : A) → slice_set (slice_set xs i x) i y ≡ slice_set xs i y
+pub set_twice : {A : Type 0} (xs : List A) (i : ℕ) (x y : A) → slice_set (slice_set xs i x) i y ≡ slice_set xs i y
 set_twice [] i x y = refl
 set_twice (z ∷ xs) zero x y = refl
 set_twice (z ∷ xs) (suc i) x y = ap (λ l. z ∷ l) (set_twice xs i x y)

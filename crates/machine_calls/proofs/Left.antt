@@ -47,7 +47,7 @@ pub frame_there : (W : Memory) (co : CoroId) (s : KeptStack) (at : Place) → Ru
 frame_there W co s at r e =
     some_frame (without_last at.stack.frames) (lua at.top) (length s.frames) (sym (length-map s.frames (frame_of (value W.strings))) ∙ ap length (shown W co s at r e).frames_are)
 
-world_made : {V W : World} → ◌≡◌ {A = Option (Made (Unit {0}))} (made V [] tt) (made W [] tt) → V ≡ W
+pub world_made : {V W : World} → ◌≡◌ {A = Option (Made (Unit {0}))} (made V [] tt) (made W [] tt) → V ≡ W
 world_made {V} e = ap (λ (o : Option (Made (Unit {0}))). elim o as (λ _. World) [ Some d ↦ d.world | None ↦ V ]) e
 
 popped_so : (W : World) (at : Place) → pop (with_closed W at) at.stack ≡ popped W at

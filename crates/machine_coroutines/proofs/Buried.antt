@@ -25,15 +25,12 @@ use Rattle.lua_heap.proofs.Closed.{kept_open, eq_or}
 use Rattle.move_laws.proofs.Running.{set_same}
 use Rattle.machine_coroutines.specs.Burying.{AreWithin, ClosesEach}
 use Rattle.code_core.proofs.CheckedLemmas.{both as both_true}
+use Rattle.lua_heap.proofs.Captured.{by_test}
 
 pub read_there : {A : Type 0} (xs : List A) (i : ℕ) (d : A) → i < length xs → slice_get xs i ≡ Some (get_or xs i d)
 read_there [] i d l = absurd (omega (arith, l))
 read_there (x ∷ xs) zero d l = refl
 read_there (x ∷ xs) (suc i) d l = read_there xs i d (omega (arith, l))
-
-by_test : {A : Type 0} (b : Bool) → (b ≡ true → A) → (b ≡ false → A) → A
-by_test true f g = f refl
-by_test false f g = g refl
 
 -- places of a stack's list
 

@@ -24,6 +24,7 @@ use Rattle.move_laws.proofs.Running.{changed_stack_is_put, set_same}
 use Rattle.machine_moves.specs.Tops.{TopIs}
 use Rattle.machine_moves.proofs.OnTop.{kept_as, runs_after, stack_kept, put_same}
 use Rattle.machine_coroutines.specs.Closings.{LeavesWith, closing_of, error_or, shape_of, values_of}
+use Rattle.lua_heap.proofs.Resumed.{without_mapped}
 
 -- such a frame is on top
 
@@ -51,9 +52,6 @@ top_after old new co s s' below error left r c e = record {
 
 mapped_frames : (f : KeptFrame → Frame) (fs below : List KeptFrame) (g : KeptFrame) → fs ≡ below ++ g ∷ [] → map f fs ≡ map f below ++ f g ∷ []
 mapped_frames f fs below g e = ap (map f) e ∙ map-append f below (g ∷ [])
-
-without_mapped : {A B : Type 0} (f : A → B) (xs : List A) → map f (without_last xs) ≡ without_last (map f xs)
-without_mapped f xs = sym (take-map f (length xs - 1) xs) ∙ ap (λ n. take (n - 1) (map f xs)) (sym (length-map xs f))
 
 last_mapped : {A B : Type 0} (f : A → B) (xs : List A) (x : A) → last xs ≡ Some x → last (map f xs) ≡ Some (f x)
 last_mapped f [] x e = absurd (cc)

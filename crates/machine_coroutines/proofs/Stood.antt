@@ -71,10 +71,6 @@ running_is W co s env r = record {
   is = λ fuel. let V = plain W fuel in bind_at (λ co. made V (object a_coroutine co ∷ []) tt) (last V.chain) co.0 (stack_is V (kept_as W co s) (stack_kept W co s fuel r)).chain;
 }
 
-pub if_ok_on : {B E : Type 0} {P R : B → Type 0} {Q : Type 0} (o : Result B E) → IfOk o P → OnOk o Q → ((b : B) → P b → Q → R b) → IfOk o R
-if_ok_on (Ok b) p q f = f b p q
-if_ok_on (Err e) p q f = tt
-
 pub on_both : {B E : Type 0} {P Q R : Type 0} (o : Result B E) → OnOk o P → OnErr o Q → (P → R) → (Q → R) → R
 on_both (Ok b) p q f g = f p
 on_both (Err e) p q f g = g q

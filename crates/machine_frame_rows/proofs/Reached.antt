@@ -18,6 +18,7 @@ use Rattle.move_laws.proofs.Rows.{first, safe_after}
 use Rattle.move_laws.proofs.Running.{last_there}
 use Rattle.machine_moves.specs.Tops.{TopIs}
 use Rattle.machine_moves.proofs.OnTop.{kept_as, stack_kept}
+use Rattle.lua_stack.proofs.Told.{last_map}
 
 -- a row by what is on top
 module _ (k : TopShape → Row) {W : Memory} where
@@ -36,11 +37,6 @@ module _ (k : TopShape → Row) {W : Memory} where
           [ None ↦ trapped | Some d ↦ run (k d.told) d.values d.world ]) e))
 
 -- a Lua frame that is seen on top in a sound world
-
-last_map : {A B : Type 0} (f : A → B) (xs : List A) → last (map f xs) ≡ option_map f (last xs)
-last_map f [] = refl
-last_map f (x ∷ []) = refl
-last_map f (x ∷ y ∷ xs) = last_map f (y ∷ xs)
 
 abbrev place_at : Stack → LuaFrame → Function → Place
 place_at s top f = record { stack = s; number = length s.frames - 1; top = top; function = f }

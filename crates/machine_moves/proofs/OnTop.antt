@@ -20,21 +20,10 @@ use Rattle.lua_heap.specs.Plain.{plain, coroutine}
 use Rattle.move_laws.specs.Memory.{Runs, ChangesStack, HasStack, Makes}
 use Rattle.move_laws.proofs.Running.{changed_stack_is_put, set_same}
 use Rattle.machine_moves.specs.Tops.{shape_of, is_other}
+use Rattle.lua_stack.proofs.Told.{last_map}
+use Rattle.lua_heap.proofs.Resumed.{without_mapped}
 
 -- lists
-
-last_map : {A B : Type 0} (f : A → B) (xs : List A) → last (map f xs) ≡ option_map f (last xs)
-last_map f [] = refl
-last_map f (x ∷ []) = refl
-last_map f (x ∷ y ∷ xs) = last_map f (y ∷ xs)
-
-map_take : {A B : Type 0} (f : A → B) (n : ℕ) (xs : List A) → map f (take n xs) ≡ take n (map f xs)
-map_take f zero xs = refl
-map_take f (suc n) [] = refl
-map_take f (suc n) (x ∷ xs) = ap (λ l. f x ∷ l) (map_take f n xs)
-
-map_without_last : {A B : Type 0} (f : A → B) (xs : List A) → map f (without_last xs) ≡ without_last (map f xs)
-map_without_last f xs = map_take f (length xs - 1) xs ∙ ap (λ n. take (n - 1) (map f xs)) (sym (length-map xs f))
 
 map_push : {A B : Type 0} (f : A → B) (xs : List A) (x : A) → map f (xs ++ x ∷ []) ≡ map f xs ++ f x ∷ []
 map_push f [] x = refl
@@ -107,7 +96,7 @@ popped_is old new co s s' env r c e = record {
       ap (λ o. bind {B = Made (Unit {0})} o (λ s. made (pop V s) [] tt)) (stack_kept old co s fuel r)
       ∙ ap (λ W. made W [] tt) (
       pop_put V (kept_as old co s)
-      ∙ ap (put_frames V co.0) (sym (ap (map f) e ∙ map_without_last f s.frames))
+      ∙ ap (put_frames V co.0) (sym (ap (map f) e ∙ without_mapped f s.frames))
       ∙ sym (changed_stack_is_put old new co s' fuel c));
 }
 

@@ -19,7 +19,7 @@ use Rattle.move_laws.specs.Memory.{IsSafe, Leads}
 use Rattle.move_laws.proofs.Running.{own_read, set_same}
 use Rattle.move_laws.proofs.Rows.{act_is}
 use Rattle.machine_moves.proofs.Stacks.{at_most}
-use Rattle.machine_returns.proofs.Woken.{set_set}
+use Rattle.machine_calls.proofs.Given.{set_twice}
 use Rattle.machine_rows.proofs.Going.{safe_as}
 use Rattle.machine_objects.specs.Filling.{filling, puts}
 use Rattle.machine_objects.proofs.Filled.{listed_some}
@@ -121,7 +121,7 @@ module _ (id : ℕ) (z : ℤ) where
       let more = range (suc r) n at.top.own.registers in
       one_more n r last es W at t e there (lt_true r (length at.top.own.registers) (omega (arith, l)))
       ∙ each_so n (suc r) (suc last) ((es ++ v ∷ []) ++ []) (with_rows W u) at u e (get_set_same W.heap.tables id t u there) (omega (arith, l))
-      ∙ ap₂ (λ l ts. ended (it ∷ l) W ts) (flat es more v) (set_set W.heap.tables id u (more_rows (suc last) more u))
+      ∙ ap₂ (λ l ts. ended (it ∷ l) W ts) (flat es more v) (set_twice W.heap.tables id u (more_rows (suc last) more u))
 
   -- the table is not there
   each_none : (n r last : ℕ) (es : List Value) (W : World) (at : Place) → place_of W ≡ Some at → slice_get W.heap.tables id ≡ None → run (expand (fills_each (suc n) 0 r last z)) (it ∷ es) W ≡ trapped

@@ -27,10 +27,6 @@ use Rattle.move_laws.proofs.Rows.{first, safe_after}
 use Rattle.machine_rows.proofs.Going.{skipped, tests}
 use Rattle.machine_operations.specs.Following.{Follows, HasFront, IsFront, Keeps, MayFollow, MayGo, MayKeep}
 
--- a move of the running stack alone
-pub order_kept : {old new : Memory} → InOrder old → new ≡ record old { coros = new.coros } → (CellsAreListed old → CellsAreListed new) → InOrder new
-order_kept o r l = order_after o (ap (λ (W : Memory). W.strings) r) (ap (λ (W : Memory). W.codes) r) (l o.listed)
-
 -- to a register
 
 pub may_keep : {W : Memory} {pc r : ℕ} {v : Kept} → MayFollow W pc (ToRegister r) v → MayKeep W r v

@@ -25,6 +25,7 @@ use Rattle.move_laws.proofs.Valid.{register_valid}
 use Rattle.machine_moves.specs.Operations.{values_of, told_of}
 use Rattle.machine_operations.specs.declared.joining.Joined.TheVariants.{Whole, Asks, Fails}
 use Rattle.machine_operations.specs.Joining.{JoinsOne, Names, MayJoin, ComesTo, Joins}
+use Rattle.machine_sound.proofs.RowEnds.{drop_front}
 
 -- a register's value is there
 pub operand_there : (W : Memory) (r : ℕ) (v : Kept) → IsSound W → OperandsAreThere → ((env : List Value) → Makes W W (on_own (read_register r)) env (value W.strings v ∷ []) (shape (value W.strings v)))
@@ -34,10 +35,6 @@ operand_there W r v s law h =
     law (sizes s.primitives V) W.strings W.tables.objects v (length-map W.tables.objects (table W.strings)) (register_valid s.primitives V V r [] (value W.strings v) (shape (value W.strings v)) s.sound ((h []).is 0))
 
 -- lists of values
-
-pub drop_front : {A : Type 0} (xs ys : List A) → drop (length xs) (xs ++ ys) ≡ ys
-drop_front [] ys = refl
-drop_front (x ∷ xs) ys = drop_front xs ys
 
 pub drop_one_more : {A : Type 0} (xs : List A) (y : A) (ys : List A) → drop (suc (length xs)) (xs ++ y ∷ ys) ≡ ys
 drop_one_more [] y ys = refl

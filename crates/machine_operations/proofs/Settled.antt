@@ -47,7 +47,8 @@ use Rattle.machine_operations.specs.declared.operands.Values.TheVariants.{One, T
 use Rattle.machine_operations.specs.Copying.{moves_for, prepared_by}
 use Rattle.machine_operations.specs.Operands.{ReadsAll, first_value, list_of, takes}
 use Rattle.machine_operations.specs.Operating.{AreNamed, EndsSo, FailsSo, MayEnd, wait_kept}
-use Rattle.machine_operations.proofs.Joins.{drop_front, drop_one_more, nth_behind}
+use Rattle.machine_operations.proofs.Joins.{drop_one_more, nth_behind}
+use Rattle.machine_sound.proofs.RowEnds.{drop_front}
 
 -- an operation that is settled has as many operands as it takes
 

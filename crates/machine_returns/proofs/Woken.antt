@@ -22,17 +22,13 @@ use Rattle.lua_heap.specs.Reading.{value}
 use Rattle.move_laws.specs.Memory.{Runs, ChangesStack, HasFrame, Makes, StandsAt}
 use Rattle.move_laws.proofs.Running.{top_put, same_top, with_top, place_put}
 use Rattle.machine_returns.specs.Waking.{Wakes, WaitsSo}
+use Rattle.machine_calls.proofs.Given.{set_twice}
 
 -- the world that a move was told to make is one
 pub same_world : {A : Type 0} (V W : World) (vs ws : List Value) (a b : A) → made V vs a ≡ made W ws b → V ≡ W
 same_world {A} V W vs ws a b e = ap (λ (d : Made A). d.world) (some_is {o = made V vs a} refl e)
 
 -- frames that are put in one place one after the other
-
-pub set_set : {A : Type 0} (xs : List A) (i : ℕ) (x y : A) → slice_set (slice_set xs i x) i y ≡ slice_set xs i y
-set_set [] i x y = refl
-set_set (z ∷ xs) zero x y = refl
-set_set (z ∷ xs) (suc i) x y = ap (λ l. z ∷ l) (set_set xs i x y)
 
 abbrev pub moved : World → List Value → World
 moved W vs = record W { moving = vs }
@@ -44,7 +40,7 @@ put_again W at t u vs =
     let co = at.stack.coroutine in
     let first = slice_set W.coroutines co (in_progress (below ++ lua t ∷ [])) in
     ap (λ fs. record W { coroutines = slice_set first co (in_progress (fs ++ lua u ∷ [])); moving = vs }) (without_push below (lua t))
-    ∙ ap (λ cs. record W { coroutines = cs; moving = vs }) (set_set W.coroutines co (in_progress (below ++ lua t ∷ [])) (in_progress (below ++ lua u ∷ [])))
+    ∙ ap (λ cs. record W { coroutines = cs; moving = vs }) (set_twice W.coroutines co (in_progress (below ++ lua t ∷ [])) (in_progress (below ++ lua u ∷ [])))
 
 -- the wait of the frame on top is set
 

@@ -15,7 +15,7 @@ use Rattle.machine_sound.proofs.Lists.{each_none, each_cons, each_one, each_push
 use Rattle.machine_sound.proofs.Values.{lt_true}
 use Rattle.machine_sound.proofs.Grow.{Grows, grows_self, values_on, table_on, function_on, coroutine_on, cell_on, roots_on, lua_waits_on, each_waits_on}
 use Rattle.machine_sound.proofs.Frames.{the_place, place_is, function_ok, registers_top}
-use Rattle.machine_sound.proofs.Moves.{made_so}
+use Rattle.machine_sound.proofs.Moves.{made_so, some_of}
 use Rattle.machine_sound.proofs.Outside.{OutsideOk, goes_outside, goes_still, quick_is, QuickGood}
 use Rattle.machine_sound.proofs.Tops.{same_top}
 
@@ -247,10 +247,6 @@ pub record CapturedSo (W : World) (us : List UpDesc) (o : Option (List ℕ)) : T
   pub count : length ids ≡ length us
   pub within : Each (λ c. c < length W.cells) ids
 
-some_get : {A : Type 0} (o : Option A) → IsSome o → (a : A) × (o ≡ Some a)
-some_get None h = absurd (cc)
-some_get (Some a) h = (a, refl)
-
 captured_so : (W : World) (co k : ℕ) (outer : List ℕ) (p : Prototype) (cells : List ℕ) → length outer ≡ length p.own.upvalues → Each (λ c. c < length W.cells) outer → Each (λ r. IsSome (find_open co k r W.cells)) cells → (us : List UpDesc) → CapturesOk p cells us → CapturedSo W us (captured us co k outer W.cells)
 captured_so W co k outer p cells n w c [] h = record { ids = []; is = refl; count = refl; within = each_none (λ c. c < length W.cells) }
 captured_so W co k outer p cells n w c (u ∷ us) h =
@@ -264,7 +260,7 @@ captured_so W co k outer p cells n w c (u ∷ us) h =
     }
   where
     first : (b : Bool) (x : ℕ) → cond b ((i : ℕ) × (slice_get cells i ≡ Some x)) (x < length p.own.upvalues) → (m : ℕ) × (cond b (find_open co k x W.cells) (slice_get outer x) ≡ Some m) × (m < length W.cells)
-    first true x g = let m = some_get (find_open co k x W.cells) (c g.0 x g.1) in (m.0, m.1, let q = find_within 0 co k x W.cells m.0 m.1 in omega arith)
+    first true x g = let m = some_of (find_open co k x W.cells) (c g.0 x g.1) in (m.0, m.1, let q = find_within 0 co k x W.cells m.0 m.1 in omega arith)
     first false x g = let m = get_there outer x (omega arith) in (m.0, m.1, w x m.0 m.1)
 
 -- what is within checked code is checked

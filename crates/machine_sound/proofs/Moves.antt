@@ -119,7 +119,7 @@ other_place n t W h s pc =
       captured = k.captured;
     }
 
-some_of : {A : Type 0} (o : Option A) → IsSome o → (a : A) × (o ≡ Some a)
+pub some_of : {A : Type 0} (o : Option A) → IsSome o → (a : A) × (o ≡ Some a)
 some_of None h = absurd (cc)
 some_of (Some a) h = (a, refl)
 

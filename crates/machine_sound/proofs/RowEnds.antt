@@ -174,7 +174,7 @@ call_safe t env f slot wait prepared r = (r, λ s. ends s)
     ends not_paid = tt
     ends (not_entered text) = raise_safe (record (after_all prepared env t) { runs = false }) (env ++ []) text (waiting_place (after_all prepared env t) r.waits.place)
 
-drop_front : {A : Type 0} (xs ys : List A) → drop (length xs) (xs ++ ys) ≡ ys
+pub drop_front : {A : Type 0} (xs ys : List A) → drop (length xs) (xs ++ ys) ≡ ys
 drop_front [] ys = refl
 drop_front (x ∷ xs) ys = drop_front xs ys
 

@@ -114,7 +114,7 @@ see_top_waits n s env W i r = from (last i.phase.all.frames) refl
 
 -- who catches an error
 
-each_reverse : {A : Type 0} (P : A → Type 0) (xs : List A) → Each P xs → Each P (reverse xs)
+pub each_reverse : {A : Type 0} (P : A → Type 0) (xs : List A) → Each P xs → Each P (reverse xs)
 each_reverse P [] h = h
 each_reverse P (x ∷ xs) h = subst (Each P) (sym (reverse-append (x ∷ []) xs)) (each_push P (reverse xs) x (each_reverse P xs (each_tail P x xs h)) (h zero x refl))
 

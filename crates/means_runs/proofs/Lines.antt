@@ -30,7 +30,7 @@ use Rattle.machine_means.specs.Stands.{Stands, results_come}
 use Rattle.machine_means.proofs.Handing.{ending_of, hand_over_is}
 use Rattle.means_steps.specs.Steps.{EndsSo, SameLibrary, GoesOn, MainWaits}
 use Rattle.means_runs.specs.Runs.{RunsAlike}
-use Rattle.means_runs.proofs.Turns.{machine_comes, machine_ends, ended_same}
+use Rattle.means_runs.proofs.Turns.{machine_comes, machine_ends, ended_same, some_is}
 
 -- an end is one in the other world
 ended_so : (shown : List ℕ) (e : Ending) (V : World) (X : TalkWorld) → is_end e ≡ true → EndsSo shown e V X → has_ended X.now ≡ true
@@ -77,9 +77,6 @@ map_some f (Some x) y g = (x, refl)
 abbrev ending_in : Outcome → Option Ending
 ending_in trapped = None
 ending_in (ends ending W) = Some ending
-
-some_is : {A : Type 0} (x y : A) → Some x ≡ Some y → x ≡ y
-some_is x y e = cc
 
 -- what follows a yield gives something
 yielded_on : (e : Ending) (V : World) (X : TalkWorld) (goes : TalkWorld → Option (Meaning Prototype State)) (m : Meaning Prototype State) → e ≡ main_yielded → EndsSo V.printed e V X → means_at X.now X goes ≡ Some m

@@ -36,7 +36,7 @@ abbrev world_in : Outcome → Option World
 world_in trapped = None
 world_in (ends ending W) = Some W
 
-some_is : {A : Type 0} (x y : A) → Some x ≡ Some y → x ≡ y
+pub some_is : {A : Type 0} (x y : A) → Some x ≡ Some y → x ≡ y
 some_is x y e = cc
 
 -- what is called for stands at no such place again

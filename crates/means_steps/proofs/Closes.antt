@@ -18,16 +18,7 @@ use Rattle.machine_means.proofs.Held.{holds_less}
 use Rattle.machine_means.proofs.FrameWrites.{below_length, below_values}
 use Rattle.machine_means.proofs.Sharing.{gone_on, gone_off, shared_length}
 use Rattle.means_steps.proofs.Middle.{MiddleOf, others_values, others_held, own_holds, once, top_range, not_below, not_apart, not_shut}
-
-get_map : {A B : Type 0} (f : A → B) (xs : List A) (i : ℕ) (x : A) → slice_get xs i ≡ Some x → slice_get (map f xs) i ≡ Some (f x)
-get_map f [] i x h = absurd (cc)
-get_map f (y ∷ xs) zero x h = let e : y ≡ x = cc in ap (λ y. Some (f y)) e
-get_map f (y ∷ xs) (suc i) x h = get_map f xs i x h
-
-get_mapped : {A B : Type 0} (f : A → B) (xs : List A) (i : ℕ) (y : B) → slice_get (map f xs) i ≡ Some y → (x : A) × (slice_get xs i ≡ Some x) × (f x ≡ y)
-get_mapped f [] i y h = absurd (cc)
-get_mapped f (x ∷ xs) zero y h = let e : f x ≡ y = cc in (x, refl, e)
-get_mapped f (x ∷ xs) (suc i) y h = get_mapped f xs i y h
+use Rattle.machine_sound.proofs.Lists.{get_map, map_get}
 
 length_map : {A B : Type 0} (f : A → B) (xs : List A) → length (map f xs) ≡ length xs
 length_map f [] = refl
@@ -97,7 +88,7 @@ module _ (chain : List ℕ) (fs : List Function) (ws : List Cell) (cs : List Cor
 
   close_shut : (c : ℕ) (v : Value) → slice_get ws1 c ≡ Some (closed v) → nth vs1 c ≡ v
   close_shut c v e =
-      let m = get_mapped (closed_cell co top a regs) ws c (closed v) e in
+      let m = map_get (closed_cell co top a regs) ws c (closed v) e in
       ⊎_elim
       (λ d. let e' = m.1 ∙ ap Some d in
       gone_off a xs vs h c (λ r n. absurd (not_shut ws vs k.held k.cells co h k.more k.holds c v e' r n)) ∙ k.cells.shut c v e')
@@ -109,7 +100,7 @@ module _ (chain : List ℕ) (fs : List Function) (ws : List Cell) (cs : List Cor
 
   close_opened : (c i f r : ℕ) → slice_get ws1 c ≡ Some (open_at i f r) → HoldsIn held1 i f r c
   close_opened c i f r e =
-      let m = get_mapped (closed_cell co top a regs) ws c (open_at i f r) e in
+      let m = map_get (closed_cell co top a regs) ws c (open_at i f r) e in
       let d = was_open co top a regs m.0 i f r m.2 in
       let o = k.cells.opened c i f r (m.1 ∙ ap Some d.0) in
       ⊎_elim
@@ -135,8 +126,8 @@ module _ (chain : List ℕ) (fs : List Function) (ws : List Cell) (cs : List Cor
 
   close_one : (c d i f r : ℕ) → slice_get ws1 c ≡ Some (open_at i f r) → slice_get ws1 d ≡ Some (open_at i f r) → c ≡ d
   close_one c d i f r x y =
-      let m = get_mapped (closed_cell co top a regs) ws c (open_at i f r) x in
-      let n = get_mapped (closed_cell co top a regs) ws d (open_at i f r) y in
+      let m = map_get (closed_cell co top a regs) ws c (open_at i f r) x in
+      let n = map_get (closed_cell co top a regs) ws d (open_at i f r) y in
       k.cells.one c d i f r (m.1 ∙ ap Some (was_open co top a regs m.0 i f r m.2).0) (n.1 ∙ ap Some (was_open co top a regs n.0 i f r n.2).0)
 
   closed_top : MiddleOf chain fs ws1 cs gs ds vs1 co n g g' w own (held_below a h) below ts

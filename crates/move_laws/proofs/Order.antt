@@ -15,12 +15,7 @@ use Rattle.lua_heap.specs.Cells.{AreListed, CellsAreListed, open_cells_in}
 use Rattle.lua_heap.specs.Codes.{AreCodes}
 use Rattle.lua_heap.specs.Plain.{plain}
 use Rattle.move_laws.specs.Memory.{Runs, ChangesStack, Leads, Steps, InOrder}
-use Rattle.move_laws.proofs.Running.{set_same}
-
-map_set : {A B : Type 0} (f : A → B) (xs : List A) (i : ℕ) (x : A) → map f (slice_set xs i x) ≡ slice_set (map f xs) i (f x)
-map_set f [] i x = refl
-map_set f (y ∷ xs) zero x = refl
-map_set f (y ∷ xs) (suc i) x = ap (λ l. f y ∷ l) (map_set f xs i x)
+use Rattle.move_laws.proofs.Running.{set_same, map_set}
 
 -- a stack that lists the same cells is put in place of another
 pub lists_same : (cs : List Coro) (n : ℕ) (s s' : KeptStack) → slice_get cs n ≡ Some (Running s) → s'.open_cells ≡ s.open_cells → map open_cells_in (slice_set cs n (Running s')) ≡ map open_cells_in cs

@@ -21,7 +21,7 @@ use Rattle.move_laws.specs.Memory.{Runs, ChangesStack, HasStack, Makes}
 use Rattle.move_laws.specs.Law.{StackRuns, ChangedStackIsPut}
 use Rattle.move_laws.proofs.Places.{stack_is, place_is}
 
-map_set : {A B : Type 0} (f : A → B) (xs : List A) (i : ℕ) (x : A) → map f (slice_set xs i x) ≡ slice_set (map f xs) i (f x)
+pub map_set : {A B : Type 0} (f : A → B) (xs : List A) (i : ℕ) (x : A) → map f (slice_set xs i x) ≡ slice_set (map f xs) i (f x)
 map_set f [] i x = refl
 map_set f (y ∷ xs) zero x = refl
 map_set f (y ∷ xs) (suc i) x = ap (λ l. f y ∷ l) (map_set f xs i x)

@@ -8,6 +8,7 @@ use Rattle.machine_sound.proofs.Lists.{bind_at, bind_some, map_set, some_is}
 use Rattle.lua_heap.specs.declared.world.World.{World as Memory}
 use Rattle.lua_heap.specs.Plain.{plain}
 use Rattle.move_laws.specs.Memory.{StandsAt}
+use Rattle.lua_stack.proofs.Told.{last_map}
 
 -- the place in its code of the Lua frame on top
 abbrev pub pc_of : World → Option ℕ
@@ -45,11 +46,6 @@ get_of_map f [] i = refl
 get_of_map f (x ∷ xs) zero = refl
 get_of_map f (x ∷ xs) (suc i) = get_of_map f xs i
 
-last_of_map : {A B : Type 0} (f : A → B) (xs : List A) → last (map f xs) ≡ option_map f (last xs)
-last_of_map f [] = refl
-last_of_map f (x ∷ []) = refl
-last_of_map f (x ∷ y ∷ xs) = last_of_map f (y ∷ xs)
-
 abbrev stack_in : ℕ → List Frame → Stack
 stack_in co frames = record { coroutine = co; frames = frames }
 
@@ -77,7 +73,7 @@ on_top functions s (Some (lua f)) = by (slice_get functions f.function)
 on_top functions s _ = refl
 
 in_coroutine : (functions : List Function) (co : ℕ) (o : Option Coroutine) → pc_in (place_with functions (stack_with co o)) ≡ coroutine_seen functions (option_map seen_in o)
-in_coroutine functions co (Some (in_progress fs)) = on_top functions (stack_in co fs) (last fs) ∙ ap (top_seen functions) (sym (last_of_map seen_of fs))
+in_coroutine functions co (Some (in_progress fs)) = on_top functions (stack_in co fs) (last fs) ∙ ap (top_seen functions) (sym (last_map seen_of fs))
 in_coroutine functions co _ = refl
 
 pc_is : (W : World) → pc_of W ≡ pc_by W.functions W.chain (map seen_in W.coroutines)

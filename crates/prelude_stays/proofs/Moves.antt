@@ -20,6 +20,7 @@ use Rattle.prelude_stays.proofs.Worlds.{MadeKeeps, made_bind, made_cond, OnStack
 use Rattle.prelude_stays.proofs.Frames.{top_keeps, own_keeps, popped_keeps, all_keeps, other_top, called_keeps, tail_keeps}
 use Rattle.prelude_stays.proofs.Growing.{loaded_keeps}
 use Rattle.prelude_stays.proofs.Coroutines.{suspend_keeps, resumes_keeps, closing_keeps, ends_keeps, add_keeps, all_pending_apart}
+use Rattle.machine_sound.proofs.WaitingMoves.{each_reverse}
 
 -- those that read no register of the frame on top, open none, and leave no frame alone
 abbrev pub IsFree : Move → Type 0
@@ -31,10 +32,6 @@ IsFree (enter f slot wait prepared) = ⊥
 IsFree (await f slot wait prepared) = ⊥
 IsFree pop_frame = ⊥
 IsFree m = Unit {0}
-
-each_reverse : {A : Type 0} (P : A → Type 0) (xs : List A) → Each P xs → Each P (reverse xs)
-each_reverse P [] h = h
-each_reverse P (x ∷ xs) h = subst (Each P) (sym (reverse-append (x ∷ []) xs)) (each_push P (reverse xs) x (each_reverse P xs (each_tail P x xs h)) (h zero x refl))
 
 handler_apart : (e : ℕ) (gs : List Guard) (fs : List Frame) → Each (FrameOk e gs) fs → Each (Apart e) (handler_value (catcher fs))
 handler_apart e gs [] h = each_none (Apart e)

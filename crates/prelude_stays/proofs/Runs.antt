@@ -27,13 +27,7 @@ use Rattle.prelude_stays.proofs.Coroutines.{starts_keeps}
 use Rattle.prelude_stays.proofs.Primitives.{numbered_keeps, load_keeps, after_resume_keeps}
 use Rattle.prelude_stays.proofs.Steps.{then_keeps, steps_keep}
 use Rattle.prelude_stays.proofs.Opening.{guard_of, opening_keeps, begun_keeps, handed_keeps}
-
-none_some : {A : Type 0} (x : A) → None ≡ Some x → ⊥
-none_some x e = cc
-
-map_some : {A B : Type 0} (f : A → B) (o : Option A) (y : B) → option_map f o ≡ Some y → (x : A) × (o ≡ Some x) × (f x ≡ y)
-map_some f None y e = absurd (none_some y e)
-map_some f (Some x) y e = (x, refl, some_is {o = Some (f x)} refl e)
+use Rattle.functions_stay.proofs.Runs.{map_some, none_some}
 
 pub opening_stays : OpeningStays
 opening_stays prelude g = (map guard_of prelude, opening_keeps prelude g)

@@ -42,7 +42,7 @@ going_on P after settled frames frames' xs i d x' behind all h f p g =
           ∙ g.gives;
     }
 
-append_nil : {X : Type 0} (xs : List X) → xs ++ [] ≡ xs
+pub append_nil : {X : Type 0} (xs : List X) → xs ++ [] ≡ xs
 append_nil [] = refl
 append_nil (x ∷ xs) = ap (λ ys. x ∷ ys) (append_nil xs)
 

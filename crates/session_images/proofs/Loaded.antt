@@ -16,6 +16,7 @@ use Rattle.session_images.specs.Prelude.{HasPrelude, HasFunctions, IsUntouched}
 use Rattle.session_images.specs.Saved.{session_target, session_of}
 use Rattle.session_images.specs.Laws.{SessionHasPrelude}
 use Rattle.session_images.proofs.Prelude.{opening_has_prelude}
+use Rattle.image_saved.proofs.Names.{some_so}
 
 -- functions that were made of records have cells that were
 module _ (T : Target) (rs : List Record) where
@@ -65,9 +66,6 @@ rooted prelude Y co g m key n h = record {
   known = record { number = h.known.number; names = h.known.names; functions = h.known.functions };
   untouched = record { table = h.untouched.table; cell = h.untouched.cell; apart = h.untouched.apart };
 }
-
-some_so : {A : Type 0} {a b : A} → Some a ≡ Some b → a ≡ b
-some_so e = cc
 
 roots_have : (prelude : List (Entry Prototype)) (vs : List Value) (Y X : World) → HasPrelude prelude Y → with_roots vs Y ≡ Some X → HasPrelude prelude X
 roots_have prelude (object a_coroutine co ∷ object a_table g ∷ known nil ∷ known (string key) ∷ known (integer n) ∷ []) Y X h e = subst (HasPrelude prelude) (some_so e) (rooted prelude Y co g None key n h)

@@ -29,8 +29,9 @@ use Rattle.session_images.specs.Prelude.{environment_cell, HasPrelude}
 use Rattle.session_images.specs.Saved.{session_name, session_target, only, below, prelude_pairs, IsSmall}
 use Rattle.session_images.specs.Laws.{IsLibrary, SavedCanResume}
 use Rattle.session_images.proofs.Prelude.{opening_has_prelude}
-use Rattle.session_images.proofs.Same.{some_so, only_is, below_is, below_so, prelude_same}
+use Rattle.session_images.proofs.Same.{only_is, below_is, below_so, prelude_same}
 use Rattle.session_images.proofs.Keys.{coroutine_unnamed, unnamed_function, unnamed_table, base_inverse}
+use Rattle.image_saved.proofs.Names.{some_so}
 
 -- what is met has no name, and is not the cell of the prelude's environment
 

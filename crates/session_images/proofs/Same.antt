@@ -18,9 +18,7 @@ use Rattle.machine_runs.specs.Opening.{environment_cell, prelude_function}
 use Rattle.image_core.proofs.Lists.{Every}
 use Rattle.session_images.specs.Prelude.{HasPrelude}
 use Rattle.session_images.specs.Saved.{only, below, prelude_pairs}
-
-pub some_so : {A : Type 0} {a b : A} → Some a ≡ Some b → a ≡ b
-some_so e = cc
+use Rattle.image_saved.proofs.Names.{some_so}
 
 -- numbers that are paired
 

@@ -28,6 +28,7 @@ use Rattle.tables_stay.specs.Laws.{AreTables}
 use Rattle.tables_load.specs.Laws.{IsHome, AcceptedHasTables, SessionsHaveTables}
 use Rattle.tables_load.proofs.NewKeys.{RowsNew, TablesRead, tables_read}
 use Rattle.tables_load.proofs.Keys.{are_rows}
+use Rattle.image_saved.proofs.Names.{some_so}
 
 all_at : {A : Type 0} (P : A → Type 0) (xs : List A) (n : ℕ) (x : A) → All P xs → slice_get xs n ≡ Some x → P x
 all_at P [] n x h e = absurd (cc)
@@ -125,9 +126,6 @@ session_home prelude library = record {
 }
 
 -- roots change no table
-
-some_so : {A : Type 0} {a b : A} → Some a ≡ Some b → a ≡ b
-some_so e = cc
 
 abbrev tables_in : World → List Table
 tables_in W = W.heap.tables

@@ -5,15 +5,7 @@ use Rattle.image_core.specs.Image.{Item, Record, table_record, function_record, 
 use Rattle.image_bytes.specs.Format.{of_kind, Got, read, refused, and_then, word, nothing}
 use Rattle.image_bytes.specs.Bytes.{Reader, only, is_new_key, row_after, scan_rows, rows_format, table_format, is_table_or_nil, function_format, cell_format, coroutine_format, record_format, scan_records, records_format, exactly, sort_byte, sorts_format, with_sorts, image_format, whole, read_image}
 use Rattle.image_sound.specs.Reads.{Gives, All, ImageRead}
-use Rattle.image_sound.proofs.Given.{any_gives, wrong_gives, followed_gives, tested_gives, case_gives, tagged_gives, when_gives, read_images_right}
-
--- the two halves of a reading that went through
-halves : {A B : Type 0} (got : Got A) (more : A → ℕ → List ℕ → Got B) (y : B) (m : ℕ) (rest : List ℕ) → and_then got more ≡ read y m rest → (x : A) × (k : ℕ) × (behind : List ℕ) × (got ≡ read x k behind) × (more x k behind ≡ read y m rest)
-halves (read x k behind) more y m rest e = (x, k, behind, refl, e)
-halves (refused f) more y m rest e = absurd (cc)
-
-read_so : {A : Type 0} {x y : A} {m n : ℕ} {a b : List ℕ} → read x m a ≡ read y n b → x ≡ y
-read_so e = cc
+use Rattle.image_sound.proofs.Given.{any_gives, wrong_gives, followed_gives, tested_gives, case_gives, tagged_gives, when_gives, read_images_right, halves, read_so}
 
 -- each key is no nil, and none of those before it
 abbrev pub KeysNew : Reader → List Item → List (Item × Item) → Type 0

@@ -1,8 +1,9 @@
 use Rattle.std.proofs.Common.{sym, subst}
 use Rattle.lua_heap.specs.Cells.{CellsAreListed}
 use Rattle.move_laws.specs.Memory.{HasStack}
-use Rattle.machine_coroutines.proofs.Stood.{created_listed, created_runs, creates_is, if_ok_on, on_both}
+use Rattle.machine_coroutines.proofs.Stood.{created_listed, created_runs, creates_is, on_both}
 use Rattle.machine_coroutines.proofs.standing.create.Goals as goal
+use Rattle.machine_moves.proofs.NewObjects.{if_ok_on}
 
 pub returns-clause-makes : goal.returns-clause-makes
 returns-clause-makes c =
