@@ -21,7 +21,7 @@ use Rattle.machine_core.specs.PrimitiveRows.{row_numbered, load_row}
 use Rattle.machine_runs.specs.Opening.{opening, begun, handed_line}
 use Rattle.machine_runs.specs.Runs.{wakes, Close, has_returned, Run, run_from}
 use Rattle.meaning_examples.proofs.Prelude.{bodies}
-use Rattle.meaning_examples.proofs.Scripts.{usual}
+use Rattle.lua_meaning.proofs.Scripts.{usual}
 use Rattle.meaning_examples.proofs.Resuming.{hands_to_and_fro, printed_to_and_fro, wraps_twice, printed_by_wraps, logs_closing, printed_while_closing}
 
 -- the prelude's functions are compiled without lines

@@ -11,8 +11,8 @@ use Rattle.tree_core.specs.declared.operator.BinOp.TheVariants.{Add, Mul, Concat
 use Rattle.tree_core.specs.declared.operator.UnOp.TheVariants.{Neg, Len}
 use Rattle.tree_core.specs.Tree.{Nil, True, Unary, Table, If, GenFor, Keyed, Item, exps, fields, arms}
 use Rattle.tree_terms.proofs.Forms.{name, declared, loc, global, int, str, bin, call, field, function, block, returning, locals, loc_is, assign, does, fun}
-use Rattle.meaning_examples.proofs.Terms.{env}
-use Rattle.meaning_examples.proofs.Scripts.{chunk, run, usual, ran}
+use Rattle.lua_meaning.proofs.Scripts.{env, chunk, usual}
+use Rattle.meaning_examples.proofs.Scripts.{run, ran}
 
 -- return table.concat({1,2,3},"-",2,3),table.concat({}),table.concat({"a"},",")
 joins_a_part : run 6000 (

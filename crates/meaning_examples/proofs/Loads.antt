@@ -12,8 +12,8 @@ use Rattle.lua_meaning.specs.Step.{row}
 use Rattle.tree_core.specs.declared.operator.BinOp.TheVariants.{Add, Eq}
 use Rattle.tree_core.specs.Tree.{Table, If, fields, arms}
 use Rattle.tree_terms.proofs.Forms.{of_local, loc, outer, global, int, str, bin, call, field, function, block, returning, loc_is, assign, fun}
-use Rattle.meaning_examples.proofs.Terms.{dots}
-use Rattle.meaning_examples.proofs.Scripts.{chunk, prints, run_with, usual, ran}
+use Rattle.lua_meaning.proofs.Scripts.{dots, chunk, prints, usual}
+use Rattle.meaning_examples.proofs.Scripts.{run_with, ran}
 
 -- what these sources are built to: the last one is `x=... return x+1,x`
 abbrev builds : Builds Body

@@ -8,7 +8,7 @@ use Rattle.tree_core.specs.declared.operator.UnOp.TheVariants.{Neg, Not, Len}
 use Rattle.tree_core.specs.declared.name.Place.TheVariants.{GlobalIn}
 use Rattle.tree_core.specs.Tree.{Body, Nil, True, False, Var, Unary, And, Or, Paren, Index, Table, While, If, IfElse, NumFor, NumForStep, Break, fields, arms}
 use Rattle.tree_terms.proofs.Forms.{name, declared, of_local, loc, outer, global, int, str, bin, call, field, function, block, returning, locals, loc_is, assign, does, when, fun, vararg_fun}
-use Rattle.meaning_examples.proofs.Terms.{dots, env}
+use Rattle.lua_meaning.proofs.Scripts.{dots, env, tostring_body, print_body, pairs_body, after_body, wrap_body}
 
 abbrev pub bad_body : Body
 bad_body =
@@ -35,24 +35,6 @@ str_body =
     ∷ If 1 (arms ((bin Eq (loc "k" 3) (str "number"), returning [] (call (global "text") (loc "v" 2 ∷ []) ∷ [])) ∷ []))
     ∷ when (bin Ne (loc "k" 3) (str "string")) (does (call (global "bad") (loc "i" 1 ∷ loc "f" 0 ∷ bin Concat (str "string expected, got ") (loc "k" 3) ∷ [])) ∷ []) ∷ []) (loc "v" 2 ∷ []))
 
-abbrev pub tostring_body : Body
-tostring_body =
-    fun ("v" ∷ []) (env ∷ []) (returning (
-    loc_is "h" 1 (call (global "meta") (loc "v" 0 ∷ str "__tostring" ∷ []))
-    ∷ If 1 (arms ((bin Eq (loc "h" 1) (Nil 1), returning [] (call (global "text") (loc "v" 0 ∷ []) ∷ [])) ∷ []))
-    ∷ loc_is "s" 2 (call (loc "h" 1) (loc "v" 0 ∷ []))
-    ∷ loc_is "k" 3 (call (global "type") (loc "s" 2 ∷ []))
-    ∷ If 1 (arms ((bin Eq (loc "k" 3) (str "number"), returning [] (call (global "text") (loc "s" 2 ∷ []) ∷ [])) ∷ []))
-    ∷ when (bin Ne (loc "k" 3) (str "string")) (does (call (global "error") (str "'__tostring' must return a string" ∷ [])) ∷ []) ∷ []) (loc "s" 2 ∷ []))
-
-abbrev pub print_body : Body
-print_body =
-    vararg_fun [] (env ∷ []) (block (
-    NumFor 1 (name "i" (LocalPlace 3)) (int 1) (call (global "select") (str "#" ∷ dots ∷ [])) (block (
-    when (bin Gt (loc "i" 3) (int 1)) (does (call (global "out") (str "\t" ∷ [])) ∷ [])
-    ∷ does (call (global "out") (call (global "tostring") (Paren 1 (call (global "select") (loc "i" 3 ∷ dots ∷ [])) ∷ []) ∷ [])) ∷ []))
-    ∷ does (call (global "out") (str "\n" ∷ [])) ∷ []))
-
 abbrev pub inext_body : Body
 inext_body =
     fun ("t" ∷ "i" ∷ []) [] (block (
@@ -63,13 +45,6 @@ inext_body =
 abbrev pub ipairs_body : Body
 ipairs_body =
     fun ("t" ∷ []) (env ∷ []) (returning [] (global "inext" ∷ loc "t" 0 ∷ int 0 ∷ []))
-
-abbrev pub pairs_body : Body
-pairs_body =
-    fun ("t" ∷ []) (env ∷ []) (returning (
-    loc_is "h" 1 (call (global "meta") (loc "t" 0 ∷ str "__pairs" ∷ []))
-    ∷ If 1 (arms ((bin Eq (loc "h" 1) (Nil 1), returning [] (global "next" ∷ loc "t" 0 ∷ Nil 1 ∷ [])) ∷ []))
-    ∷ locals (declared "a" 2 ∷ declared "b" 3 ∷ declared "c" 4 ∷ []) (call (loc "h" 1) (loc "t" 0 ∷ []) ∷ []) ∷ []) (loc "a" 2 ∷ loc "b" 3 ∷ loc "c" 4 ∷ []))
 
 abbrev pub insert_body : Body
 insert_body =
@@ -215,22 +190,6 @@ load_body =
     ∷ assign (loc "q" 4) (bin Add (loc "q" 4) (int 1))
     ∷ assign (Index 1 (loc "r" 3) (loc "q" 4)) (loc "s" 6) ∷ []))
     ∷ assign (loc "c" 0) (call (global "join") (loc "r" 3 ∷ loc "q" 4 ∷ [])) ∷ []) ∷ []) (call (global "build") (loc "c" 0 ∷ loc "n" 1 ∷ loc "m" 2 ∷ dots ∷ []) ∷ []))
-
-abbrev pub after_body : Body
-after_body =
-    vararg_fun ("c" ∷ "ok" ∷ []) (env ∷ []) (block (
-    If 1 (arms ((loc "ok" 1, returning [] (dots ∷ [])) ∷ []))
-    ∷ loc_is "e" 2 dots
-    ∷ when (bin Eq (call (global "status") (loc "c" 0 ∷ [])) (str "dead")) (
-    locals (declared "o" 3 ∷ declared "x" 4 ∷ []) (call (global "close") (loc "c" 0 ∷ []) ∷ [])
-    ∷ when (Unary 1 Not (loc "o" 3)) (assign (loc "e" 2) (loc "x" 4) ∷ []) ∷ [])
-    ∷ does (call (global "error") (loc "e" 2 ∷ int 0 ∷ [])) ∷ []))
-
-abbrev pub wrap_body : Body
-wrap_body =
-    fun ("f" ∷ []) (env ∷ []) (returning (loc_is "_ENV" 1 (outer "_ENV" 0)
-    ∷ loc_is "c" 2 (call (Var 1 (name "create" (GlobalIn 1))) (loc "f" 0 ∷ [])) ∷ []) (function (vararg_fun [] (of_local "_ENV" 1
-    ∷ of_local "c" 2 ∷ []) (returning [] (call (global "after") (outer "c" 1 ∷ call (global "resume") (outer "c" 1 ∷ dots ∷ []) ∷ []) ∷ []))) ∷ []))
 
 -- all of them, in the order of the text
 abbrev pub bodies : List Body

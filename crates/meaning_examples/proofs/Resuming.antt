@@ -12,8 +12,8 @@ use Rattle.tree_core.specs.declared.operator.BinOp.TheVariants.{Add, Mul, Concat
 use Rattle.tree_core.specs.declared.name.Place.TheVariants.{GlobalOf}
 use Rattle.tree_core.specs.Tree.{True, False, Var, Index, Table, Do, While, Keyed, Item, fields}
 use Rattle.tree_terms.proofs.Forms.{name, declared, closed, of_local, loc, outer, global, int, str, bin, call, field, function, block, returning, locals, loc_is, assigns, assign, does, when, fun}
-use Rattle.meaning_examples.proofs.Terms.{local_function, env, of_outer}
-use Rattle.meaning_examples.proofs.Scripts.{chunk, prints, run, usual, ran}
+use Rattle.lua_meaning.proofs.Scripts.{local_function, env, of_outer, chunk, prints, usual}
+use Rattle.meaning_examples.proofs.Scripts.{run, ran}
 
 -- local a,b
 -- a=coroutine.create(function(x)

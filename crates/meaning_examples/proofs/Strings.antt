@@ -14,8 +14,8 @@ use Rattle.tree_core.specs.declared.operator.BinOp.TheVariants.{Concat, Eq}
 use Rattle.tree_core.specs.declared.operator.UnOp.TheVariants.{Len}
 use Rattle.tree_core.specs.Tree.{Nil, True, Unary, Paren, Table, While, If, GenFor, Keyed, exps, fields, arms, Str}
 use Rattle.tree_terms.proofs.Forms.{name, declared, loc, global, int, str, bin, call, field, function, block, returning, locals, loc_is, assign, does, fun}
-use Rattle.meaning_examples.proofs.Terms.{method}
-use Rattle.meaning_examples.proofs.Scripts.{chunk, prints, run, usual, ran}
+use Rattle.lua_meaning.proofs.Scripts.{method, chunk, prints, usual}
+use Rattle.meaning_examples.proofs.Scripts.{run, ran}
 
 -- print(("THE (quick) fox"):find("%((%a+)%)"))
 finds_a_capture : run 6000 (

@@ -10,7 +10,8 @@ use Rattle.tree_core.specs.declared.name.Place.TheVariants.{Local as LocalPlace}
 use Rattle.tree_core.specs.declared.operator.UnOp.TheVariants.{Neg, Len}
 use Rattle.tree_core.specs.Tree.{Nil, Unary, Index, Table, GenFor, Item, exps, fields}
 use Rattle.tree_terms.proofs.Forms.{name, loc, global, int, str, call, field, block, loc_is, does}
-use Rattle.meaning_examples.proofs.Scripts.{chunk, prints, run, usual, ran}
+use Rattle.lua_meaning.proofs.Scripts.{chunk, prints, usual}
+use Rattle.meaning_examples.proofs.Scripts.{run, ran}
 
 -- local t={3,1,2} table.sort(t) print(table.concat(t,","),math.abs(-4),math.tointeger("x"))
 -- of a string stock Lua 5.4.4 gives fail as well

@@ -13,8 +13,8 @@ use Rattle.tree_core.specs.declared.operator.BinOp.TheVariants.{Add, Sub, Mul, C
 use Rattle.tree_core.specs.declared.operator.UnOp.TheVariants.{Neg, Len}
 use Rattle.tree_core.specs.Tree.{Nil, True, Unary, Paren, Index, Table, Do, While, GenFor, Keyed, Item, exps, fields}
 use Rattle.tree_terms.proofs.Forms.{name, loc, global, int, str, bin, call, field, block, returning, loc_is, assign, does, fun}
-use Rattle.meaning_examples.proofs.Terms.{local_function}
-use Rattle.meaning_examples.proofs.Scripts.{chunk, prints, run, usual, ran}
+use Rattle.lua_meaning.proofs.Scripts.{local_function, chunk, prints, usual}
+use Rattle.meaning_examples.proofs.Scripts.{run, ran}
 
 -- print(9223372036854775807+1)
 sum_wraps : run 6000 (
