@@ -19,7 +19,7 @@ mod FieldStores
 mod Targets
 mod Assigning
 mod Jumping
-mod Statements
+pub mod Statements
 pub mod Body
 mod Counted
 pub mod Widths

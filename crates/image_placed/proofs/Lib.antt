@@ -1,5 +1,5 @@
 pub mod MoreAdded
 pub mod ObjectsAdded
 mod OpenListed
-mod ObjectsPlaced
+pub mod ObjectsPlaced
 mod CoroutinesMade

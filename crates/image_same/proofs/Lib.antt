@@ -1,3 +1,3 @@
 pub mod Alike
-mod Order
+pub mod Order
 mod InOrder

@@ -1,4 +1,4 @@
-mod Plain
+pub mod Plain
 mod Cases
 mod StringVectors
 mod FormatVectors

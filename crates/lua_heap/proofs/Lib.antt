@@ -1,14 +1,14 @@
 mod Finding
 mod Recalled
-mod Reading
+pub mod Reading
 pub mod Equal
 mod Tables
 pub mod Growing
-mod Numbered
+pub mod Numbered
 mod Opened
 mod Walk
 pub mod Added
-mod Listed
+pub mod Listed
 mod Placed
 mod NextLine
 pub mod Resumed

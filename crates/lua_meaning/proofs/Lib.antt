@@ -1,4 +1,4 @@
-mod Scripts
+pub mod Scripts
 mod Loops
 mod Functions
 mod Errors

@@ -4,5 +4,5 @@ pub mod Surroundings
 pub mod Preludes
 pub mod Worlds
 pub mod Constants
-mod RowByRow
+pub mod RowByRow
 mod Told

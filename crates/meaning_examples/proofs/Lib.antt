@@ -1,4 +1,3 @@
-pub mod Terms
 pub mod Prelude
 pub mod Scripts
 mod Values
