@@ -1,5 +1,7 @@
 // The words of expressions, worked out by hand from the opcodes and fields that lopcodes.h of Lua 5.4 has.
-use code_expr::{Constants, Emitter};
+use code_constants::Constants;
+use code_emitter::Emitter;
+use code_expr::{expression, list};
 use lua_lex::tokens;
 use lua_parse::parse;
 use lua_scope::resolve;
@@ -205,7 +207,7 @@ fn expression_words(alloc: Global, exp: &Exp, target: usize) -> Result<Vec<u32>,
     let mut constants = Constants::new(alloc);
     constants.add_exp(alloc, exp)?;
     let mut emitter = Emitter::new(alloc, constants);
-    emitter.expression(exp, target, 2)?;
+    expression(&mut emitter, exp, target, 2)?;
     words(&emitter, alloc)
 }
 
@@ -226,11 +228,11 @@ fn expressions_have_their_words(rt: HostRuntime) -> Result<(), Fail> {
 #[test]
 fn open_lists_end_by_all_values(rt: HostRuntime) -> Result<(), Fail> {
     let alloc = rt.alloc();
-    let list = returned(alloc, b"local x return x, 'a', ...")?;
+    let values = returned(alloc, b"local x return x, 'a', ...")?;
     let mut constants = Constants::new(alloc);
-    constants.add_exps(alloc, &list)?;
+    constants.add_exps(alloc, &values)?;
     let mut emitter = Emitter::new(alloc, constants);
-    emitter.list(&list, None, 1, 1)?;
+    list(&mut emitter, &values, None, 1, 1)?;
     assert_eq!(rt;
         words(&emitter, alloc)?.as_slice(),
         [0x80, 0x0103, 0x01d0].as_slice()

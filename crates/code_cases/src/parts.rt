@@ -1,6 +1,7 @@
 // The parts of prototypes that are not their code, worked out by hand.
+use code_constants::Constants;
 use code_core::{AbsLine, Const, Instruction, UpDesc};
-use code_expr::{Constants, Emitter, Step};
+use code_emitter::{Emitter, Step};
 use code_parts::{
     Variables, back_field, block_constants, byte, changes, far_lines, inner_bodies, last_line,
     prototype, put_opening, room, up_names, upvalues,

@@ -1,5 +1,6 @@
 // The words of whole sources, worked out by hand from the opcodes and fields that lopcodes.h of Lua 5.4 has.
-use code_expr::{Constants, Emitter};
+use code_constants::Constants;
+use code_emitter::Emitter;
 use code_stat::{Written, write_body};
 use lua_lex::tokens;
 use lua_parse::parse;

@@ -1,36 +1,23 @@
 -- Where the key of a stored field stands, and the store that is written piece by piece.
-use Rattle.std.proofs.Common.{◌≡◌, ℕ, ◌+◌, ◌<◌, ◌≤◌, Bool, true, false, cond, List, [], ◌∷◌, ◌++◌, Option, Some, None, refl, sym, ap, ap₂, ◌∙◌, arith, lt-ltb, ltb-true}
-use Rattle.std.specs.Prelude.{nat_lt}
+use Rattle.std.proofs.Common.{◌≡◌, ℕ, ◌+◌, Bool, List, [], ◌∷◌, ◌++◌, Option, Some, None, refl, sym, ap, ap₂, ◌∙◌, arith}
 use Rattle.tree_core.specs.Tree.{Exp, Index}
 use Rattle.code_core.specs.declared.proto.Const.{Const}
 use Rattle.code_of.specs.Coded.{Coded}
 use Rattle.code_of.specs.Expressions.{made_by, exp_code}
 use Rattle.code_of.specs.Operands.{local_of, numeral_of, seat, unless}
 use Rattle.code_of.specs.Parts.{field_code}
-use Rattle.code_of.specs.Stores.{FieldKey, a_name, an_index, a_register, evaluated, StoredValue, value_code, is_constant, value_seat, short_number, name_in, field_key_by, is_quiet, beside_quiet, field_key, object_of, key_code, field_store_by}
+use Rattle.code_of.specs.Stores.{FieldKey, a_name, an_index, a_register, evaluated, StoredValue, value_code, is_constant, value_seat, name_in, field_key_by, is_quiet, beside_quiet, field_key, object_of, key_code, field_store_by}
 use Rattle.code_of.specs.StoredValues.{stored_value}
 use Rattle.code_of.proofs.Operands.{local_makes}
 use Rattle.code_of.proofs.Stores.{FieldKeyStands, name_is, field_key_stands, object_stays}
 use Rattle.code_of.proofs.StoredValues.{ValueStands, value_stands}
-use Rattle.code_expr.specs.Listing.{Listing, listed, followed}
+use Rattle.code_emitter.specs.Listing.{Listing, listed, followed}
 use Rattle.code_expr.specs.Parts.{keyed_code}
 use Rattle.code_expr.specs.Stores.{key_seat, object_at, made_unless, seat_code, seat_made, value_place, place_code, place_made, place_store}
 use Rattle.code_expr.specs.declared.stores.KeySeat.TheVariants.{Name, Index as Numeral, Register, Above}
-use Rattle.code_expr.proofs.Joining.{then_made, then_listed}
-use Rattle.code_expr.proofs.Seats.{nothing_more}
+use Rattle.code_emitter.proofs.Joining.{then_made, then_listed}
+use Rattle.code_emitter.proofs.Seats.{nothing_more}
 use Rattle.code_expr.proofs.ValueSeats.{place_code_is, place_makes, place_store_is}
-
--- numbers of 8 bits
-
-pub near : (n : ℕ) → n < 256 → short_number n ≡ Some n
-near n h = ap (λ b. cond b (Some n) None) (lt-ltb n 256 h)
-
-pub far : (n : ℕ) → 256 ≤ n → short_number n ≡ None
-far n h = by (nat_lt n 256) refl
-  where
-    by : (b : Bool) → nat_lt n 256 ≡ b → cond b (Some n) None ≡ None
-    by false e = refl
-    by true e = let less = ltb-true n 256 e in absurd (omega (arith, less, h))
 
 -- where the key stands
 

@@ -12,10 +12,10 @@ use Rattle.code_core.specs.declared.opcode.Opcode.TheVariants.{NewTable, ExtraAr
 use Rattle.code_core.specs.Instruction.{op_ax}
 use Rattle.code_of.specs.Coded.{with_abc}
 use Rattle.code_of.specs.Expressions.{Wanted, field_of, wanted_after, is_open, is_last_open, made_by, made_in, made_in_fields, made_by_field, exp_code, exps_code, fields_code, nils_code, waiting_code}
-use Rattle.code_expr.specs.Listing.{Listing, listed, followed}
+use Rattle.code_emitter.specs.Listing.{Listing, listed, followed}
 use Rattle.code_expr.specs.declared.items.Items.{Items}
 use Rattle.code_expr.specs.Parts.{field_where, wanted_where, so_many, items_behind, keyed_code, field_code}
-use Rattle.code_expr.proofs.Joining.{after, after_listed, none_made}
+use Rattle.code_emitter.proofs.Joining.{after, after_listed, none_made}
 
 front : {X : Type 0} (xs : List X) (i : ℕ) (x : X) → i < length xs → x ≡ slice_index_or xs i x → drop i xs ≡ x ∷ drop (i + 1) xs
 front xs i x h e = drop_more xs i x h ∙ ap (λ y. y ∷ drop (i + 1) xs) (sym e)

@@ -15,10 +15,10 @@ use Rattle.code_of.specs.Conditions.{test_code, keep_code}
 use Rattle.code_of.specs.Expressions.{exp_code, kept_value, made_by}
 use Rattle.code_of.specs.Operands.{local_of, unless}
 use Rattle.code_of.proofs.Operands.{local_makes}
-use Rattle.code_expr.specs.Leading.{led_on, Opened}
-use Rattle.code_expr.specs.Listing.{Listing, followed, step, steps}
+use Rattle.code_emitter.specs.Leading.{led_on, Opened}
+use Rattle.code_emitter.specs.Listing.{Listing, followed, step, steps}
 use Rattle.code_expr.specs.Testing.{is_plain, is_truth, kept_truth, either_keep, either_value, Tests, Keeps}
-use Rattle.code_expr.proofs.Leading.{opened_remade, opened_coded, opened_behind, opened_both, opened_past, opened_led, opened_from}
+use Rattle.code_emitter.proofs.Leading.{opened_remade, opened_coded, opened_behind, opened_both, opened_past, opened_led, opened_from}
 
 abbrev Places : Type 0
 Places = Result (Vec ℕ Global) AllocError

@@ -1,8 +1,4 @@
-pub mod Numbers
-pub mod Joining
-pub mod Seats
 pub mod Links
-pub mod ConstantSeats
 pub mod ValueSeats
 pub mod FieldSeats
 pub mod TargetSeats
@@ -10,7 +6,5 @@ pub mod Rows
 pub mod Ends
 pub mod Waiting
 pub mod Going
-pub mod Patching
-pub mod Leading
 pub mod Testing
 pub mod Kept

@@ -11,8 +11,8 @@ use Rattle.code_of.specs.Expressions.{made_by, exp_code}
 use Rattle.code_of.specs.Operands.{joins}
 use Rattle.code_of.specs.Operations.{constant_in, operation_code}
 use Rattle.code_of.proofs.Chains.{link_form, links_end, continues_more, unjoined_more}
-use Rattle.code_expr.specs.Listing.{Listing, listed, followed}
-use Rattle.code_expr.proofs.Joining.{then_listed}
+use Rattle.code_emitter.specs.Listing.{Listing, listed, followed}
+use Rattle.code_emitter.proofs.Joining.{then_listed}
 
 -- a tree that is another one
 pub whole_written : (s q : Listing) (e x : Exp) (t c : ℕ) → e ≡ x → q ≡ followed s (exp_code s.constants e t s.made c) (made_by e) → q ≡ followed s (exp_code s.constants x t s.made c) (made_by x)

@@ -1,11 +1,10 @@
--- The line of a body, and of a plain tree; a vector of one expression.
-use Rattle.std.proofs.Common.{◌≡◌, ℕ, List, [], ◌∷◌, length, None, refl, sym, ap, arith}
-use Rattle.std.specs.Prelude.{slice_index_or}
+-- The line of a body, and of a plain tree; a vector that is not one of one expression.
+use Rattle.std.proofs.Common.{◌≡◌, ℕ, List, [], ◌∷◌, length, None, refl, ap}
 use Rattle.tree_core.specs.declared.tree.Exp.{Exp}
 use Rattle.tree_core.specs.declared.tree.ExpNode.{ExpNode, Nil, True, False, Int, Str, Vararg, Function', Var, Index', Call', Method', Unary', Binary', And', Or', Paren', Table'}
 use Rattle.tree_core.specs.declared.tree.Body.{Body, out-Body}
 use Rattle.tree_core.specs.Tree as tree
-use Rattle.tree_core.specs.Plain.{plain_exp, plain_exps, plain_exp_node, plain_body}
+use Rattle.tree_core.specs.Plain.{plain_exps, plain_exp_node, plain_body}
 use Rattle.tree_core.proofs.Rows.{plain-body}
 use Rattle.tree_terms.specs.Bodies.{line_of_body}
 use Rattle.code_of.specs.Operands.{lone_local}
@@ -34,12 +33,7 @@ line_is (Or' p l a q k b) line = refl
 line_is (Paren' p l a) line = refl
 line_is (Table' s fs) line = refl
 
--- a vector of one expression
-pub single : (xs : List Exp) (x : Exp) → length xs ≡ 1 → x ≡ slice_index_or xs 0 x → tree.exps (plain_exps xs) ≡ tree.MoreExps (plain_exp x) tree.EndExps
-single [] x h e = absurd (omega (arith, h))
-single (y ∷ []) x h e = ap (λ z. tree.MoreExps (plain_exp z) tree.EndExps) (sym e)
-single (y ∷ z ∷ xs) x h e = absurd (omega (arith, h))
-
+-- a vector of another number of expressions
 pub none_lone : (xs : List Exp) → (length xs ≡ 1 → ⊥) → None ≡ lone_local (tree.exps (plain_exps xs))
 none_lone [] h = refl
 none_lone (x ∷ []) h = absurd (h refl)

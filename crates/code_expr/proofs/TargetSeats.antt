@@ -7,10 +7,10 @@ use Rattle.code_of.specs.Operands.{numeral_of}
 use Rattle.code_of.specs.Stores.{FieldKey, a_name, an_index, a_register, evaluated, name_in, field_key_by, key_code}
 use Rattle.code_of.specs.Targets.{waiting_key, text_number, text_key}
 use Rattle.code_of.proofs.Targets.{Waits, key_waits}
-use Rattle.code_expr.specs.Listing.{Listing, listed, followed}
+use Rattle.code_emitter.specs.Listing.{Listing, listed, followed}
 use Rattle.code_expr.specs.Stores.{key_seat, seat_code, seat_made}
 use Rattle.code_expr.specs.declared.stores.KeySeat.TheVariants.{Name, Index as Numeral, Above}
-use Rattle.code_expr.proofs.Joining.{listing, then_made}
+use Rattle.code_emitter.proofs.Joining.{listing, then_made}
 use Rattle.code_expr.proofs.FieldSeats.{seat_code_is}
 
 pub waiting_named : (constants : List Const) (key : Exp) (number : ℕ) → name_in constants key ≡ Some number → key_seat (waiting_key constants key) ≡ Name number

@@ -13,17 +13,18 @@ use Rattle.code_of.specs.Coded.{Coded}
 use Rattle.code_of.specs.Truths.{jump_if, pick, compared, is_not, line_of}
 use Rattle.code_of.specs.Conditions.{value_test, test_code}
 use Rattle.code_of.specs.Expressions.{exp_code, made_by}
-use Rattle.code_of.specs.Operands.{local_of, second_of, first_of, seat, unless, operands_code}
+use Rattle.code_of.specs.Operands.{local_of, second_of, seat, unless}
 use Rattle.code_of.specs.Operations.{constant_in, operation_by}
 use Rattle.code_of.specs.Operators.{number_opcode}
-use Rattle.code_expr.specs.declared.conditions.Comparison.{Comparison}
-use Rattle.code_expr.specs.Leading.{led_on, Opened}
-use Rattle.code_expr.specs.Listing.{Listing, followed}
-use Rattle.code_expr.specs.declared.operands.Operands.{Operands}
-use Rattle.code_expr.specs.Operands.{operation_staying, stays_code, stays_made, stays_at, done_code}
-use Rattle.code_expr.specs.Testing.{is_valued, compared_by, compared_code, constant_test, registers_test, number_test, either_test, Tests}
-use Rattle.code_expr.proofs.ConstantSeats.{operation_apart, operation_makes}
-use Rattle.code_expr.proofs.Leading.{opened_remade, opened_coded, opened_behind, opened_from, decided_here, decided_away}
+use Rattle.code_emitter.specs.declared.comparisons.Comparison.{Comparison}
+use Rattle.code_emitter.specs.Leading.{led_on, Opened}
+use Rattle.code_emitter.specs.Listing.{Listing, followed}
+use Rattle.code_emitter.specs.declared.operands.Operands.{Operands}
+use Rattle.code_emitter.specs.Operands.{operation_staying, stays_code, stays_made, stays_at, done_code}
+use Rattle.code_emitter.specs.Comparing.{compared_by, constant_test, registers_test, number_test}
+use Rattle.code_expr.specs.Testing.{is_valued, compared_code, far, either_test, Tests}
+use Rattle.code_emitter.proofs.ConstantSeats.{operation_apart, operation_makes}
+use Rattle.code_emitter.proofs.Leading.{opened_remade, opened_coded, opened_behind, opened_from, opened_both, opened_past}
 
 abbrev Places : Type 0
 Places = Result (Vec ℕ Global) AllocError
@@ -142,6 +143,22 @@ compared_opened s r u c w k t line e d o places seats_is o_is k_is opened =
     ∙ ap (λ b. front ++ done_code at.second at.first (constant_test b ahead line) (registers_test c b ahead line) (number_test c b ahead line)) k_is
     ∙ sym (operation_apart e left right t (constant_test q ahead line) (registers_test c q ahead line) (number_test c q ahead line) (constant_in s.constants c.op d) c.op d))
     (opened_behind s r u front made (λ ahead. done_code o.second o.first (constant_test k ahead line) (registers_test c k ahead line) (number_test c k ahead line)) 0 places seats_is opened))
+
+-- the first operand of `and` and `or` decides where both truths are the same, and its jumps lead to the end of the second one; else they lead away with those of the second one
+
+decided_here : (decides wanted : Bool) (s r q t : Listing) (a b : ℕ → List Coded) (m n : ℕ) (ps qs : List ℕ) → decides ≡ wanted → Opened s r a m ps → Opened r q b n qs → t ≡ led_on q ps (length q.steps)
+    → Opened s t (λ ahead. a (length (b ahead) + far decides wanted ahead) ++ b ahead) (m + n) qs
+decided_here false false s r q t a b m n ps qs is o u t_is = opened_past s r q t a b m n ps qs o u t_is
+decided_here true true s r q t a b m n ps qs is o u t_is = opened_past s r q t a b m n ps qs o u t_is
+decided_here false true s r q t a b m n ps qs is o u t_is = absurd (cc)
+decided_here true false s r q t a b m n ps qs is o u t_is = absurd (cc)
+
+decided_away : (decides wanted : Bool) (s r q : Listing) (a b : ℕ → List Coded) (m n : ℕ) (ps qs : List ℕ) → (decides ≡ wanted → ⊥) → Opened s r a m ps → Opened r q b n qs
+    → Opened s q (λ ahead. a (length (b ahead) + far decides wanted ahead) ++ b ahead) (m + n) (qs ++ ps)
+decided_away false true s r q a b m n ps qs apart o u = opened_both s r q a b m n ps qs o u
+decided_away true false s r q a b m n ps qs apart o u = opened_both s r q a b m n ps qs o u
+decided_away false false s r q a b m n ps qs apart o u = absurd (apart refl)
+decided_away true true s r q a b m n ps qs apart o u = absurd (apart refl)
 
 -- `and` and `or`, of which the second operand is what the first one's place makes it
 

@@ -1,13 +1,10 @@
 -- Where the value of a store stands.
-use Rattle.std.proofs.Common.{◌≡◌, ℕ, ◌+◌, Bool, true, false, List, [], ◌∷◌, length, Option, Some, None, refl, sym, ap, ap₂}
+use Rattle.std.proofs.Common.{◌≡◌, ℕ, ◌+◌, Bool, true, false, List, Option, Some, None, refl, sym, ap, ap₂}
 use Rattle.tree_core.specs.declared.name.Place.{Place}
-use Rattle.tree_core.specs.declared.tree.Exp.{Exp as SourceExp}
-use Rattle.tree_core.specs.Tree.{Exp, Exps, EndExps, MoreExps, exps}
-use Rattle.tree_core.specs.Plain.{plain_exps}
+use Rattle.tree_core.specs.Tree.{Exp}
 use Rattle.code_core.specs.declared.proto.Const.{Const}
 use Rattle.code_of.specs.Coded.{Coded}
-use Rattle.code_of.specs.ConstantOperands.{any_constant, stored_constant}
-use Rattle.code_of.specs.Constants.{with_any}
+use Rattle.code_of.specs.ConstantOperands.{any_constant}
 use Rattle.code_of.specs.Expressions.{made_by}
 use Rattle.code_of.specs.Operands.{local_of}
 use Rattle.code_of.specs.Operations.{short_of}
@@ -17,7 +14,7 @@ use Rattle.code_of.specs.Targets.{global_store, local_store_by}
 use Rattle.code_of.proofs.Operands.{local_makes}
 use Rattle.code_of.proofs.StoredValues.{ValueStands, stored_makes}
 use Rattle.code_expr.specs.Stores.{key_seat, seat_store, value_place, place_code, place_made, place_store}
-use Rattle.code_expr.specs.declared.emitter.Step.{Step}
+use Rattle.code_emitter.specs.declared.emitter.Step.{Step}
 use Rattle.code_expr.specs.declared.stores.ValueSeat.TheVariants.{Constant, Local, Made}
 use Rattle.code_expr.specs.Targets.{stored_step}
 
@@ -68,17 +65,3 @@ module _ (constants : List Const) (e : Exp) (place : Place) (number line : ℕ) 
 
   pub none_named : short_of constants (any_constant e) ≡ None → local_of e ≡ None → named ≡ None
   none_named h l = ap₂ (λ o m. stored_step (local_store_by (Some number) (value_by o m) place line)) h l
-
--- an assignment to several targets, or of several values, adds no constant of its own
-
-pub several_targets : (ts : List SourceExp) (es : Exps) (cs : List Const) → (length ts ≡ 1 → ⊥) → cs ≡ with_any (stored_constant (exps (plain_exps ts)) es) cs
-several_targets [] es cs h = refl
-several_targets (x ∷ []) es cs h = absurd (h refl)
-several_targets (x ∷ y ∷ ts) es cs h = refl
-
-pub several_values : (ts : Exps) (es : List SourceExp) (cs : List Const) → (length es ≡ 1 → ⊥) → cs ≡ with_any (stored_constant ts (exps (plain_exps es))) cs
-several_values EndExps es cs h = refl
-several_values (MoreExps x (MoreExps y ts)) es cs h = refl
-several_values (MoreExps x EndExps) [] cs h = refl
-several_values (MoreExps x EndExps) (e ∷ []) cs h = absurd (h refl)
-several_values (MoreExps x EndExps) (e ∷ d ∷ es) cs h = refl

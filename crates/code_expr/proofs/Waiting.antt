@@ -6,9 +6,9 @@ use Rattle.code_of.specs.Coded.{Coded}
 use Rattle.code_of.specs.Expressions.{exp_code, made_by, set_list, waiting_code, item_code}
 use Rattle.code_of.specs.Items.{waits, is_full, item_register, stored_behind, waiting_behind}
 use Rattle.code_expr.specs.declared.items.Items.{Items}
-use Rattle.code_expr.specs.Listing.{Listing, listed, followed}
+use Rattle.code_emitter.specs.Listing.{Listing, listed, followed}
 use Rattle.code_expr.specs.Parts.{so_many, item_behind, held_code, alone_code, one_item}
-use Rattle.code_expr.proofs.Joining.{listing, then_listed, listed_then}
+use Rattle.code_emitter.proofs.Joining.{listing, then_listed, listed_then}
 
 -- what stores nothing
 

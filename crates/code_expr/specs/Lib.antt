@@ -1,9 +1,4 @@
-pub mod Indexed
-pub mod Leading
-pub mod Listing
-pub mod Operands
 pub mod Parts
-pub mod Patches
 pub mod Stores
 pub mod Targets
 pub mod Testing

@@ -1,8 +1,8 @@
 -- The instruction that stores a local in a global name, as a step.
 use Rattle.std.specs.Prelude.{Option, Some, None}
 use Rattle.code_of.specs.Coded.{Coded}
-use Rattle.code_expr.specs.declared.emitter.Step.{Step}
-use Rattle.code_expr.specs.Listing.{step}
+use Rattle.code_emitter.specs.declared.emitter.Step.{Step}
+use Rattle.code_emitter.specs.Listing.{step}
 
 abbrev pub stored_step : Option Coded → Option Step
 stored_step None = None

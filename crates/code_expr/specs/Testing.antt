@@ -1,18 +1,16 @@
 -- Conditions as they are written, form by form.
-use Rattle.std.specs.Prelude.{ℕ, ◌+◌, Bool, true, false, cond, not, List, ◌++◌, length, Option, Some, None}
+use Rattle.std.specs.Prelude.{ℕ, ◌+◌, Bool, true, false, cond, not, List, ◌++◌, length}
 use Rattle.tree_core.specs.Tree.{Exp, True, Unary, Binary, And, Or, Paren}
-use Rattle.code_core.specs.declared.opcode.Opcode.{Opcode}
-use Rattle.code_core.specs.declared.opcode.Opcode.TheVariants.{EqK}
 use Rattle.code_core.specs.declared.proto.Const.{Const}
 use Rattle.code_of.specs.Coded.{Coded}
-use Rattle.code_of.specs.Truths.{jump_if, pick, is_not, is_compared, line_of, load_truth}
+use Rattle.code_of.specs.Truths.{is_not, is_compared, line_of, load_truth}
 use Rattle.code_of.specs.Conditions.{test_code, keep_code}
 use Rattle.code_of.specs.Expressions.{made_by, exp_code}
 use Rattle.code_of.specs.Operations.{constant_in, operation_by}
-use Rattle.code_of.specs.Operators.{number_opcode}
-use Rattle.code_expr.specs.declared.conditions.Comparison.{Comparison}
-use Rattle.code_expr.specs.Leading.{Opened}
-use Rattle.code_expr.specs.Listing.{Listing}
+use Rattle.code_emitter.specs.declared.comparisons.Comparison.{Comparison}
+use Rattle.code_emitter.specs.Comparing.{registers_test, number_test, constant_test}
+use Rattle.code_emitter.specs.Leading.{Opened}
+use Rattle.code_emitter.specs.Listing.{Listing}
 
 -- expressions that are tested by their values, whatever these are
 abbrev pub is_valued : Exp → Bool
@@ -24,22 +22,7 @@ is_valued (Or line e d) = false
 is_valued (Paren line e) = false
 is_valued _ = true
 
--- what is done with a comparison, or with something else
-abbrev pub compared_by : Option Comparison → List Coded → (Opcode → (swapped wanted : Bool) → List Coded) → List Coded
-compared_by None other by = other
-compared_by (Some c) other by = by c.opcode c.swapped c.wanted
-
--- a comparison where its operands stand
-
-abbrev pub registers_test : Comparison → (k : Bool) → (ahead line x y : ℕ) → List Coded
-registers_test c k ahead line x y = jump_if c.opcode (pick c.swapped x y) (pick c.swapped y x) k ahead line
-
-abbrev pub number_test : Comparison → (k : Bool) → (ahead line x n : ℕ) → List Coded
-number_test c k ahead line x n = jump_if (number_opcode c.op) x (n + 127) k ahead line
-
-abbrev pub constant_test : (k : Bool) → (ahead line x n : ℕ) → List Coded
-constant_test k ahead line x n = jump_if EqK x n k ahead line
-
+-- a comparison of two expressions
 abbrev pub compared_code : List Const → Comparison → (e d : Exp) → (wanted : Bool) → (ahead t j line : ℕ) → List Coded
 compared_code constants c e d wanted ahead t j line =
     let k = cond c.wanted (not wanted) wanted in

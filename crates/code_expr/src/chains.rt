@@ -4,10 +4,11 @@ ghost use Rattle.tree_core.specs.Plain.{plain_exp};
 ghost use Rattle.code_of.specs.Chains.{continues, links, unjoined, chain_code};
 ghost use Rattle.code_of.specs.Expressions.{exp_code, made_by};
 ghost use Rattle.code_of.specs.Operands.{joins};
-ghost use Rattle.code_expr.specs.Listing.{followed};
+ghost use Rattle.code_emitter.specs.Listing.{followed};
 
-use crate::emitter::{Emitter, next};
+use crate::expressions::expression;
 use code_core::Opcode;
+use code_emitter::{Emitter, next};
 use std::alloc::AllocError;
 use tree_core::{BinOp, Exp, ExpNode};
 
@@ -25,81 +26,84 @@ fn continues(op: BinOp, own: u32, line: u32) -> bool
     joins(op) && own == line
 }
 
-impl Emitter {
-    /// Writes a chain: its operands from the left, and the one instruction that joins their values.
-    #[cycle(expressions)]
-    pub(crate) fn join(
-        &mut self,
-        left: &Exp,
-        right: &Exp,
-        target: usize,
-        line: u32,
-    ) -> Result<(), AllocError>
-        ensures { OnOk result (self.new ≡ followed self.old (chain_code line (plain_exp right.now) (exp_code self.old.constants (plain_exp left.now) target self.old.made 2) (exp_code self.old.constants (plain_exp right.now) (target + 1) (self.old.made + made_by (plain_exp left.now)) 2) target) (made_by (plain_exp left.now) + made_by (plain_exp right.now))) }
-    {
-        let count = self.link(left, right, target, line)?;
-        self.put_abc(Opcode::Concat, target, count, 0, line)?;
-        Ok(())
-    }
+/// Writes a chain: its operands from the left, and the one instruction that joins their values.
+#[cycle(expressions)]
+pub(crate) fn join(
+    emitter: &mut Emitter,
+    left: &Exp,
+    right: &Exp,
+    target: usize,
+    line: u32,
+) -> Result<(), AllocError>
+    ensures { OnOk result (emitter.new ≡ followed emitter.old (chain_code line (plain_exp right.now) (exp_code emitter.old.constants (plain_exp left.now) target emitter.old.made 2) (exp_code emitter.old.constants (plain_exp right.now) (target + 1) (emitter.old.made + made_by (plain_exp left.now)) 2) target) (made_by (plain_exp left.now) + made_by (plain_exp right.now))) }
+{
+    let count = link(emitter, left, right, target, line)?;
+    emitter.put_abc(Opcode::Concat, target, count, 0, line)?;
+    Ok(())
+}
 
-    /// Writes the operands of a `..` into registers from one on, and answers how many registers they take.
-    #[cycle(expressions)]
-    fn link(
-        &mut self,
-        left: &Exp,
-        right: &Exp,
-        target: usize,
-        line: u32,
-    ) -> Result<usize, AllocError>
-        ensures code { OnOk result (self.new ≡ followed self.old (exp_code self.old.constants (plain_exp left.now) target self.old.made 2 ++ unjoined (continues line (plain_exp right.now)) (exp_code self.old.constants (plain_exp right.now) (target + 1) (self.old.made + made_by (plain_exp left.now)) 2)) (made_by (plain_exp left.now) + made_by (plain_exp right.now))) }
-        ensures count { IfOk result (λ n. n ≡ suc (links line (plain_exp right.now))) }
-    {
-        let above = next(target)?;
-        self.expression(left, target, 2)?;
-        let behind = self.link_right(right, above, line)?;
-        let count = next(behind)?;
-        Ok(count)
-    }
+/// Writes the operands of a `..` into registers from one on, and answers how many registers they take.
+#[cycle(expressions)]
+fn link(
+    emitter: &mut Emitter,
+    left: &Exp,
+    right: &Exp,
+    target: usize,
+    line: u32,
+) -> Result<usize, AllocError>
+    ensures code { OnOk result (emitter.new ≡ followed emitter.old (exp_code emitter.old.constants (plain_exp left.now) target emitter.old.made 2 ++ unjoined (continues line (plain_exp right.now)) (exp_code emitter.old.constants (plain_exp right.now) (target + 1) (emitter.old.made + made_by (plain_exp left.now)) 2)) (made_by (plain_exp left.now) + made_by (plain_exp right.now))) }
+    ensures count { IfOk result (λ n. n ≡ suc (links line (plain_exp right.now))) }
+{
+    let above = next(target)?;
+    expression(emitter, left, target, 2)?;
+    let behind = link_right(emitter, right, above, line)?;
+    let count = next(behind)?;
+    Ok(count)
+}
 
-    /// Writes the right operand of a `..`, which goes on with the chain on its line or ends it.
-    #[cycle(expressions)]
-    fn link_right(&mut self, exp: &Exp, target: usize, line: u32) -> Result<usize, AllocError>
-        ensures code { OnOk result (self.new ≡ followed self.old (unjoined (continues line (plain_exp exp.now)) (exp_code self.old.constants (plain_exp exp.now) target self.old.made 2)) (made_by (plain_exp exp.now))) }
-        ensures count { IfOk result (λ n. n ≡ links line (plain_exp exp.now)) }
-    {
-        match &exp.node {
-            ExpNode::Binary(op, left, right) => {
-                if continues(*op, exp.line, line) {
-                    return self.link(left, right, target, line);
-                }
-                self.last_link(exp, target)
+/// Writes the right operand of a `..`, which goes on with the chain on its line or ends it.
+#[cycle(expressions)]
+fn link_right(
+    emitter: &mut Emitter,
+    exp: &Exp,
+    target: usize,
+    line: u32,
+) -> Result<usize, AllocError>
+    ensures code { OnOk result (emitter.new ≡ followed emitter.old (unjoined (continues line (plain_exp exp.now)) (exp_code emitter.old.constants (plain_exp exp.now) target emitter.old.made 2)) (made_by (plain_exp exp.now))) }
+    ensures count { IfOk result (λ n. n ≡ links line (plain_exp exp.now)) }
+{
+    match &exp.node {
+        ExpNode::Binary(op, left, right) => {
+            if continues(*op, exp.line, line) {
+                return link(emitter, left, right, target, line);
             }
-            ExpNode::Nil
-            | ExpNode::True
-            | ExpNode::False
-            | ExpNode::Int(_)
-            | ExpNode::Str(_)
-            | ExpNode::Vararg
-            | ExpNode::Function(_)
-            | ExpNode::Var(_)
-            | ExpNode::Index(_, _)
-            | ExpNode::Call(_, _)
-            | ExpNode::Method(_, _, _)
-            | ExpNode::Unary(_, _)
-            | ExpNode::And(_, _)
-            | ExpNode::Or(_, _)
-            | ExpNode::Paren(_)
-            | ExpNode::Table(_) => self.last_link(exp, target),
+            last_link(emitter, exp, target)
         }
+        ExpNode::Nil
+        | ExpNode::True
+        | ExpNode::False
+        | ExpNode::Int(_)
+        | ExpNode::Str(_)
+        | ExpNode::Vararg
+        | ExpNode::Function(_)
+        | ExpNode::Var(_)
+        | ExpNode::Index(_, _)
+        | ExpNode::Call(_, _)
+        | ExpNode::Method(_, _, _)
+        | ExpNode::Unary(_, _)
+        | ExpNode::And(_, _)
+        | ExpNode::Or(_, _)
+        | ExpNode::Paren(_)
+        | ExpNode::Table(_) => last_link(emitter, exp, target),
     }
+}
 
-    /// Writes the last operand of a chain.
-    #[cycle(expressions)]
-    fn last_link(&mut self, exp: &Exp, target: usize) -> Result<usize, AllocError>
-        ensures code { OnOk result (self.new ≡ followed self.old (exp_code self.old.constants (plain_exp exp.now) target self.old.made 2) (made_by (plain_exp exp.now))) }
-        ensures count { IfOk result (λ n. n ≡ 1) }
-    {
-        self.expression(exp, target, 2)?;
-        Ok(1)
-    }
+/// Writes the last operand of a chain.
+#[cycle(expressions)]
+fn last_link(emitter: &mut Emitter, exp: &Exp, target: usize) -> Result<usize, AllocError>
+    ensures code { OnOk result (emitter.new ≡ followed emitter.old (exp_code emitter.old.constants (plain_exp exp.now) target emitter.old.made 2) (made_by (plain_exp exp.now))) }
+    ensures count { IfOk result (λ n. n ≡ 1) }
+{
+    expression(emitter, exp, target, 2)?;
+    Ok(1)
 }

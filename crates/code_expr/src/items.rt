@@ -3,11 +3,12 @@ ghost use Rattle.std.specs.Prelude.{◌≡◌, ◌+◌, true, false, [], OnOk, I
 ghost use Rattle.tree_core.specs.Plain.{plain_exp};
 ghost use Rattle.code_of.specs.Expressions.{exp_code, made_by, set_list, waiting_code};
 ghost use Rattle.code_of.specs.Items.{is_own, waits, is_full};
-ghost use Rattle.code_expr.specs.Listing.{listed, followed};
+ghost use Rattle.code_emitter.specs.Listing.{listed, followed};
 ghost use Rattle.code_expr.specs.Parts.{so_many, held_code, alone_code, item_behind, one_item};
 
-use crate::emitter::{Emitter, next};
+use crate::expressions::expression;
 use crate::lists::{item_field, stored_field};
+use code_emitter::{Emitter, next};
 use std::alloc::AllocError;
 use tree_core::{Exp, ExpNode, Name, Place, UnOp};
 
@@ -68,104 +69,102 @@ fn is_full(items: usize) -> bool
     items % 50 == 0
 }
 
-impl Emitter {
-    /// Stores the items that wait, behind those that are stored.
-    pub(crate) fn store_items(
-        &mut self,
-        stored: usize,
-        waiting: usize,
-        target: usize,
-        line: u32,
-    ) -> Result<(), AllocError>
-        ensures { OnOk result (self.new ≡ listed self.old (waiting_code stored waiting target line)) }
-    {
-        if waiting == 0 {
-            return Ok(());
-        }
-        self.set_list(target, waiting, stored, line)?;
-        Ok(())
+/// Stores the items that wait, behind those that are stored.
+pub(crate) fn store_items(
+    emitter: &mut Emitter,
+    stored: usize,
+    waiting: usize,
+    target: usize,
+    line: u32,
+) -> Result<(), AllocError>
+    ensures { OnOk result (emitter.new ≡ listed emitter.old (waiting_code stored waiting target line)) }
+{
+    if waiting == 0 {
+        return Ok(());
     }
+    emitter.set_list(target, waiting, stored, line)?;
+    Ok(())
+}
 
-    /// Stores the items that wait if there are as many as are stored at once, and answers how many there are then.
-    fn store_full(
-        &mut self,
-        stored: usize,
-        waiting: usize,
-        target: usize,
-        line: u32,
-    ) -> Result<Items, AllocError>
-        ensures code { OnOk result (self.new ≡ listed self.old (cond (is_full (stored + waiting)) (set_list target waiting stored line) [])) }
-        ensures items { IfOk result (λ n. n ≡ cond (is_full (stored + waiting)) (so_many (stored + waiting) 0) (so_many stored waiting)) }
-    {
-        let count = plus(stored, waiting)?;
-        if !is_full(count) {
-            return Ok(Items { stored, waiting });
-        }
-        self.set_list(target, waiting, stored, line)?;
-        Ok(Items {
-            stored: count,
-            waiting: 0,
-        })
+/// Stores the items that wait if there are as many as are stored at once, and answers how many there are then.
+fn store_full(
+    emitter: &mut Emitter,
+    stored: usize,
+    waiting: usize,
+    target: usize,
+    line: u32,
+) -> Result<Items, AllocError>
+    ensures code { OnOk result (emitter.new ≡ listed emitter.old (cond (is_full (stored + waiting)) (set_list target waiting stored line) [])) }
+    ensures items { IfOk result (λ n. n ≡ cond (is_full (stored + waiting)) (so_many (stored + waiting) 0) (so_many stored waiting)) }
+{
+    let count = plus(stored, waiting)?;
+    if !is_full(count) {
+        return Ok(Items { stored, waiting });
     }
+    emitter.set_list(target, waiting, stored, line)?;
+    Ok(Items {
+        stored: count,
+        waiting: 0,
+    })
+}
 
-    /// Writes an item, of which all values are wanted or the first one, and answers how many there are then.
-    #[cycle(expressions)]
-    pub(crate) fn item(
-        &mut self,
-        value: &Exp,
-        whole: bool,
-        items: Items,
-        target: usize,
-        line: u32,
-    ) -> Result<Items, AllocError>
-        ensures code { OnOk result (self.new ≡ followed self.old (one_item self.old.constants (plain_exp value.now) whole items target self.old.made line) (made_by (plain_exp value.now))) }
-        ensures items { IfOk result (λ n. n ≡ item_behind (waits (plain_exp value.now)) items) }
-    {
-        if waits(value) {
-            return self.waiting_item(value, items, target, line);
-        }
-        self.lone_item(value, whole, items, target, line)
+/// Writes an item, of which all values are wanted or the first one, and answers how many there are then.
+#[cycle(expressions)]
+pub(crate) fn item(
+    emitter: &mut Emitter,
+    value: &Exp,
+    whole: bool,
+    items: Items,
+    target: usize,
+    line: u32,
+) -> Result<Items, AllocError>
+    ensures code { OnOk result (emitter.new ≡ followed emitter.old (one_item emitter.old.constants (plain_exp value.now) whole items target emitter.old.made line) (made_by (plain_exp value.now))) }
+    ensures items { IfOk result (λ n. n ≡ item_behind (waits (plain_exp value.now)) items) }
+{
+    if waits(value) {
+        return waiting_item(emitter, value, items, target, line);
     }
+    lone_item(emitter, value, whole, items, target, line)
+}
 
-    /// Writes an item that waits.
-    #[cycle(expressions)]
-    fn waiting_item(
-        &mut self,
-        value: &Exp,
-        items: Items,
-        target: usize,
-        line: u32,
-    ) -> Result<Items, AllocError>
-        ensures code { OnOk result (self.new ≡ followed self.old (held_code (is_full (items.stored + items.waiting + 1)) (exp_code self.old.constants (plain_exp value.now) (target + 1 + items.waiting) self.old.made 2) items.stored items.waiting target line) (made_by (plain_exp value.now))) }
-        ensures items { IfOk result (λ n. n ≡ item_behind true items) }
-    {
-        let above = next(target)?;
-        let register = plus(above, items.waiting)?;
-        let waiting = next(items.waiting)?;
-        self.expression(value, register, 2)?;
-        let behind = self.store_full(items.stored, waiting, target, line)?;
-        Ok(behind)
-    }
+/// Writes an item that waits.
+#[cycle(expressions)]
+fn waiting_item(
+    emitter: &mut Emitter,
+    value: &Exp,
+    items: Items,
+    target: usize,
+    line: u32,
+) -> Result<Items, AllocError>
+    ensures code { OnOk result (emitter.new ≡ followed emitter.old (held_code (is_full (items.stored + items.waiting + 1)) (exp_code emitter.old.constants (plain_exp value.now) (target + 1 + items.waiting) emitter.old.made 2) items.stored items.waiting target line) (made_by (plain_exp value.now))) }
+    ensures items { IfOk result (λ n. n ≡ item_behind true items) }
+{
+    let above = next(target)?;
+    let register = plus(above, items.waiting)?;
+    let waiting = next(items.waiting)?;
+    expression(emitter, value, register, 2)?;
+    let behind = store_full(emitter, items.stored, waiting, target, line)?;
+    Ok(behind)
+}
 
-    /// Writes an item that is stored by itself, behind those that wait.
-    #[cycle(expressions)]
-    fn lone_item(
-        &mut self,
-        value: &Exp,
-        whole: bool,
-        items: Items,
-        target: usize,
-        line: u32,
-    ) -> Result<Items, AllocError>
-        ensures code { OnOk result (self.new ≡ followed self.old (alone_code (exp_code self.old.constants (plain_exp value.now) (target + 1) self.old.made (cond whole 0 2)) items.stored items.waiting (cond whole 0 1) target line) (made_by (plain_exp value.now))) }
-        ensures items { IfOk result (λ n. n ≡ item_behind false items) }
-    {
-        let above = next(target)?;
-        let count = plus(items.stored, items.waiting)?;
-        let stored = next(count)?;
-        self.store_items(items.stored, items.waiting, target, line)?;
-        self.expression(value, above, item_field(whole))?;
-        self.set_list(target, stored_field(whole), count, line)?;
-        Ok(Items { stored, waiting: 0 })
-    }
+/// Writes an item that is stored by itself, behind those that wait.
+#[cycle(expressions)]
+fn lone_item(
+    emitter: &mut Emitter,
+    value: &Exp,
+    whole: bool,
+    items: Items,
+    target: usize,
+    line: u32,
+) -> Result<Items, AllocError>
+    ensures code { OnOk result (emitter.new ≡ followed emitter.old (alone_code (exp_code emitter.old.constants (plain_exp value.now) (target + 1) emitter.old.made (cond whole 0 2)) items.stored items.waiting (cond whole 0 1) target line) (made_by (plain_exp value.now))) }
+    ensures items { IfOk result (λ n. n ≡ item_behind false items) }
+{
+    let above = next(target)?;
+    let count = plus(items.stored, items.waiting)?;
+    let stored = next(count)?;
+    store_items(emitter, items.stored, items.waiting, target, line)?;
+    expression(emitter, value, above, item_field(whole))?;
+    emitter.set_list(target, stored_field(whole), count, line)?;
+    Ok(Items { stored, waiting: 0 })
 }

@@ -1,15 +1,12 @@
 // Lists of values, and what a call or `...` at their end fills.
-ghost use Rattle.std.specs.Prelude.{◌≡◌, ◌&&◌, OnOk, IfOk, cond, nat_eq};
+ghost use Rattle.std.specs.Prelude.{◌≡◌, ◌&&◌, IfOk, cond, nat_eq};
 ghost use Rattle.tree_core.specs.Tree.{exps};
 ghost use Rattle.tree_core.specs.Plain.{plain_exp, plain_exps};
-ghost use Rattle.code_of.specs.Expressions.{is_open, list_field, nils_code, set_list};
+ghost use Rattle.code_of.specs.Expressions.{is_open, list_field};
 ghost use Rattle.code_of.specs.Operands.{lone_local};
-ghost use Rattle.code_expr.specs.Listing.{listed};
 ghost use Rattle.code_expr.specs.Parts.{field_where, wanted_where};
 
-use crate::emitter::{Emitter, next};
-use crate::operands::local_of;
-use code_core::Opcode;
+use code_emitter::{local_of, next};
 use std::alloc::AllocError;
 use tree_core::{Exp, ExpNode};
 
@@ -92,38 +89,4 @@ pub(crate) fn stored_field(whole: bool) -> usize
     ensures { result ≡ cond whole 0 1 }
 {
     if whole { 0 } else { 1 }
-}
-
-impl Emitter {
-    /// Sets the registers of values that are wanted and not there to nil.
-    pub(crate) fn nils(
-        &mut self,
-        wanted: Option<usize>,
-        target: usize,
-        line: u32,
-    ) -> Result<(), AllocError>
-        ensures { OnOk result (self.new ≡ listed self.old (nils_code wanted target line)) }
-    {
-        match wanted {
-            Some(count) if count > 0 => self.put_abc(Opcode::LoadNil, target, count - 1, 0, line),
-            _ => Ok(()),
-        }
-    }
-
-    /// Stores values from behind a table's register in it, behind some items.
-    pub(crate) fn set_list(
-        &mut self,
-        target: usize,
-        count: usize,
-        items: usize,
-        line: u32,
-    ) -> Result<(), AllocError>
-        ensures { OnOk result (self.new ≡ listed self.old (set_list target count items line)) }
-    {
-        if items < 256 {
-            return self.put_abc(Opcode::SetList, target, count, items, line);
-        }
-        self.put_flagged(Opcode::SetList, target, count, items % 256, true, line)?;
-        self.put_ax(Opcode::ExtraArg, items / 256, line)
-    }
 }

@@ -3,17 +3,18 @@ ghost use Rattle.std.specs.Prelude.{◌≡◌, ◌+◌, [], ◌∷◌, OnOk, IfO
 ghost use Rattle.tree_core.specs.Tree.{Index};
 ghost use Rattle.tree_core.specs.Plain.{plain_exp};
 ghost use Rattle.code_of.specs.Expressions.{exp_code, made_by};
-ghost use Rattle.code_of.specs.Operands.{local_of, seat, unless};
+ghost use Rattle.code_of.specs.Operands.{seat, unless};
 ghost use Rattle.code_of.specs.Parts.{field_code};
-ghost use Rattle.code_of.specs.Stores.{short_number, name_in, field_key, is_field};
+ghost use Rattle.code_of.specs.Stores.{name_in, field_key, is_field};
 ghost use Rattle.code_of.specs.StoredValues.{stored_value};
-ghost use Rattle.code_expr.specs.Listing.{followed, listed};
+ghost use Rattle.code_emitter.specs.Listing.{followed, listed};
 ghost use Rattle.code_expr.specs.Stores.{key_seat, object_at, made_unless, seat_code, seat_made, seat_store, value_place, place_code, place_made, place_store, made_in_field};
 
-use crate::emitter::{Emitter, next};
-use crate::operands::{local_of, numeral_of};
+use crate::expressions::expression;
 use crate::quiet::{beside_quiet, is_quiet};
+use code_constants::{numeral_of, short};
 use code_core::Opcode;
+use code_emitter::{Emitter, local_of, next};
 use std::alloc::AllocError;
 use tree_core::{Exp, ExpNode};
 
@@ -41,17 +42,6 @@ pub(crate) enum ValueSeat {
     Made,
 }
 
-/// The number of a constant, where a field of 8 bits holds it, or none.
-#[tactic(auto, using(crate::proofs::FieldSeats::near, crate::proofs::FieldSeats::far))]
-pub(crate) fn short(number: usize) -> Option<usize>
-    ensures { result ≡ short_number number }
-{
-    if number < 256 {
-        return Some(number);
-    }
-    None
-}
-
 /// The register in which the object stays, or none for one that is made.
 fn object_at(key: KeySeat, quiet: bool, object: &Exp) -> Option<usize>
     ensures { result ≡ object_at key quiet (plain_exp object.now) }
@@ -71,181 +61,189 @@ pub fn is_field(target: &Exp) -> bool
     matches!(&target.node, ExpNode::Index(_, _))
 }
 
-impl Emitter {
-    /// The number of a key that is a string, where a field of 8 bits holds it, or none.
-    pub(crate) fn name_in(&self, key: &Exp) -> Option<usize>
-        ensures { result ≡ name_in self.now.constants (plain_exp key.now) }
-    {
-        match &key.node {
-            ExpNode::Str(bytes) => short(self.constants().number_of_text(bytes)),
-            _ => None,
+/// The number of a key that is a string, where a field of 8 bits holds it, or none.
+pub(crate) fn name_in(emitter: &Emitter, key: &Exp) -> Option<usize>
+    ensures { result ≡ name_in emitter.now.constants (plain_exp key.now) }
+{
+    match &key.node {
+        ExpNode::Str(bytes) => short(emitter.constants().number_of_text(bytes)),
+        _ => None,
+    }
+}
+
+/// Where a key stands beside a value that is stored, which is quiet or not.
+#[tactic(auto, using(crate::proofs::FieldSeats::seat_named, crate::proofs::FieldSeats::seat_indexed, crate::proofs::FieldSeats::seat_standing, crate::proofs::FieldSeats::seat_above))]
+pub(crate) fn key_seat(emitter: &Emitter, quiet: bool, key: &Exp) -> KeySeat
+    ensures { result ≡ key_seat (field_key emitter.now.constants quiet (plain_exp key.now)) }
+{
+    if let Some(number) = name_in(emitter, key) {
+        return KeySeat::Name(number);
+    }
+    if let Some(number) = numeral_of(key, Some(255)) {
+        return KeySeat::Index(number);
+    }
+    match beside_quiet(quiet, local_of(key)) {
+        Some(register) => KeySeat::Register(register),
+        None => KeySeat::Above,
+    }
+}
+
+/// Where a value that is stored stands.
+#[tactic(auto, using(crate::proofs::ValueSeats::seat_constant, crate::proofs::ValueSeats::seat_local, crate::proofs::ValueSeats::seat_made))]
+pub(crate) fn value_seat(emitter: &Emitter, value: &Exp) -> ValueSeat
+    ensures { result ≡ value_place (stored_value emitter.now.constants (plain_exp value.now)) }
+{
+    if let Some(number) = emitter.constants().literal_number(value) {
+        return ValueSeat::Constant(number);
+    }
+    match local_of(value) {
+        Some(register) => ValueSeat::Local(register),
+        None => ValueSeat::Made,
+    }
+}
+
+/// Writes an operand that does not stay in a register, and answers where it stands.
+#[tactic(auto, using(crate::proofs::FieldSeats::stays_written))]
+fn stand(
+    emitter: &mut Emitter,
+    stays: Option<usize>,
+    exp: &Exp,
+    target: usize,
+) -> Result<usize, AllocError>
+    ensures code { OnOk result (emitter.new ≡ followed emitter.old (unless stays (exp_code emitter.old.constants (plain_exp exp.now) target emitter.old.made 2)) (made_unless stays (made_by (plain_exp exp.now)))) }
+    ensures place { IfOk result (λ register. register ≡ seat stays target) }
+{
+    if let Some(register) = stays {
+        return Ok(register);
+    }
+    expression(emitter, exp, target, 2)?;
+    Ok(target)
+}
+
+/// Writes a key that is made.
+#[cycle(expressions)]
+#[tactic(auto, using(code_emitter::proofs::Seats::nothing_more))]
+pub(crate) fn write_key(
+    emitter: &mut Emitter,
+    stands: KeySeat,
+    key: &Exp,
+    target: usize,
+) -> Result<(), AllocError>
+    ensures { OnOk result (emitter.new ≡ followed emitter.old (seat_code stands (exp_code emitter.old.constants (plain_exp key.now) target emitter.old.made 2)) (seat_made stands (made_by (plain_exp key.now)))) }
+{
+    match stands {
+        KeySeat::Above => expression(emitter, key, target, 2),
+        KeySeat::Name(_) => Ok(()),
+        KeySeat::Index(_) => Ok(()),
+        KeySeat::Register(_) => Ok(()),
+    }
+}
+
+/// Writes a value that is made.
+#[cycle(expressions)]
+#[tactic(auto, using(code_emitter::proofs::Seats::nothing_more))]
+pub(crate) fn write_value(
+    emitter: &mut Emitter,
+    seat: ValueSeat,
+    value: &Exp,
+    target: usize,
+) -> Result<(), AllocError>
+    ensures { OnOk result (emitter.new ≡ followed emitter.old (place_code seat (exp_code emitter.old.constants (plain_exp value.now) target emitter.old.made 2)) (place_made seat (made_by (plain_exp value.now)))) }
+{
+    match seat {
+        ValueSeat::Made => expression(emitter, value, target, 2),
+        ValueSeat::Constant(_) => Ok(()),
+        ValueSeat::Local(_) => Ok(()),
+    }
+}
+
+/// Writes the store of a constant or of a register's value, where the object stands in a register and a key that is made in another.
+pub(crate) fn put_store(
+    emitter: &mut Emitter,
+    stands: KeySeat,
+    object: usize,
+    above: usize,
+    constant: bool,
+    value: usize,
+    line: u32,
+) -> Result<(), AllocError>
+    ensures { OnOk result (emitter.new ≡ listed emitter.old (seat_store stands object above constant value line ∷ [])) }
+{
+    match stands {
+        KeySeat::Name(number) => {
+            emitter.put_flagged(Opcode::SetField, object, number, value, constant, line)
+        }
+        KeySeat::Index(number) => {
+            emitter.put_flagged(Opcode::SetI, object, number, value, constant, line)
+        }
+        KeySeat::Register(key) => {
+            emitter.put_flagged(Opcode::SetTable, object, key, value, constant, line)
+        }
+        KeySeat::Above => {
+            emitter.put_flagged(Opcode::SetTable, object, above, value, constant, line)
         }
     }
+}
 
-    /// Where a key stands beside a value that is stored, which is quiet or not.
-    #[tactic(auto, using(crate::proofs::FieldSeats::seat_named, crate::proofs::FieldSeats::seat_indexed, crate::proofs::FieldSeats::seat_standing, crate::proofs::FieldSeats::seat_above))]
-    pub(crate) fn key_seat(&self, quiet: bool, key: &Exp) -> KeySeat
-        ensures { result ≡ key_seat (field_key self.now.constants quiet (plain_exp key.now)) }
-    {
-        if let Some(number) = self.name_in(key) {
-            return KeySeat::Name(number);
+/// Writes the store of a value, which stands in the register `top` if it is made.
+pub(crate) fn put_value(
+    emitter: &mut Emitter,
+    stands: KeySeat,
+    seat: ValueSeat,
+    object: usize,
+    above: usize,
+    top: usize,
+    line: u32,
+) -> Result<(), AllocError>
+    ensures { OnOk result (emitter.new ≡ listed emitter.old (place_store stands seat object above top line ∷ [])) }
+{
+    match seat {
+        ValueSeat::Constant(number) => {
+            put_store(emitter, stands, object, above, true, number, line)
         }
-        if let Some(number) = numeral_of(key, Some(255)) {
-            return KeySeat::Index(number);
+        ValueSeat::Local(register) => {
+            put_store(emitter, stands, object, above, false, register, line)
         }
-        match beside_quiet(quiet, local_of(key)) {
-            Some(register) => KeySeat::Register(register),
-            None => KeySeat::Above,
-        }
+        ValueSeat::Made => put_store(emitter, stands, object, above, false, top, line),
     }
+}
 
-    /// Where a value that is stored stands.
-    #[tactic(auto, using(crate::proofs::ValueSeats::seat_constant, crate::proofs::ValueSeats::seat_local, crate::proofs::ValueSeats::seat_made))]
-    pub(crate) fn value_seat(&self, value: &Exp) -> ValueSeat
-        ensures { result ≡ value_place (stored_value self.now.constants (plain_exp value.now)) }
-    {
-        if let Some(number) = self.constants().literal_number(value) {
-            return ValueSeat::Constant(number);
-        }
-        match local_of(value) {
-            Some(register) => ValueSeat::Local(register),
-            None => ValueSeat::Made,
-        }
-    }
+/// Writes a value that goes to the field of an object, where the registers from one on are free.
+fn store_field(
+    emitter: &mut Emitter,
+    object: &Exp,
+    key: &Exp,
+    value: &Exp,
+    free: usize,
+    line: u32,
+) -> Result<(), AllocError>
+    ensures { OnOk result (emitter.new ≡ followed emitter.old (field_code emitter.old.constants (Index line (plain_exp object.now) (plain_exp key.now)) (plain_exp value.now) free emitter.old.made (emitter.old.made + (made_by (plain_exp object.now) + made_by (plain_exp key.now)))) (made_by (plain_exp object.now) + made_by (plain_exp key.now) + made_by (plain_exp value.now))) }
+{
+    let above = next(free)?;
+    let top = next(above)?;
+    let seat = value_seat(emitter, value);
+    let quiet = is_quiet(value);
+    let stands = key_seat(emitter, quiet, key);
+    let first = stand(emitter, object_at(stands, quiet, object), object, free)?;
+    write_key(emitter, stands, key, above)?;
+    write_value(emitter, seat, value, top)?;
+    put_value(emitter, stands, seat, first, above, top, line)?;
+    Ok(())
+}
 
-    /// Writes an operand that does not stay in a register, and answers where it stands.
-    #[tactic(auto, using(crate::proofs::FieldSeats::stays_written))]
-    fn stand(&mut self, stays: Option<usize>, exp: &Exp, target: usize) -> Result<usize, AllocError>
-        ensures code { OnOk result (self.new ≡ followed self.old (unless stays (exp_code self.old.constants (plain_exp exp.now) target self.old.made 2)) (made_unless stays (made_by (plain_exp exp.now)))) }
-        ensures place { IfOk result (λ register. register ≡ seat stays target) }
-    {
-        if let Some(register) = stays {
-            return Ok(register);
-        }
-        self.expression(exp, target, 2)?;
-        Ok(target)
-    }
-
-    /// Writes a key that is made.
-    #[cycle(expressions)]
-    #[tactic(auto, using(crate::proofs::Seats::nothing_more))]
-    pub(crate) fn write_key(
-        &mut self,
-        stands: KeySeat,
-        key: &Exp,
-        target: usize,
-    ) -> Result<(), AllocError>
-        ensures { OnOk result (self.new ≡ followed self.old (seat_code stands (exp_code self.old.constants (plain_exp key.now) target self.old.made 2)) (seat_made stands (made_by (plain_exp key.now)))) }
-    {
-        match stands {
-            KeySeat::Above => self.expression(key, target, 2),
-            KeySeat::Name(_) => Ok(()),
-            KeySeat::Index(_) => Ok(()),
-            KeySeat::Register(_) => Ok(()),
-        }
-    }
-
-    /// Writes a value that is made.
-    #[cycle(expressions)]
-    #[tactic(auto, using(crate::proofs::Seats::nothing_more))]
-    pub(crate) fn write_value(
-        &mut self,
-        seat: ValueSeat,
-        value: &Exp,
-        target: usize,
-    ) -> Result<(), AllocError>
-        ensures { OnOk result (self.new ≡ followed self.old (place_code seat (exp_code self.old.constants (plain_exp value.now) target self.old.made 2)) (place_made seat (made_by (plain_exp value.now)))) }
-    {
-        match seat {
-            ValueSeat::Made => self.expression(value, target, 2),
-            ValueSeat::Constant(_) => Ok(()),
-            ValueSeat::Local(_) => Ok(()),
-        }
-    }
-
-    /// Writes the store of a constant or of a register's value, where the object stands in a register and a key that is made in another.
-    pub(crate) fn put_store(
-        &mut self,
-        stands: KeySeat,
-        object: usize,
-        above: usize,
-        constant: bool,
-        value: usize,
-        line: u32,
-    ) -> Result<(), AllocError>
-        ensures { OnOk result (self.new ≡ listed self.old (seat_store stands object above constant value line ∷ [])) }
-    {
-        match stands {
-            KeySeat::Name(number) => {
-                self.put_flagged(Opcode::SetField, object, number, value, constant, line)
-            }
-            KeySeat::Index(number) => {
-                self.put_flagged(Opcode::SetI, object, number, value, constant, line)
-            }
-            KeySeat::Register(key) => {
-                self.put_flagged(Opcode::SetTable, object, key, value, constant, line)
-            }
-            KeySeat::Above => {
-                self.put_flagged(Opcode::SetTable, object, above, value, constant, line)
-            }
-        }
-    }
-
-    /// Writes the store of a value, which stands in the register `top` if it is made.
-    pub(crate) fn put_value(
-        &mut self,
-        stands: KeySeat,
-        seat: ValueSeat,
-        object: usize,
-        above: usize,
-        top: usize,
-        line: u32,
-    ) -> Result<(), AllocError>
-        ensures { OnOk result (self.new ≡ listed self.old (place_store stands seat object above top line ∷ [])) }
-    {
-        match seat {
-            ValueSeat::Constant(number) => {
-                self.put_store(stands, object, above, true, number, line)
-            }
-            ValueSeat::Local(register) => {
-                self.put_store(stands, object, above, false, register, line)
-            }
-            ValueSeat::Made => self.put_store(stands, object, above, false, top, line),
-        }
-    }
-
-    /// Writes a value that goes to the field of an object, where the registers from one on are free.
-    fn store_field(
-        &mut self,
-        object: &Exp,
-        key: &Exp,
-        value: &Exp,
-        free: usize,
-        line: u32,
-    ) -> Result<(), AllocError>
-        ensures { OnOk result (self.new ≡ followed self.old (field_code self.old.constants (Index line (plain_exp object.now) (plain_exp key.now)) (plain_exp value.now) free self.old.made (self.old.made + (made_by (plain_exp object.now) + made_by (plain_exp key.now)))) (made_by (plain_exp object.now) + made_by (plain_exp key.now) + made_by (plain_exp value.now))) }
-    {
-        let above = next(free)?;
-        let top = next(above)?;
-        let seat = self.value_seat(value);
-        let quiet = is_quiet(value);
-        let stands = self.key_seat(quiet, key);
-        let first = self.stand(object_at(stands, quiet, object), object, free)?;
-        self.write_key(stands, key, above)?;
-        self.write_value(seat, value, top)?;
-        self.put_value(stands, seat, first, above, top, line)?;
-        Ok(())
-    }
-
-    /// Writes an assignment of one value to one field, where the registers from one on are free. For another target
-    /// nothing is written.
-    #[tactic(auto, using(crate::proofs::Seats::nothing_more))]
-    pub fn store(&mut self, target: &Exp, value: &Exp, free: usize) -> Result<(), AllocError>
-        ensures { OnOk result (self.new ≡ followed self.old (field_code self.old.constants (plain_exp target.now) (plain_exp value.now) free self.old.made (self.old.made + made_by (plain_exp target.now))) (made_in_field (plain_exp target.now) (plain_exp value.now))) }
-    {
-        match &target.node {
-            ExpNode::Index(object, key) => self.store_field(object, key, value, free, target.line),
-            _ => Ok(()),
-        }
+/// Writes an assignment of one value to one field, where the registers from one on are free. For another target
+/// nothing is written.
+#[tactic(auto, using(code_emitter::proofs::Seats::nothing_more))]
+pub fn store(
+    emitter: &mut Emitter,
+    target: &Exp,
+    value: &Exp,
+    free: usize,
+) -> Result<(), AllocError>
+    ensures { OnOk result (emitter.new ≡ followed emitter.old (field_code emitter.old.constants (plain_exp target.now) (plain_exp value.now) free emitter.old.made (emitter.old.made + made_by (plain_exp target.now))) (made_in_field (plain_exp target.now) (plain_exp value.now))) }
+{
+    match &target.node {
+        ExpNode::Index(object, key) => store_field(emitter, object, key, value, free, target.line),
+        _ => Ok(()),
     }
 }

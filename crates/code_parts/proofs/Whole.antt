@@ -6,7 +6,7 @@ use Rattle.code_core.specs.Prototype.{Parts}
 use Rattle.code_of.specs.Coded.{Coded, words}
 use Rattle.code_of.specs.Constants.{of_block}
 use Rattle.code_of.specs.CodeOf.{body_code, where_known, changes, far_lines, variables_of, parts_of}
-use Rattle.code_expr.specs.Listing.{low, steps}
+use Rattle.code_emitter.specs.Listing.{low, steps}
 use Rattle.code_parts.specs.Assembled.{assembled, low_parts}
 use Rattle.code_parts.proofs.Written.{room_written, lines_written}
 

@@ -9,7 +9,7 @@ use Rattle.code_core.specs.Instruction.{bits_from, opcode_of, a_of, b_of, c_of, 
 use Rattle.code_core.specs.Fields.{registers}
 use Rattle.code_of.specs.Coded.{Coded, words, lines}
 use Rattle.code_of.specs.CodeOf.{named_by, room_for, room}
-use Rattle.code_expr.specs.Listing.{low, steps}
+use Rattle.code_emitter.specs.Listing.{low, steps}
 
 opcode_low : (w : Instruction) → opcode_of (low w) ≡ opcode_of w
 opcode_low w = let e : bits_from 0 7 (low w) ≡ bits_from 0 7 w = omega arith in ap (λ n. slice_get opcodes n) e

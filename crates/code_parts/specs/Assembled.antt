@@ -5,8 +5,8 @@ use Rattle.code_core.specs.declared.proto.Const.{Const}
 use Rattle.code_core.specs.declared.proto.LocVar.{LocVar}
 use Rattle.code_core.specs.Prototype.{Parts, Prototype, Prototypes, none, more}
 use Rattle.code_of.specs.CodeOf.{room, changes, far_lines, upvalue, where_known, last_line_of}
-use Rattle.code_expr.specs.Listing.{low}
-use Rattle.code_expr.specs.declared.emitter.Step.{Step}
+use Rattle.code_emitter.specs.Listing.{low}
+use Rattle.code_emitter.specs.declared.emitter.Step.{Step}
 
 abbrev pub assembled : (source : Option (List ℕ)) → Body → List Step → List Const → List LocVar → Parts
 assembled source (BodyOf params vararg inner ups line) steps constants locals =

@@ -10,7 +10,7 @@ use crate::captured::{up_names, upvalues};
 use crate::lines::{changes, far_lines};
 use crate::registers::room;
 use code_core::{AbsLine, Const, Instruction, LocVar, Proto};
-use code_expr::Step;
+use code_emitter::Step;
 use int_core::Bytes;
 use std::alloc::{AllocError, Global};
 use tree_core::{Body, UpName};

@@ -2,10 +2,10 @@
 ghost use Rattle.std.specs.Prelude.{◌≡◌, OnOk, IfOk};
 ghost use Rattle.tree_core.specs.Plain.{plain_block};
 ghost use Rattle.code_of.specs.CodeOf.{opening, back_field, first_line, last_line_of};
-ghost use Rattle.code_expr.specs.Listing.{listed};
+ghost use Rattle.code_emitter.specs.Listing.{listed};
 
 use code_core::Opcode;
-use code_expr::{Emitter, next};
+use code_emitter::{Emitter, next};
 use std::alloc::AllocError;
 use tree_core::Block;
 

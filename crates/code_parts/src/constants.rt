@@ -4,7 +4,7 @@ ghost use Rattle.tree_core.specs.Tree.{stats, arms};
 ghost use Rattle.tree_core.specs.Plain.{plain_stat, plain_arm, plain_block};
 ghost use Rattle.code_of.specs.Constants.{of_stat, of_arms, of_stats, of_block};
 
-use code_expr::Constants;
+use code_constants::Constants;
 use std::alloc::{AllocError, Global};
 use tree_core::{Arm, Block, Stat, StatNode};
 

@@ -4,7 +4,7 @@ ghost use Rattle.std.specs.Prelude.{◌≡◌, ◌-ℤ◌, pos, cond, map, Some,
 ghost use Rattle.code_of.specs.CodeOf.{is_near, change_of, changes, far_lines};
 
 use code_core::AbsLine;
-use code_expr::Step;
+use code_emitter::Step;
 use std::alloc::{AllocError, Global};
 
 /// The distance of a line from that in front of it, where 8 bits hold it and it is not -128.

@@ -4,7 +4,7 @@ ghost use Rattle.code_core.specs.Fields as fields;
 ghost use Rattle.code_of.specs.CodeOf.{named_by, room_for, room};
 
 use code_core::{Instruction, Opcode};
-use code_expr::Step;
+use code_emitter::Step;
 
 /// Room for one more register.
 fn hold(room: usize, register: u16) -> usize

@@ -14,11 +14,11 @@ use Rattle.code_of.specs.Targets.{local_store, single_store}
 use Rattle.code_of.proofs.StoredValues.{stored_in_makes}
 use Rattle.code_of.proofs.Targets.{single_store_is}
 use Rattle.code_core.specs.declared.proto.Const.{Const}
-use Rattle.code_expr.specs.declared.emitter.Step.{Step}
-use Rattle.code_expr.specs.Listing.{Listing, followed, put, step, listed}
+use Rattle.code_emitter.specs.declared.emitter.Step.{Step}
+use Rattle.code_emitter.specs.Listing.{Listing, followed, put, step, listed}
 use Rattle.code_expr.specs.Targets.{stored_step}
-use Rattle.code_expr.proofs.Joining.{none_made, then_made, then_listed}
-use Rattle.code_expr.specs.Operands.{made_directly}
+use Rattle.code_emitter.proofs.Joining.{none_made, then_made, then_listed}
+use Rattle.code_emitter.specs.Operands.{made_directly}
 use Rattle.code_expr.specs.Stores.{made_in_field}
 
 pub one_target : (ts : List Exp) (es : tree.Exps) → (length ts ≡ 1 → ⊥) → assigned (tree.exps (plain_exps ts)) es ≡ None

@@ -10,9 +10,9 @@ use Rattle.code_of.specs.Levels.{made_by_stat, made_in_stats, closing_after}
 use Rattle.tree_terms.specs.Levels.{level_after}
 use Rattle.code_of.specs.Sizes.{stat_size}
 use Rattle.code_of.specs.Statements.{visible, passed_after, labels_ahead, stat_code, stats_code}
-use Rattle.code_expr.specs.declared.emitter.Step.{Step}
-use Rattle.code_expr.specs.Listing.{followed, step, steps}
-use Rattle.code_expr.proofs.Joining.{after, none_made}
+use Rattle.code_emitter.specs.declared.emitter.Step.{Step}
+use Rattle.code_emitter.specs.Listing.{followed, step, steps}
+use Rattle.code_emitter.proofs.Joining.{after, none_made}
 use Rattle.code_stat.specs.declared.jumps.Jump.{Jump}
 use Rattle.code_stat.specs.declared.writer.Writer.{Writer}
 use Rattle.code_stat.specs.Drafts.{arrives, leads_to, first_of, among, landing_if, beyond, within, fill, Wrote, Underway, WroteStat}

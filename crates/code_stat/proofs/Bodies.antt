@@ -19,8 +19,8 @@ use Rattle.code_of.specs.Sizes.{stats_size}
 use Rattle.code_of.specs.Statements.{stats_code, whole_code}
 use Rattle.code_of.specs.Variables.{variables, within_whole}
 use Rattle.code_of.proofs.Sizes.{stats_sized}
-use Rattle.code_expr.specs.Listing.{Listing, listed, step}
-use Rattle.code_expr.proofs.Joining.{none_made}
+use Rattle.code_emitter.specs.Listing.{Listing, listed, step}
+use Rattle.code_emitter.proofs.Joining.{none_made}
 use Rattle.code_parts.specs.declared.variables.Variable.{Variable}
 use Rattle.code_parts.specs.Scopes.{begun, over, ended_from, finished}
 use Rattle.code_parts.proofs.Ending.{body_ended, finished_over}

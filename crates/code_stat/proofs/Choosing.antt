@@ -13,10 +13,10 @@ use Rattle.code_of.specs.Levels.{made_by_stat, made_in_arms, made_in_block}
 use Rattle.code_of.specs.Parts.{past_size, past, arm_code}
 use Rattle.code_of.specs.Sizes.{stat_size, arms_size, block_size}
 use Rattle.code_of.specs.Statements.{stat_code, arms_code, block_code}
-use Rattle.code_expr.specs.Leading.{led_on, Opened}
-use Rattle.code_expr.specs.Listing.{Listing, followed, listed}
-use Rattle.code_expr.proofs.Joining.{after, after_listed, none_made}
-use Rattle.code_expr.proofs.Leading.{opened_led, opened_long}
+use Rattle.code_emitter.specs.Leading.{led_on, Opened}
+use Rattle.code_emitter.specs.Listing.{Listing, followed, listed}
+use Rattle.code_emitter.proofs.Joining.{after, after_listed, none_made}
+use Rattle.code_emitter.proofs.Leading.{opened_led, opened_long}
 use Rattle.code_stat.specs.declared.writer.Writer.{Writer}
 use Rattle.code_stat.specs.Drafts.{Wrote, WroteStat, WroteBlock}
 use Rattle.code_stat.specs.Forms.{choice}

@@ -22,10 +22,10 @@ use Rattle.code_of.specs.Sizes.{stat_size, arms_size, block_size}
 use Rattle.code_of.specs.Statements.{in_loop, stat_code, block_code}
 use Rattle.code_of.specs.Variables.{variables, hidden, looped, within_stat, within_arms, within_stats, within_open, within_block}
 use Rattle.code_of.proofs.Sizes.{stat_sized, block_sized}
-use Rattle.code_expr.specs.Leading.{Opened}
-use Rattle.code_expr.specs.Listing.{Listing, followed, listed}
-use Rattle.code_expr.proofs.Joining.{none_made}
-use Rattle.code_expr.proofs.Leading.{opened_long}
+use Rattle.code_emitter.specs.Leading.{Opened}
+use Rattle.code_emitter.specs.Listing.{Listing, followed, listed}
+use Rattle.code_emitter.proofs.Joining.{none_made}
+use Rattle.code_emitter.proofs.Leading.{opened_long}
 use Rattle.code_parts.specs.declared.variables.Variable.{Variable}
 use Rattle.code_parts.specs.Scopes.{begun, over, hidden_from, ended_from, begun_by, begun_in}
 use Rattle.code_parts.proofs.Ending.{ended_over, ended_append, over_append, ended_behind, names_ended, loop_ended, block_ended}

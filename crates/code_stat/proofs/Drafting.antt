@@ -6,11 +6,11 @@ use Rattle.code_core.specs.declared.proto.Const.{Const}
 use Rattle.code_of.specs.declared.leaving.Leaving.{Leaving}
 use Rattle.code_of.specs.Coded.{Coded}
 use Rattle.code_of.specs.Jumps.{Landing, Reach}
-use Rattle.code_expr.specs.declared.emitter.Step.{Step}
-use Rattle.code_expr.specs.Listing.{Listing, followed, step, steps}
-use Rattle.code_expr.specs.Leading.{Opened}
-use Rattle.code_expr.proofs.Joining.{after}
-use Rattle.code_expr.proofs.Leading.{opened_long}
+use Rattle.code_emitter.specs.declared.emitter.Step.{Step}
+use Rattle.code_emitter.specs.Listing.{Listing, followed, step, steps}
+use Rattle.code_emitter.specs.Leading.{Opened}
+use Rattle.code_emitter.proofs.Joining.{after}
+use Rattle.code_emitter.proofs.Leading.{opened_long}
 use Rattle.code_stat.specs.declared.jumps.Jump.{Jump}
 use Rattle.code_stat.specs.declared.writer.Writer.{Writer}
 use Rattle.code_stat.specs.Drafts.{arrives, put_jump, fill, Wrote}

@@ -10,8 +10,8 @@ use Rattle.code_of.specs.Levels.{made_by_stat, made_in_stats, made_in_block, clo
 use Rattle.tree_terms.specs.Levels.{levels_after, levels_in}
 use Rattle.code_of.specs.Parts.{close_code, return_code}
 use Rattle.code_of.specs.Statements.{stat_code, stats_code}
-use Rattle.code_expr.specs.Listing.{followed, listed}
-use Rattle.code_expr.proofs.Joining.{none_made}
+use Rattle.code_emitter.specs.Listing.{followed, listed}
+use Rattle.code_emitter.proofs.Joining.{none_made}
 use Rattle.code_stat.specs.declared.writer.Writer.{Writer}
 use Rattle.code_stat.specs.Drafts.{Wrote, WroteStat, WroteStats, WroteBlock, WroteOpen}
 use Rattle.code_stat.proofs.Blocks.{nowhere}

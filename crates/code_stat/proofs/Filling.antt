@@ -18,9 +18,9 @@ use Rattle.code_of.specs.Jumps.{Landing, Reach}
 use Rattle.code_of.specs.Levels.{made_in_stats, made_in_block}
 use Rattle.tree_terms.specs.Levels.{levels_after}
 use Rattle.code_of.specs.Statements.{stats_code, whole_code}
-use Rattle.code_expr.specs.Listing.{Listing, followed, listed, step, steps}
-use Rattle.code_expr.specs.Patches.{replaced, jump_to}
-use Rattle.code_expr.proofs.Joining.{listing, none_made}
+use Rattle.code_emitter.specs.Listing.{Listing, followed, listed, step, steps}
+use Rattle.code_emitter.specs.Patches.{replaced, jump_to}
+use Rattle.code_emitter.proofs.Joining.{listing, none_made}
 use Rattle.code_stat.specs.declared.jumps.Destination.{Destination}
 use Rattle.code_stat.specs.declared.jumps.Jump.{Jump}
 use Rattle.code_stat.specs.declared.writer.Writer.{Writer}

@@ -8,8 +8,8 @@ use Rattle.tree_core.specs.Plain.{plain_exp, plain_exps}
 use Rattle.code_of.specs.Coded.{Coded}
 use Rattle.code_of.specs.Expressions.{count, made_by, made_in, exp_code, exps_code}
 use Rattle.code_of.specs.Parts.{target_code, targets_code, store_code, stores_code, pair_code, steps_code, stored_code}
-use Rattle.code_expr.specs.Listing.{Listing, listed, followed}
-use Rattle.code_expr.proofs.Joining.{listing, after, none_made, both_listed, then_made, then_listed}
+use Rattle.code_emitter.specs.Listing.{Listing, listed, followed}
+use Rattle.code_emitter.proofs.Joining.{listing, after, none_made, both_listed, then_made, then_listed}
 use Rattle.code_expr.proofs.TargetSeats.{nothing_listed}
 use Rattle.code_expr.proofs.Ends.{counted}
 

@@ -6,12 +6,12 @@ use Rattle.std.proofs.Math.Seq.{set-append_seam}
 use Rattle.code_core.specs.declared.opcode.Opcode.TheVariants.{Close}
 use Rattle.code_of.specs.Coded.{Coded, with_abc, jump_over, jump_back}
 use Rattle.code_of.specs.Jumps.{Landing, leads}
-use Rattle.code_expr.specs.declared.emitter.Step.{Step}
-use Rattle.code_expr.specs.Listing.{Listing, followed, listed, step, steps}
-use Rattle.code_expr.specs.Patches.{jump_to}
-use Rattle.code_expr.specs.Leading.{led_on, Opened}
-use Rattle.code_expr.proofs.Joining.{none_made, both_listed, listed_after}
-use Rattle.code_expr.proofs.Leading.{opened_led, opened_long}
+use Rattle.code_emitter.specs.declared.emitter.Step.{Step}
+use Rattle.code_emitter.specs.Listing.{Listing, followed, listed, step, steps}
+use Rattle.code_emitter.specs.Patches.{jump_to}
+use Rattle.code_emitter.specs.Leading.{led_on, Opened}
+use Rattle.code_emitter.proofs.Joining.{none_made, both_listed, listed_after}
+use Rattle.code_emitter.proofs.Leading.{opened_led, opened_long}
 use Rattle.code_stat.specs.declared.jumps.Jump.{Jump}
 use Rattle.code_stat.specs.declared.writer.Writer.{Writer}
 use Rattle.code_stat.specs.Drafts.{Wrote, beyond, or_nowhere, drafted}

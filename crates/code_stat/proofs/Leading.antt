@@ -4,7 +4,7 @@ use Rattle.std.specs.Prelude.{slice_index_or, slice_set, bytes_eq}
 use Rattle.std.proofs.lemmas.List.{drop_all, take_all}
 use Rattle.code_of.specs.Jumps.{Landing, Visible, Reach, label_in}
 use Rattle.code_of.specs.Statements.{in_loop}
-use Rattle.code_expr.specs.declared.emitter.Step.{Step}
+use Rattle.code_emitter.specs.declared.emitter.Step.{Step}
 use Rattle.code_stat.specs.declared.jumps.Destination.{Destination}
 use Rattle.code_stat.specs.declared.jumps.Jump.{Jump}
 use Rattle.code_stat.specs.declared.jumps.Passed.{Passed}

@@ -9,7 +9,7 @@ use Rattle.code_of.specs.Jumps.{Visible, Reach}
 use Rattle.code_of.specs.Levels.{made_in_stats, closing_after, closings_after}
 use Rattle.tree_terms.specs.Levels.{level_after, levels_after}
 use Rattle.code_of.specs.Statements.{passed_after, labels_ahead, stats_code}
-use Rattle.code_expr.specs.declared.emitter.Step.{Step}
+use Rattle.code_emitter.specs.declared.emitter.Step.{Step}
 use Rattle.code_stat.specs.declared.jumps.Jump.{Jump}
 use Rattle.code_stat.specs.declared.writer.Writer.{Writer}
 use Rattle.code_stat.specs.Drafts.{arrives, leads_to, within, fill, Underway, WroteStat, WroteStats}

@@ -6,7 +6,7 @@ use Rattle.tree_core.specs.declared.tree.Body.{Body, out-Body}
 use Rattle.tree_core.specs.Plain.{plain_body}
 use Rattle.tree_core.proofs.Rows.{plain-body}
 use Rattle.code_of.specs.Parts.{captures_local, closure_code, function_code}
-use Rattle.code_expr.specs.Listing.{Listing, followed}
+use Rattle.code_emitter.specs.Listing.{Listing, followed}
 use Rattle.code_stat.proofs.Going.{front}
 
 pub captured_further :

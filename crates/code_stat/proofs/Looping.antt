@@ -18,12 +18,12 @@ use Rattle.tree_terms.specs.Levels.{levels_in}
 use Rattle.code_of.specs.Parts.{close_code, while_code, counting_code, iterating_code, bounds_code, steps_code}
 use Rattle.code_of.specs.Sizes.{stat_size, block_size, open_size}
 use Rattle.code_of.specs.Statements.{in_loop, stat_code, block_code, open_code}
-use Rattle.code_expr.specs.declared.emitter.Step.{Step}
-use Rattle.code_expr.specs.Listing.{Listing, followed, listed, step, steps}
-use Rattle.code_expr.specs.Patches.{replaced}
-use Rattle.code_expr.specs.Leading.{led_on, Opened}
-use Rattle.code_expr.proofs.Joining.{listing, after, both_listed, none_made, listed_after}
-use Rattle.code_expr.proofs.Leading.{opened_led, opened_long}
+use Rattle.code_emitter.specs.declared.emitter.Step.{Step}
+use Rattle.code_emitter.specs.Listing.{Listing, followed, listed, step, steps}
+use Rattle.code_emitter.specs.Patches.{replaced}
+use Rattle.code_emitter.specs.Leading.{led_on, Opened}
+use Rattle.code_emitter.proofs.Joining.{listing, after, both_listed, none_made, listed_after}
+use Rattle.code_emitter.proofs.Leading.{opened_led, opened_long}
 use Rattle.code_stat.specs.declared.writer.Writer.{Writer}
 use Rattle.code_stat.specs.Drafts.{arrives, fill, Wrote, WroteStat, WroteBlock, WroteOpen}
 use Rattle.code_stat.specs.Forms.{until_code, counted_code, iterated_code, range_code, made_in_range}

@@ -13,8 +13,8 @@ use Rattle.code_of.specs.Operators.{self_code}
 use Rattle.code_of.specs.Operands.{local_of, lone_local, seat, unless}
 use Rattle.code_of.specs.Parts.{call_last, method_last, return_code, listed_last, returned_by, values_last}
 use Rattle.code_of.proofs.Operands.{local_makes, lone_is}
-use Rattle.code_expr.specs.Listing.{Listing, listed, followed}
-use Rattle.code_expr.proofs.Joining.{none_made}
+use Rattle.code_emitter.specs.Listing.{Listing, listed, followed}
+use Rattle.code_emitter.proofs.Joining.{none_made}
 use Rattle.code_stat.specs.Tails.{is_called, tail_code}
 use Rattle.code_expr.proofs.Kept.{no_further}
 

@@ -6,9 +6,9 @@ use Rattle.tree_core.specs.Tree.{Stat, Stats, Block}
 use Rattle.code_of.specs.Levels.{made_by_stat, made_in_stats, made_in_block}
 use Rattle.code_of.specs.Statements.{stat_code, stats_code, block_code, open_code}
 use Rattle.code_of.specs.Jumps.{Landing, Visible, Reach, label_in}
-use Rattle.code_expr.specs.declared.emitter.Step.{Step}
-use Rattle.code_expr.specs.Listing.{followed, step, steps}
-use Rattle.code_expr.specs.Patches.{jump_to}
+use Rattle.code_emitter.specs.declared.emitter.Step.{Step}
+use Rattle.code_emitter.specs.Listing.{followed, step, steps}
+use Rattle.code_emitter.specs.Patches.{jump_to}
 use Rattle.code_stat.specs.declared.jumps.Destination.{Destination}
 use Rattle.code_stat.specs.declared.jumps.Jump.{Jump}
 use Rattle.code_stat.specs.declared.jumps.Passed.{Passed}

@@ -12,7 +12,7 @@ use Rattle.code_of.specs.Levels.{made_in_block}
 use Rattle.tree_terms.specs.Levels.{levels_after}
 use Rattle.code_of.specs.Statements.{stats_code, block_code, whole_code}
 use Rattle.code_of.specs.Variables.{variables, within_whole}
-use Rattle.code_expr.specs.Listing.{Listing}
+use Rattle.code_emitter.specs.Listing.{Listing}
 use Rattle.code_stat.specs.declared.jumps.Jump.{Jump}
 use Rattle.code_stat.specs.Drafts.{arrives, or_nowhere, put_jump, fill}
 

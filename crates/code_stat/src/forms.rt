@@ -3,7 +3,7 @@ ghost use Rattle.std.specs.Prelude.{◌≡◌, Bool, ℕ, map, OnOk};
 ghost use Rattle.std.specs.Option.{option_map};
 ghost use Rattle.tree_core.specs.Tree.{exps, Empty, Label, Local, LocalFunction, Assign, CallStat, Goto};
 ghost use Rattle.tree_core.specs.Plain.{plain_exp, plain_exps, plain_stat, plain_body};
-ghost use Rattle.code_expr.specs.Listing.{followed};
+ghost use Rattle.code_emitter.specs.Listing.{followed};
 ghost use Rattle.code_stat.specs.Declares.{DeclaresStat};
 ghost use Rattle.code_stat.specs.Drafts.{WroteStat};
 ghost use Rattle.code_stat.specs.Forms.{range_code, made_in_range};
@@ -12,7 +12,8 @@ use crate::marks::write_marks;
 use crate::ranges::{write_bounds, write_steps};
 use crate::simple::{write_assign, write_call, write_local_function};
 use crate::writer::Writer;
-use code_expr::{Emitter, next};
+use code_emitter::{Emitter, next};
+use code_expr::list;
 use int_core::Bytes;
 use std::alloc::AllocError;
 use tree_core::{Body, Declared, Exp, Name};
@@ -46,7 +47,7 @@ impl Writer {
         ensures code { (closing : Bool) → OnOk result (WroteStat self.old self.new (Local line names.now.items (exps (plain_exps values.now.items))) closing level) }
         ensures variables { (closing : Bool) → OnOk result (DeclaresStat self.old self.new (Local line names.now.items (exps (plain_exps values.now.items))) closing level) }
     {
-        self.emitter.list(values, Some(names.len()), level, line)?;
+        list(&mut self.emitter, values, Some(names.len()), level, line)?;
         let place = self.place();
         self.variables.declare_locals(self.alloc, names, place)?;
         write_marks(&mut self.emitter, names, level)?;

@@ -2,7 +2,7 @@
 ghost use Rattle.std.specs.Prelude.{◌≡◌, List, [], ◌∷◌, cond, Some, bytes_eq, take, drop};
 ghost use Rattle.code_of.specs.Jumps.{Visible, Reach, label_in};
 ghost use Rattle.code_of.specs.Statements.{in_loop};
-ghost use Rattle.code_expr.specs.declared.emitter.Step.{Step};
+ghost use Rattle.code_emitter.specs.declared.emitter.Step.{Step};
 ghost use Rattle.code_stat.specs.Drafts.{among, landing, landing_if, newest_first, is_break, is_to, leads_to, arrives, within, fill};
 
 use int_core::Bytes;

@@ -3,7 +3,7 @@ ghost use Rattle.std.specs.Prelude.{◌≡◌, ◌&&◌, List, [], ◌∷◌, co
 ghost use Rattle.tree_core.specs.Plain.{plain_stat};
 ghost use Rattle.code_of.specs.Jumps.{Visible, Reach};
 ghost use Rattle.code_of.specs.Statements.{passed_after};
-ghost use Rattle.code_expr.specs.declared.emitter.Step.{Step};
+ghost use Rattle.code_emitter.specs.declared.emitter.Step.{Step};
 ghost use Rattle.code_stat.specs.Drafts.{landing, newest_first, leads_to, fill};
 ghost use Rattle.code_stat.specs.Forms.{ahead_with};
 

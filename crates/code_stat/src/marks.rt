@@ -2,10 +2,10 @@
 ghost use Rattle.std.specs.Prelude.{◌≡◌, OnOk};
 ghost use Rattle.tree_activation.specs.Statements.{is_closed};
 ghost use Rattle.code_of.specs.Parts.{close_code, marks_code};
-ghost use Rattle.code_expr.specs.Listing.{listed};
+ghost use Rattle.code_emitter.specs.Listing.{listed};
 
 use code_core::Opcode;
-use code_expr::{Emitter, next};
+use code_emitter::{Emitter, next};
 use std::alloc::AllocError;
 use tree_core::{Attrib, Declared};
 

@@ -3,9 +3,10 @@ ghost use Rattle.std.specs.Prelude.{◌≡◌, ◌+◌, OnOk};
 ghost use Rattle.tree_core.specs.Plain.{plain_exp};
 ghost use Rattle.code_of.specs.Expressions.{made_by};
 ghost use Rattle.code_of.specs.Parts.{pair_code};
-ghost use Rattle.code_expr.specs.Listing.{followed};
+ghost use Rattle.code_emitter.specs.Listing.{followed};
 
-use code_expr::{Emitter, next};
+use code_emitter::{Emitter, next};
+use code_expr::expression;
 use std::alloc::AllocError;
 use tree_core::Exp;
 
@@ -18,7 +19,7 @@ pub(crate) fn write_pair(
 ) -> Result<(), AllocError>
     ensures { OnOk result (emitter.new ≡ followed emitter.old (pair_code emitter.old.constants (plain_exp first.now) (plain_exp second.now) register emitter.old.made) (made_by (plain_exp first.now) + made_by (plain_exp second.now))) }
 {
-    emitter.expression(first, register, 2)?;
-    emitter.expression(second, next(register)?, 2)?;
+    expression(emitter, first, register, 2)?;
+    expression(emitter, second, next(register)?, 2)?;
     Ok(())
 }

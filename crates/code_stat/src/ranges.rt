@@ -3,11 +3,12 @@ ghost use Rattle.std.specs.Prelude.{◌≡◌, ◌+◌, OnOk};
 ghost use Rattle.tree_core.specs.Plain.{plain_exp};
 ghost use Rattle.code_of.specs.Expressions.{made_by};
 ghost use Rattle.code_of.specs.Parts.{bounds_code, steps_code};
-ghost use Rattle.code_expr.specs.Listing.{followed};
+ghost use Rattle.code_emitter.specs.Listing.{followed};
 
 use crate::pair::write_pair;
 use code_core::Opcode;
-use code_expr::{Emitter, next};
+use code_emitter::{Emitter, next};
+use code_expr::expression;
 use std::alloc::AllocError;
 use tree_core::Exp;
 
@@ -39,6 +40,6 @@ pub fn write_steps(
 {
     let above = next(next(register)?)?;
     write_pair(emitter, from, limit, register)?;
-    emitter.expression(step, above, 2)?;
+    expression(emitter, step, above, 2)?;
     Ok(())
 }

@@ -6,11 +6,12 @@ ghost use Rattle.code_of.specs.Coded.{leaving_by, leaving_local};
 ghost use Rattle.code_of.specs.Expressions.{made_by, made_in};
 ghost use Rattle.code_of.specs.Parts.{call_last, method_last, return_code, listed_last, values_last};
 ghost use Rattle.code_stat.specs.Tails.{is_called, tail_code};
-ghost use Rattle.code_expr.specs.Listing.{listed, followed};
+ghost use Rattle.code_emitter.specs.Listing.{listed, followed};
 
 use crate::targets::count_made;
 use code_core::Opcode;
-use code_expr::{Emitter, list_field, lone_local, next};
+use code_emitter::{Emitter, next};
+use code_expr::{expression, list, list_field, lone_local, operand};
 use std::alloc::AllocError;
 use tree_core::{Exp, ExpNode, Name};
 
@@ -53,8 +54,8 @@ fn write_call_last(
 ) -> Result<(), AllocError>
     ensures { OnOk result (emitter.new ≡ followed emitter.old (call_last emitter.old.constants (plain_exp called.now) (exps (plain_exps arguments.now.items)) register emitter.old.made line back) (made_by (Call line (plain_exp called.now) (exps (plain_exps arguments.now.items))))) }
 {
-    emitter.expression(called, register, 2)?;
-    emitter.list(arguments, None, next(register)?, line)?;
+    expression(emitter, called, register, 2)?;
+    list(emitter, arguments, None, next(register)?, line)?;
     let field = list_field(0, arguments);
     put_leaving(emitter, Opcode::TailCall, register, field, back, line)?;
     put_leaving(emitter, Opcode::Return, register, 0, back, line)?;
@@ -74,9 +75,9 @@ fn write_method_last(
     ensures { OnOk result (emitter.new ≡ followed emitter.old (method_last emitter.old.constants (plain_exp object.now) name.now.text (exps (plain_exps arguments.now.items)) register emitter.old.made line back) (made_by (Method line (plain_exp object.now) name.now (exps (plain_exps arguments.now.items))))) }
 {
     let above = next(register)?;
-    let standing = emitter.operand(object, register)?;
+    let standing = operand(emitter, object, register)?;
     emitter.look_up_method(&name.text, standing, register, line)?;
-    emitter.list(arguments, None, next(above)?, line)?;
+    list(emitter, arguments, None, next(above)?, line)?;
     let field = list_field(1, arguments);
     put_leaving(emitter, Opcode::TailCall, register, field, back, line)?;
     put_leaving(emitter, Opcode::Return, register, 0, back, line)?;
@@ -120,7 +121,7 @@ fn write_listed_last(
 ) -> Result<(), AllocError>
     ensures { OnOk result (emitter.new ≡ followed emitter.old (listed_last emitter.old.constants (exps (plain_exps values.now.items)) register emitter.old.made line back) (made_in (exps (plain_exps values.now.items)))) }
 {
-    emitter.list(values, None, register, line)?;
+    list(emitter, values, None, register, line)?;
     let field = list_field(0, values);
     put_leaving(emitter, Opcode::Return, register, field, back, line)?;
     Ok(())

@@ -9,7 +9,7 @@ ghost use Rattle.code_stat.specs.Forms.{is_void};
 
 use crate::marks::is_closed;
 use crate::stores::behind;
-use code_expr::next;
+use code_emitter::next;
 use std::alloc::AllocError;
 use tree_core::{Declared, Stat, StatNode};
 

@@ -6,13 +6,14 @@ ghost use Rattle.code_of.specs.Expressions.{exp_code, made_by, made_in};
 ghost use Rattle.code_of.specs.Operands.{second_assigned};
 ghost use Rattle.code_of.specs.Parts.{assign_code, captures_local, closure_code, function_code, store_by, stored_code, two_by, two_code};
 ghost use Rattle.code_of.specs.Stores.{stores_field};
-ghost use Rattle.code_expr.specs.Listing.{followed};
-ghost use Rattle.code_expr.specs.Operands.{made_directly};
+ghost use Rattle.code_emitter.specs.Listing.{followed};
+ghost use Rattle.code_emitter.specs.Operands.{made_directly};
 
 use crate::stores::{behind, write_store, write_stores};
 use crate::targets::{write_target, write_targets};
 use code_core::Opcode;
-use code_expr::{Emitter, direct_local, is_field};
+use code_emitter::Emitter;
+use code_expr::{direct, direct_local, expression, is_field, list, local_store, store};
 use std::alloc::AllocError;
 use tree_core::{Body, Exp, UpName};
 
@@ -62,7 +63,7 @@ pub fn write_local_function(
 pub fn write_call(emitter: &mut Emitter, call: &Exp, register: usize) -> Result<(), AllocError>
     ensures { OnOk result (emitter.new ≡ followed emitter.old (exp_code emitter.old.constants (plain_exp call.now) register emitter.old.made 1) (made_by (plain_exp call.now))) }
 {
-    emitter.expression(call, register, 1)
+    expression(emitter, call, register, 1)
 }
 
 /// Writes an assignment that evaluates all values before it stores them.
@@ -78,7 +79,7 @@ fn write_stored(
     let count = targets.len();
     let value = behind(behind(register, count)?, count)?;
     write_targets(emitter, targets, register)?;
-    emitter.list(values, Some(count), value, line)?;
+    list(emitter, values, Some(count), value, line)?;
     write_stores(emitter, targets, register, value)?;
     Ok(())
 }
@@ -102,9 +103,9 @@ fn write_single(
     let target = &targets[0];
     let value = &values[0];
     if is_field(target) {
-        return emitter.store(target, value, register);
+        return store(emitter, target, value, register);
     }
-    match emitter.local_store(target, value) {
+    match local_store(emitter, target, value) {
         Some(step) => emitter.put_step(step),
         None => write_stored(emitter, targets, values, register, line),
     }
@@ -124,8 +125,8 @@ fn write_second(
     let value = behind(register, 2)?;
     let free = behind(register, 3)?;
     write_target(emitter, target, register)?;
-    emitter.expression(first, value, 2)?;
-    emitter.direct(second, local, free)?;
+    expression(emitter, first, value, 2)?;
+    direct(emitter, second, local, free)?;
     write_store(emitter, target, register, value)?;
     Ok(())
 }
@@ -175,7 +176,7 @@ pub fn write_assign(
     let target = &targets[0];
     let value = &values[0];
     match direct_local(target, value) {
-        Some(local) => emitter.direct(value, local, register),
+        Some(local) => direct(emitter, value, local, register),
         None => write_several(emitter, targets, values, register, line),
     }
 }

@@ -18,7 +18,8 @@ use crate::scope::{Scope, closed_below, scope_after, void_from};
 use crate::stores::behind;
 use crate::writer::Writer;
 use code_core::Opcode;
-use code_expr::next;
+use code_emitter::next;
+use code_expr::{condition, list};
 use std::alloc::AllocError;
 use tree_core::{Arm, Block, Exp, Name, Stat, StatNode};
 
@@ -47,7 +48,7 @@ impl Writer {
                 Ok(())
             }
             StatNode::GenFor(names, values, block) => {
-                self.emitter.list(values, Some(4), level, line)?;
+                list(&mut self.emitter, values, Some(4), level, line)?;
                 self.iterated(names, block, level, line)?;
                 Ok(())
             }
@@ -191,7 +192,7 @@ impl Writer {
     {
         let start = self.place();
         let first = self.jumps.len();
-        let away = self.emitter.condition(test, true, level)?;
+        let away = condition(&mut self.emitter, test, true, level)?;
         self.block(block, closing, level, level)?;
         self.emitter.put_jump_back(start, line)?;
         let end = self.place();
@@ -218,7 +219,7 @@ impl Writer {
         let declared = self.variables.count();
         let before = self.emitter.made();
         let inner = self.open_block(block, closing, level)?;
-        let away = self.emitter.condition(test, false, inner)?;
+        let away = condition(&mut self.emitter, test, false, inner)?;
         let behind = self.emitter.made();
         let top = closed_below(&block.stats, behind > before, level, inner);
         write_close(&mut self.emitter, level, top, block.line)?;
@@ -326,7 +327,7 @@ impl Writer {
             return Ok(());
         }
         let arm = &list[at];
-        let away = self.emitter.condition(&arm.test, true, level)?;
+        let away = condition(&mut self.emitter, &arm.test, true, level)?;
         self.block(&arm.block, closing, level, level)?;
         let past = self.emitter.put_open_jump(line)?;
         let first = self.jumps.len();

@@ -3,10 +3,11 @@ ghost use Rattle.std.specs.Prelude.{◌≡◌, ◌+◌, OnOk, IfOk};
 ghost use Rattle.tree_core.specs.Tree.{exps};
 ghost use Rattle.tree_core.specs.Plain.{plain_exp, plain_exps};
 ghost use Rattle.code_of.specs.Parts.{name_store, store_code, stores_code};
-ghost use Rattle.code_expr.specs.Listing.{listed};
+ghost use Rattle.code_emitter.specs.Listing.{listed};
 
 use code_core::Opcode;
-use code_expr::Emitter;
+use code_emitter::Emitter;
+use code_expr::{store_name, store_waiting};
 use std::alloc::AllocError;
 use tree_core::{Exp, ExpNode, Name, Place};
 
@@ -32,7 +33,7 @@ fn write_name_store(
         Place::Local(to) => emitter.put_abc(Opcode::Move, usize::from(to), value, 0, line),
         Place::Upvalue(to) => emitter.put_abc(Opcode::SetUpval, value, usize::from(to), 0, line),
         Place::GlobalIn(_) | Place::GlobalOf(_) => {
-            emitter.store_name(&name.text, register, value, line)
+            store_name(emitter, &name.text, register, value, line)
         }
     }
 }
@@ -48,7 +49,7 @@ pub(crate) fn write_store(
 {
     match &target.node {
         ExpNode::Var(name) => write_name_store(emitter, name, register, value, target.line),
-        ExpNode::Index(_, key) => emitter.store_waiting(key, register, value, target.line),
+        ExpNode::Index(_, key) => store_waiting(emitter, key, register, value, target.line),
         _ => Ok(()),
     }
 }

@@ -4,10 +4,11 @@ ghost use Rattle.tree_core.specs.Tree.{exps};
 ghost use Rattle.tree_core.specs.Plain.{plain_exp, plain_exps};
 ghost use Rattle.code_of.specs.Expressions.{made_by, made_in};
 ghost use Rattle.code_of.specs.Parts.{name_target, target_code, targets_code};
-ghost use Rattle.code_expr.specs.Listing.{followed, listed};
+ghost use Rattle.code_emitter.specs.Listing.{followed, listed};
 
 use code_core::Opcode;
-use code_expr::{Emitter, next};
+use code_emitter::{Emitter, next};
+use code_expr::{aim_field, aim_name, expression};
 use std::alloc::AllocError;
 use tree_core::{Exp, ExpNode, Name, Place};
 
@@ -24,12 +25,12 @@ fn write_name_target(
     match name.place {
         Place::GlobalIn(from) => {
             emitter.put_abc(Opcode::Move, register, usize::from(from), 0, line)?;
-            emitter.aim_name(&name.text, key, line)?;
+            aim_name(emitter, &name.text, key, line)?;
             Ok(())
         }
         Place::GlobalOf(from) => {
             emitter.put_abc(Opcode::GetUpval, register, usize::from(from), 0, line)?;
-            emitter.aim_name(&name.text, key, line)?;
+            aim_name(emitter, &name.text, key, line)?;
             Ok(())
         }
         Place::Unset | Place::Local(_) | Place::Upvalue(_) => Ok(()),
@@ -41,7 +42,7 @@ pub(crate) fn count_made(emitter: &mut Emitter, exp: &Exp) -> Result<(), AllocEr
     ensures { OnOk result (emitter.new ≡ followed emitter.old [] (made_by (plain_exp exp.now))) }
 {
     let place = emitter.steps().len();
-    emitter.expression(exp, 0, 2)?;
+    expression(emitter, exp, 0, 2)?;
     emitter.cut(place);
     Ok(())
 }
@@ -57,7 +58,7 @@ pub(crate) fn write_target(
 {
     match &target.node {
         ExpNode::Var(name) => write_name_target(emitter, name, register, target.line),
-        ExpNode::Index(object, key) => emitter.aim_field(object, key, register),
+        ExpNode::Index(object, key) => aim_field(emitter, object, key, register),
         _ => count_made(emitter, target),
     }
 }

@@ -2,7 +2,7 @@
 ghost use Rattle.std.specs.Prelude.{◌≡◌, true, false, OnOk, IfOk, length, map};
 ghost use Rattle.tree_core.specs.Plain.{plain_block, plain_body};
 ghost use Rattle.code_of.specs.Levels.{made_in_block};
-ghost use Rattle.code_expr.specs.Listing.{steps};
+ghost use Rattle.code_emitter.specs.Listing.{steps};
 ghost use Rattle.code_parts.specs.Scopes.{over};
 ghost use Rattle.code_stat.specs.Declares.{DeclaresWhole};
 ghost use Rattle.code_stat.specs.Drafts.{Wrote, arrives, landing, or_nowhere, put_jump};
@@ -11,8 +11,9 @@ ghost use Rattle.code_stat.specs.Whole.{filled, function_of, led, made_in_body, 
 use crate::jumps::{Destination, Jump};
 use crate::returns::put_leaving;
 use crate::writer::Writer;
+use code_constants::Constants;
 use code_core::Opcode;
-use code_expr::{Constants, Emitter, next};
+use code_emitter::{Emitter, next};
 use code_of::Leaving;
 use code_parts::{Variables, back_field, makes_functions, put_opening};
 use std::alloc::{AllocError, Global};

@@ -3,13 +3,13 @@ ghost use Rattle.std.specs.Prelude.{◌≡◌, ◌||◌, ℕ, true, List, take, 
 ghost use Rattle.tree_core.specs.Tree.{Break};
 ghost use Rattle.code_of.specs.Jumps.{Reach, leads};
 ghost use Rattle.code_of.specs.Statements.{in_loop};
-ghost use Rattle.code_expr.specs.declared.emitter.Step.{Step};
-ghost use Rattle.code_expr.specs.Listing.{listed};
+ghost use Rattle.code_emitter.specs.declared.emitter.Step.{Step};
+ghost use Rattle.code_emitter.specs.Listing.{listed};
 ghost use Rattle.code_stat.specs.Drafts.{Wrote, WroteStat, beyond, arrives, drafted, fill};
 
 use crate::jumps::{Destination, Jump, leave_all};
 use code_core::Opcode;
-use code_expr::Emitter;
+use code_emitter::Emitter;
 use code_of::Leaving;
 use code_parts::Variables;
 use int_core::Bytes;

@@ -7,7 +7,7 @@ use Rattle.code_core.specs.Check.{IsChecked}
 use Rattle.code_core.specs.Prototype.{Parts, Prototype, Prototypes, none, more}
 use Rattle.code_core.specs.Writable.{all_fit, parts_fit, lists_fit, number_fits, byte_fits, word_fits, keeps_source, name_fits, is_writable}
 use Rattle.code_core.proofs.CheckedLemmas.{rest_of, first_of_two, described_is_writable}
-use Rattle.code_expr.specs.Listing.{low}
+use Rattle.code_emitter.specs.Listing.{low}
 use Rattle.code_parts.specs.Assembled.{low_parts, low_prototype, low_prototypes}
 use Rattle.code_parts.proofs.Whole.{low_same}
 

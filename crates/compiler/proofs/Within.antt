@@ -11,8 +11,8 @@ use Rattle.code_core.specs.declared.proto.LocVar.{LocVar}
 use Rattle.code_core.specs.Prototype.{Parts, Prototype, Prototypes, none, more, prototypes, count}
 use Rattle.code_of.specs.Constants.{of_block}
 use Rattle.code_of.specs.CodeOf.{body_code, code_of, from_block, from_body, variables_of, where_known}
-use Rattle.code_expr.specs.declared.emitter.Step.{Step}
-use Rattle.code_expr.specs.Listing.{steps}
+use Rattle.code_emitter.specs.declared.emitter.Step.{Step}
+use Rattle.code_emitter.specs.Listing.{steps}
 use Rattle.code_parts.specs.Assembled.{assembled, low_parts, low_prototype, low_prototypes}
 use Rattle.code_parts.specs.Bodies.{block_bodies}
 use Rattle.code_parts.proofs.Whole.{assembled_whole, block_of}

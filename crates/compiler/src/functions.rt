@@ -7,7 +7,7 @@ ghost use Rattle.code_parts.specs.Assembled.{low_prototype, low_prototypes};
 ghost use Rattle.code_parts.specs.Scopes.{finished};
 
 use code_core::{LocVar, Proto};
-use code_expr::Emitted;
+use code_emitter::Emitted;
 use code_parts::{Variables, block_constants, inner_bodies, prototype};
 use code_stat::{Written, write_body};
 use int_core::Bytes;

@@ -1,7 +1,8 @@
 use Rattle.std.proofs.Common.{rules, ◌≡◌, length, sym, ap, ◌∙◌}
 use Rattle.std.specs.Prelude.{slice_index_or}
 use Rattle.code_of.specs.Operands.{lone_local}
-use Rattle.code_expr.proofs.Rows.{single, none_lone}
+use Rattle.code_constants.proofs.Rows.{single}
+use Rattle.code_expr.proofs.Rows.{none_lone}
 use Rattle.code_expr.proofs.lists.lone_local.Goals as goal
 
 pub returns-then-len-ne1 : goal.returns-then-len-ne1

@@ -2,7 +2,7 @@
 use Rattle.std.proofs.Common.{◌≡◌, ◌≤◌, ◌-◌, List, length, take, drop}
 use Rattle.code_of.specs.Jumps.{Reach}
 use Rattle.code_of.specs.Statements.{in_loop}
-use Rattle.code_expr.specs.declared.emitter.Step.{Step}
+use Rattle.code_emitter.specs.declared.emitter.Step.{Step}
 use Rattle.code_stat.specs.Drafts.{arrives, fill}
 use Rattle.code_stat.proofs.jumps.leave_all.Given as goal
 

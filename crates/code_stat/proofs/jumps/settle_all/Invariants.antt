@@ -1,7 +1,7 @@
 -- The jumps up to a place are led anew, and the others are not.
 use Rattle.std.proofs.Common.{◌≡◌, ◌≤◌, ◌-◌, List, [], length, take, drop}
 use Rattle.code_of.specs.Jumps.{Visible, Reach}
-use Rattle.code_expr.specs.declared.emitter.Step.{Step}
+use Rattle.code_emitter.specs.declared.emitter.Step.{Step}
 use Rattle.code_stat.specs.Drafts.{newest_first, leads_to, arrives, within, fill}
 use Rattle.code_stat.proofs.jumps.settle_all.Given as goal
 

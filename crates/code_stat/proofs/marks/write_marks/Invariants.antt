@@ -1,7 +1,7 @@
 -- The marks so far and those of what is left are those of all.
 use Rattle.std.proofs.Common.{◌≡◌, drop}
 use Rattle.code_of.specs.Parts.{marks_code}
-use Rattle.code_expr.specs.Listing.{listed}
+use Rattle.code_emitter.specs.Listing.{listed}
 use Rattle.code_stat.proofs.marks.write_marks.Given as goal
 
 abbrev pub invariant-loop-declared : goal.invariant-loop-declared

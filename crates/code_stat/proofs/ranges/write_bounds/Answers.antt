@@ -2,8 +2,8 @@ use Rattle.std.proofs.Common.{arith, ◌≡◌, ◌+◌}
 use Rattle.tree_core.specs.Plain.{plain_exp}
 use Rattle.code_of.specs.Expressions.{made_by}
 use Rattle.code_of.specs.Parts.{pair_code, default_step}
-use Rattle.code_expr.specs.Listing.{listed}
-use Rattle.code_expr.proofs.Joining.{then_listed}
+use Rattle.code_emitter.specs.Listing.{listed}
+use Rattle.code_emitter.proofs.Joining.{then_listed}
 use Rattle.code_stat.proofs.ranges.write_bounds.Goals as goal
 
 pub returns : goal.returns

@@ -4,7 +4,7 @@ use Rattle.std.proofs.lemmas.Result.{on_ok_weaker}
 use Rattle.tree_core.specs.Tree as tree
 use Rattle.tree_core.specs.Plain.{plain_exp, plain_exps}
 use Rattle.code_stat.specs.Tails.{is_called}
-use Rattle.code_expr.proofs.Rows.{single}
+use Rattle.code_constants.proofs.Rows.{single}
 use Rattle.code_stat.proofs.Returning.{closing_follows, several_follow, tail_follows, other_follows}
 use Rattle.code_stat.proofs.returns.write_return.Goals as goal
 

@@ -2,7 +2,7 @@ use Rattle.std.proofs.Common.{rules, ◌≡◌, length, sym, ◌∙◌}
 use Rattle.std.proofs.lemmas.Result.{on_ok_weaker}
 use Rattle.tree_core.specs.Tree as tree
 use Rattle.tree_core.specs.Plain.{plain_exp, plain_exps}
-use Rattle.code_expr.proofs.Rows.{single}
+use Rattle.code_constants.proofs.Rows.{single}
 use Rattle.code_stat.proofs.Assigning.{one_target, one_value, none_by, direct_follows, stored_follows}
 use Rattle.code_stat.proofs.simple.write_assign.Goals as goal
 
@@ -27,7 +27,7 @@ returns-in-Some c =
     let targets = single c.args.targets.now.items c.index-target.result.now (search rules) (search rules) in
     let values = single c.args.values.now.items c.index-value.result.now (search rules) (search rules) in
     on_ok_weaker c.direct.result
-    (direct_follows c.args.emitter.now c.direct.new.self (tree.exps (plain_exps c.args.targets.now.items)) (tree.exps (plain_exps c.args.values.now.items)) (plain_exp c.index-target.result.now) (plain_exp c.index-value.result.now) c.in-Some.local c.args.register c.args.line
+    (direct_follows c.args.emitter.now c.direct.new.emitter (tree.exps (plain_exps c.args.targets.now.items)) (tree.exps (plain_exps c.args.values.now.items)) (plain_exp c.index-target.result.now) (plain_exp c.index-value.result.now) c.in-Some.local c.args.register c.args.line
     targets values (sym c.direct_local.ensures ∙ c.in-Some.is)) c.direct.ensures
 
 pub returns-in-None : goal.returns-in-None

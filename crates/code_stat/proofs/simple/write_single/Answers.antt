@@ -2,7 +2,7 @@ use Rattle.std.proofs.Common.{rules, ◌≡◌, length, sym, ◌∙◌}
 use Rattle.std.proofs.lemmas.Result.{on_ok_weaker}
 use Rattle.tree_core.specs.Tree as tree
 use Rattle.tree_core.specs.Plain.{plain_exp, plain_exps}
-use Rattle.code_expr.proofs.Rows.{single}
+use Rattle.code_constants.proofs.Rows.{single}
 use Rattle.code_stat.proofs.Assigning.{one_field, one_stored, one_name, one_local, no_store_by, kept_by, kept_follows, local_follows, field_follows}
 use Rattle.code_stat.proofs.simple.write_single.Goals as goal
 
@@ -27,7 +27,7 @@ returns-then-is_field c =
     let targets = single c.args.targets.now.items c.index-target.result.now (search rules) (search rules) in
     let values = single c.args.values.now.items c.index-value.result.now (search rules) (search rules) in
     on_ok_weaker c.store.result
-    (field_follows c.args.emitter.now c.store.new.self (tree.exps (plain_exps c.args.targets.now.items)) (tree.exps (plain_exps c.args.values.now.items)) (plain_exp c.index-target.result.now) (plain_exp c.index-value.result.now) c.args.register c.args.line
+    (field_follows c.args.emitter.now c.store.new.emitter (tree.exps (plain_exps c.args.targets.now.items)) (tree.exps (plain_exps c.args.values.now.items)) (plain_exp c.index-target.result.now) (plain_exp c.index-value.result.now) c.args.register c.args.line
     targets values (sym c.is_field.ensures ∙ c.if-is_field.true)) c.store.ensures
 
 pub returns-in-Some : goal.returns-in-Some

@@ -3,7 +3,7 @@ use Rattle.std.specs.Prelude.{slice_index_or}
 use Rattle.tree_core.specs.Tree.{exps}
 use Rattle.tree_core.specs.Plain.{plain_exps}
 use Rattle.code_of.specs.Parts.{stores_code}
-use Rattle.code_expr.specs.Listing.{listed}
+use Rattle.code_emitter.specs.Listing.{listed}
 use Rattle.code_stat.proofs.Going.{next_store, no_store}
 use Rattle.code_stat.proofs.stores.write_stores.Goals as goal
 

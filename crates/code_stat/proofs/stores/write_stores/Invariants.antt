@@ -3,7 +3,7 @@ use Rattle.std.proofs.Common.{◌≡◌, ◌≤◌, ◌+◌, drop, length}
 use Rattle.tree_core.specs.Tree.{exps}
 use Rattle.tree_core.specs.Plain.{plain_exps}
 use Rattle.code_of.specs.Parts.{stores_code}
-use Rattle.code_expr.specs.Listing.{listed}
+use Rattle.code_emitter.specs.Listing.{listed}
 use Rattle.code_stat.proofs.stores.write_stores.Given as goal
 
 abbrev pub invariant-loop-left : goal.invariant-loop-left

@@ -1,6 +1,6 @@
 use Rattle.std.proofs.Common.{◌≡◌, true, false, sym, ap, ◌∙◌}
 use Rattle.std.proofs.lemmas.Result.{on_ok_weaker}
-use Rattle.code_expr.specs.Listing.{listed}
+use Rattle.code_emitter.specs.Listing.{listed}
 use Rattle.code_stat.specs.Drafts.{drafted}
 use Rattle.code_stat.proofs.writer.put_jump.Goals as goal
 

@@ -4,7 +4,7 @@ use Rattle.tree_core.specs.Plain.{plain_block, plain_body}
 use Rattle.code_core.specs.Prototype.{none, count}
 use Rattle.code_of.specs.Constants.{of_block}
 use Rattle.code_of.specs.CodeOf.{from_block, from_body, body_code, where_known}
-use Rattle.code_expr.specs.Listing.{steps}
+use Rattle.code_emitter.specs.Listing.{steps}
 use Rattle.code_parts.proofs.Whole.{block_of}
 use Rattle.code_parts.specs.Assembled.{low_prototypes}
 use Rattle.code_parts.specs.Scopes.{over}

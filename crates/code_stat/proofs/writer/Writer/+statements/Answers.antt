@@ -10,9 +10,9 @@ use Rattle.code_core.specs.declared.opcode.Opcode.TheVariants.{ForPrep, TForPrep
 use Rattle.code_of.specs.Coded.{with_abc, with_abx}
 use Rattle.code_of.specs.Sizes.{block_size}
 use Rattle.code_parts.specs.Scopes.{begun, ended_from}
-use Rattle.code_expr.specs.Leading.{led_on}
-use Rattle.code_expr.specs.Listing.{listed}
-use Rattle.code_expr.specs.Patches.{replaced}
+use Rattle.code_emitter.specs.Leading.{led_on}
+use Rattle.code_emitter.specs.Listing.{listed}
+use Rattle.code_emitter.specs.Patches.{replaced}
 use Rattle.code_stat.specs.declared.writer.Writer.{Writer}
 use Rattle.code_stat.specs.Forms.{choice, level_at}
 use Rattle.code_stat.proofs.Plain.{ends_at, marks_at, chosen_of, arms_front}
@@ -87,7 +87,7 @@ statement-returns-in_ok-iterated-in-GenFor-clause-code t c =
     let is : plain_stat c.args.stat.now ≡ tree.GenFor line c.in-GenFor.names.items es (plain_block c.deref-in-GenFor.result.now) =
     ap (λ n. plain_stat_node n line) c.in-GenFor.is ∙ plain-gen_for line c.in-GenFor.names c.in-GenFor.values c.in-GenFor.block ∙ ap (λ b. tree.GenFor line c.in-GenFor.names.items es (plain_block b)) (sym c.deref-in-GenFor.ensures) in
     subst (λ s. WroteStat c.args.self.now c.iterated.new.self s c.args.closing c.args.level) (sym is)
-    (gen_for_wrote c.args.self.now (record c.args.self.now { emitter = c.list.new.self }) c.iterated.new.self c.list.new.self c.in-GenFor.names.items es (plain_block c.deref-in-GenFor.result.now) c.args.closing (length c.in-GenFor.names.items) c.args.level line refl
+    (gen_for_wrote c.args.self.now (record c.args.self.now { emitter = c.list.new.emitter }) c.iterated.new.self c.list.new.emitter c.in-GenFor.names.items es (plain_block c.deref-in-GenFor.result.now) c.args.closing (length c.in-GenFor.names.items) c.args.level line refl
     c.in_ok-list-in-GenFor.ensures refl refl refl c.in_ok-iterated-in-GenFor.ensures.code)
 
 -- the statements of a block
@@ -132,7 +132,7 @@ statements-returns-clause-code t c =
 pub while_loop-returns-clause-code : goal.while_loop-returns-clause-code
 while_loop-returns-clause-code t c =
     let first : c.len-first.result ≡ length c.args.self.now.jumps.items = search rules in
-    while_wrote c.args.self.now (record c.args.self.now { emitter = c.condition.new.self }) c.block.new.self c.end_loop.new.self
+    while_wrote c.args.self.now (record c.args.self.now { emitter = c.condition.new.emitter }) c.block.new.self c.end_loop.new.self
     c.put_jump_back.new.self c.lead.new.self (plain_exp c.args.test.now) (plain_block c.args.block.now) c.args.closing c.args.level c.args.line c.place-start.result c.place-end.result c.len-first.result c.in_ok-away.away.items
     c.place-start.ensures first c.in_ok-away.ensures refl refl c.in_ok-block.ensures.code c.in_ok-put_jump_back.ensures c.place-end.ensures c.in_ok-lead.ensures
     (record { emitter_is = c.end_loop.ensures.emitter; back_is = c.end_loop.ensures.back; front = c.end_loop.ensures.front; leads = c.end_loop.ensures.leads })
@@ -152,7 +152,7 @@ repeat_loop-returns-clause-code t c =
     until_top block e c.args.level c.in_ok-inner.inner top c.args.self.now.emitter.made c.made-before.result c.made-behind.result _ c.in_ok-inner.ensures.level (marks_at c.args.block.now) c.made-before.ensures behind c.closed_below-top.ensures in
     repeat_wrote c.args.self.now c.open_block.new.self (record c.end_loop.new.self { variables = c.end_scopes.new.self }) c.write_close-2.new.emitter e block c.args.closing c.args.level c.args.line end_line c.in_ok-inner.inner
     top c.place-start.result c.len-first.result c.place-start.ensures first c.in_ok-inner.ensures.code c.in_ok-inner.ensures.level line_is closes
-    (until_wrote q c.condition.new.self c.write_close.new.emitter c.put_jump_back.new.self c.lead.new.self c.write_close-2.new.emitter (λ ahead. test_code q.constants e false ahead c.in_ok-inner.inner q.made) (close_code c.args.level top end_line) (made_by e)
+    (until_wrote q c.condition.new.emitter c.write_close.new.emitter c.put_jump_back.new.self c.lead.new.self c.write_close-2.new.emitter (λ ahead. test_code q.constants e false ahead c.in_ok-inner.inner q.made) (close_code c.args.level top end_line) (made_by e)
     c.place-start.result c.place-exit.result c.args.line c.in_ok-away.away.items c.in_ok-away.ensures c.in_ok-write_close.ensures c.in_ok-put_jump_back.ensures c.place-exit.ensures c.in_ok-lead.ensures c.in_ok-write_close-2.ensures)
     (record { emitter_is = c.end_loop.ensures.emitter; back_is = c.end_loop.ensures.back; front = c.end_loop.ensures.front; leads = c.end_loop.ensures.leads })
 
@@ -237,7 +237,7 @@ arms-returns-then-end-place-clause-code t c =
     let more : length c.put_open_jump.new.self.steps < length c.arms.new.self.emitter.steps = search rules in
     let led : c.lead.new.self ≡ led_on c.land.new.self c.in_ok-away.away.items c.place-place.result = search rules in
     subst (λ l. WroteStat c.args.self.now after (choice c.args.line l o) c.args.closing c.args.level) (sym (arms_front c.args.list.now.items c.args.at arm inside is))
-    (full_wrote c.args.self.now (record c.args.self.now { emitter = c.condition.new.self }) c.block.new.self (record c.block.new.self { emitter = c.put_open_jump.new.self }) c.arms.new.self after
+    (full_wrote c.args.self.now (record c.args.self.now { emitter = c.condition.new.emitter }) c.block.new.self (record c.block.new.self { emitter = c.put_open_jump.new.self }) c.arms.new.self after
     c.land.new.self (plain_exp (out-Arm arm).test) (plain_block (out-Arm arm).block) others o c.args.closing c.args.level c.args.line c.in_ok-past.past c.place-place.result
     (length c.arms.new.self.emitter.steps - length c.put_open_jump.new.self.steps - 1) c.in_ok-away.away.items
     c.in_ok-away.ensures refl refl c.in_ok-block.ensures.code c.in_ok-past.ensures.jump c.in_ok-past.ensures.place refl refl c.place-place.ensures c.in_ok-arms.ensures.code
@@ -258,7 +258,7 @@ arms-returns-clause-code t c =
     let led : c.lead-2.new.self ≡ led_on c.cut.new.self c.in_ok-away.away.items c.in_ok-past.past = search rules in
     let grown : length c.arms.new.self.emitter.steps ≡ length c.put_open_jump.new.self.steps + length c.in_ok-arms.ensures.code.draft = written_sized c.put_open_jump.new.self c.arms.new.self.emitter c.in_ok-arms.ensures.code.draft _ c.in_ok-arms.ensures.code.emitter_is in
     subst (λ l. WroteStat c.args.self.now after (choice c.args.line l o) c.args.closing c.args.level) (sym (arms_front c.args.list.now.items c.args.at arm inside is))
-    (empty_wrote c.args.self.now (record c.args.self.now { emitter = c.condition.new.self }) c.block.new.self before c.arms.new.self after
+    (empty_wrote c.args.self.now (record c.args.self.now { emitter = c.condition.new.emitter }) c.block.new.self before c.arms.new.self after
     c.cut.new.self (plain_exp (out-Arm arm).test) (plain_block (out-Arm arm).block) others o c.args.closing c.args.level c.args.line c.in_ok-past.past c.len-first.result c.in_ok-away.away.items
     c.in_ok-away.ensures refl refl c.in_ok-block.ensures.code c.in_ok-past.ensures.jump c.in_ok-past.ensures.place refl refl first c.in_ok-arms.ensures.code
     (omega (arith, most, grown)) c.cut.ensures led kept refl)
@@ -335,7 +335,7 @@ statement-returns-in_ok-iterated-in-GenFor-clause-variables t c =
     let is : plain_stat c.args.stat.now ≡ tree.GenFor line c.in-GenFor.names.items es (plain_block c.deref-in-GenFor.result.now) =
     ap (λ n. plain_stat_node n line) c.in-GenFor.is ∙ plain-gen_for line c.in-GenFor.names c.in-GenFor.values c.in-GenFor.block ∙ ap (λ b. tree.GenFor line c.in-GenFor.names.items es (plain_block b)) (sym c.deref-in-GenFor.ensures) in
     subst (λ s. DeclaresStat c.args.self.now c.iterated.new.self s c.args.closing c.args.level) (sym is)
-    (gen_for_declares c.args.self.now (record c.args.self.now { emitter = c.list.new.self }) c.iterated.new.self c.list.new.self c.in-GenFor.names.items es (plain_block c.deref-in-GenFor.result.now) c.args.closing c.args.level line
+    (gen_for_declares c.args.self.now (record c.args.self.now { emitter = c.list.new.emitter }) c.iterated.new.self c.list.new.emitter c.in-GenFor.names.items es (plain_block c.deref-in-GenFor.result.now) c.args.closing c.args.level line
     c.in_ok-list-in-GenFor.ensures refl refl refl c.in_ok-iterated-in-GenFor.ensures.variables)
 
 -- those of the statements of a block
@@ -349,7 +349,7 @@ statements-returns-clause-variables t c =
 
 pub while_loop-returns-clause-variables : goal.while_loop-returns-clause-variables
 while_loop-returns-clause-variables t c =
-    while_declares c.args.self.now (record c.args.self.now { emitter = c.condition.new.self }) c.block.new.self c.end_loop.new.self (plain_exp c.args.test.now) (plain_block c.args.block.now) c.args.closing c.args.level c.args.line
+    while_declares c.args.self.now (record c.args.self.now { emitter = c.condition.new.emitter }) c.block.new.self c.end_loop.new.self (plain_exp c.args.test.now) (plain_block c.args.block.now) c.args.closing c.args.level c.args.line
     c.in_ok-away.away.items c.in_ok-away.ensures refl refl c.in_ok-block.ensures.variables c.end_loop.ensures.variables
 
 pub repeat_loop-returns-clause-variables : goal.repeat_loop-returns-clause-variables
@@ -449,7 +449,7 @@ arms-returns-then-end-place-clause-variables t c =
     let inside : c.args.at < length c.args.list.now.items = search rules in
     let is : arm ≡ slice_index_or c.args.list.now.items c.args.at arm = search rules in
     subst (λ l. DeclaresStat c.args.self.now after (choice c.args.line l o) c.args.closing c.args.level) (sym (arms_front c.args.list.now.items c.args.at arm inside is))
-    (arm_declares c.args.self.now (record c.args.self.now { emitter = c.condition.new.self }) c.block.new.self (record c.block.new.self { emitter = c.put_open_jump.new.self }) c.arms.new.self after
+    (arm_declares c.args.self.now (record c.args.self.now { emitter = c.condition.new.emitter }) c.block.new.self (record c.block.new.self { emitter = c.put_open_jump.new.self }) c.arms.new.self after
     (plain_exp (out-Arm arm).test) (plain_block (out-Arm arm).block) others o c.args.closing c.args.level c.args.line c.in_ok-away.away.items
     c.in_ok-away.ensures refl refl c.in_ok-block.ensures.code c.in_ok-block.ensures.variables c.in_ok-past.ensures.jump refl refl c.in_ok-arms.ensures.variables refl)
 
@@ -462,6 +462,6 @@ arms-returns-clause-variables t c =
     let inside : c.args.at < length c.args.list.now.items = search rules in
     let is : arm ≡ slice_index_or c.args.list.now.items c.args.at arm = search rules in
     subst (λ l. DeclaresStat c.args.self.now after (choice c.args.line l o) c.args.closing c.args.level) (sym (arms_front c.args.list.now.items c.args.at arm inside is))
-    (arm_declares c.args.self.now (record c.args.self.now { emitter = c.condition.new.self }) c.block.new.self (record c.block.new.self { emitter = c.put_open_jump.new.self }) c.arms.new.self after
+    (arm_declares c.args.self.now (record c.args.self.now { emitter = c.condition.new.emitter }) c.block.new.self (record c.block.new.self { emitter = c.put_open_jump.new.self }) c.arms.new.self after
     (plain_exp (out-Arm arm).test) (plain_block (out-Arm arm).block) others o c.args.closing c.args.level c.args.line c.in_ok-away.away.items
     c.in_ok-away.ensures refl refl c.in_ok-block.ensures.code c.in_ok-block.ensures.variables c.in_ok-past.ensures.jump refl refl c.in_ok-arms.ensures.variables refl)

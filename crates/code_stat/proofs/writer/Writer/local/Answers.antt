@@ -3,8 +3,8 @@ use Rattle.tree_core.specs.Tree.{exps}
 use Rattle.tree_core.specs.Plain.{plain_exps}
 use Rattle.code_of.specs.Expressions.{exps_code, made_in}
 use Rattle.code_of.specs.Parts.{marks_code}
-use Rattle.code_expr.specs.Listing.{followed, listed}
-use Rattle.code_expr.proofs.Joining.{listed_after}
+use Rattle.code_emitter.specs.Listing.{followed, listed}
+use Rattle.code_emitter.proofs.Joining.{listed_after}
 use Rattle.code_stat.proofs.Drafting.{plainly}
 use Rattle.code_stat.proofs.Declaring.{local_declares}
 use Rattle.code_stat.proofs.writer.Writer.local.Goals as goal
@@ -23,5 +23,5 @@ returns-clause-code c closing =
 pub returns-clause-variables : goal.returns-clause-variables
 returns-clause-variables c closing =
     let count : c.len.result ≡ length c.args.names.now.items = search rules in
-    local_declares c.args.self.now (record c.args.self.now { emitter = c.write_marks.new.emitter; variables = c.declare_locals.new.self }) c.list.new.self c.args.line c.args.names.now.items (exps (plain_exps c.args.values.now.items)) closing
+    local_declares c.args.self.now (record c.args.self.now { emitter = c.write_marks.new.emitter; variables = c.declare_locals.new.self }) c.list.new.emitter c.args.line c.args.names.now.items (exps (plain_exps c.args.values.now.items)) closing
     c.args.level c.len.result c.place-place.result c.deref.result.now c.in_ok-list.ensures count c.place-place.ensures c.deref.ensures.value c.in_ok-declare_locals.ensures

@@ -1,0 +1,5 @@
+pub mod Joining
+pub mod Seats
+pub mod ConstantSeats
+pub mod Patching
+pub mod Leading

@@ -1,0 +1,5 @@
+pub mod Comparing
+pub mod Leading
+pub mod Listing
+pub mod Operands
+pub mod Patches

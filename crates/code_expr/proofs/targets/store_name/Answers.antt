@@ -1,0 +1,14 @@
+use Rattle.std.proofs.Common.{◌≡◌, ◌+◌, false, [], ◌∷◌, ap, ◌∙◌}
+use Rattle.code_of.specs.Targets.{text_key}
+use Rattle.code_emitter.specs.Listing.{listed}
+use Rattle.code_expr.specs.Stores.{key_seat, seat_store}
+use Rattle.code_expr.proofs.ValueSeats.{seat_store_is}
+use Rattle.code_expr.proofs.targets.store_name.Goals as goal
+
+pub returns : goal.returns
+returns c =
+    let s = text_key c.args.emitter.now.constants c.args.text.now in
+    let one = c.in_ok-above.ensures in
+    let stands : c.text_seat-stands.result ≡ key_seat s = c.text_seat-stands.ensures in
+    let store : c.put_store.new.emitter ≡ listed c.args.emitter.now (seat_store (key_seat s) c.args.register (c.args.register + 1) false c.args.value c.args.line ∷ []) = rw one at rw stands at c.in_ok-put_store.ensures in
+    store ∙ ap (λ x. listed c.args.emitter.now (x ∷ [])) (seat_store_is s false c.args.register c.args.register c.args.value c.args.line)
