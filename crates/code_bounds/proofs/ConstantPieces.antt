@@ -1,7 +1,7 @@
 -- The registers that an operator names whose second operand is a constant.
 use Rattle.std.proofs.Common.{◌≡◌, ℕ, ◌+◌, ◌<◌, ◌≤◌, ◌^◌, max, Bool, true, false, [], ◌∷◌, Some, refl, arith}
 use Rattle.tree_core.specs.declared.operator.BinOp.{BinOp}
-use Rattle.tree_core.specs.declared.operator.BinOp.TheVariants.{Add as Plus, Sub as Minus, Mul as Times, Mod as Modulo, Idiv, Band, Bor, Bxor, Shl as ShiftLeft, Shr as ShiftRight, Concat as Join, Eq as Equal, Ne, Lt as Less, Le as AtMost, Gt, Ge}
+use Rattle.tree_core.specs.declared.operator.BinOp.TheVariants.{Add as Plus, Sub as Minus, Mul as Times, Mod as Modulo, Idiv, Band, Bor, Bxor, Eq as Equal, Ne}
 use Rattle.tree_core.specs.Tree.{Exp}
 use Rattle.code_core.specs.declared.opcode.Opcode.{Opcode}
 use Rattle.code_core.specs.declared.opcode.Opcode.TheVariants.{AddK, SubK, MulK, ModK, IDivK, BAndK, BOrK, BXorK, MmBinK, EqK}
@@ -35,15 +35,7 @@ constant_top Idiv d v x n t line is e xf tf = summed_top IDivK 12 x n t line ref
 constant_top Band d v x n t line is e xf tf = summed_top BAndK 13 x n t line refl xf tf
 constant_top Bor d v x n t line is e xf tf = summed_top BOrK 14 x n t line refl xf tf
 constant_top Bxor d v x n t line is e xf tf = summed_top BXorK 15 x n t line refl xf tf
-constant_top ShiftLeft d v x n t line is e xf tf = absurd (cc)
-constant_top ShiftRight d v x n t line is e xf tf = absurd (cc)
-constant_top Join d v x n t line is e xf tf = absurd (cc)
-constant_top Equal d v x n t line is e xf tf = absurd (cc)
-constant_top Ne d v x n t line is e xf tf = absurd (cc)
-constant_top Less d v x n t line is e xf tf = absurd (cc)
-constant_top AtMost d v x n t line is e xf tf = absurd (cc)
-constant_top Gt d v x n t line is e xf tf = absurd (cc)
-constant_top Ge d v x n t line is e xf tf = absurd (cc)
+constant_top _ d v x n t line is e xf tf = absurd (cc)
 
 sum_here : (op : Opcode) (event x n t line : ℕ) → registers op (abc op t x n false) ≡ a_of (abc op t x n false) ∷ b_of (abc op t x n false) ∷ [] → x ≤ t → t < 2 ^ 8 → top (constant_arithmetic op event x n t line) ≡ t + 1
 sum_here op event x n t line shape below fits = let e = summed_top op event x n t line shape (omega arith) fits in omega (arith, e)
@@ -63,10 +55,4 @@ constant_here Bor d v x n t line e below fits = sum_here BOrK 14 x n t line refl
 constant_here Bxor d v x n t line e below fits = sum_here BXorK 15 x n t line refl below fits
 constant_here Equal d v x n t line e below fits = truth_here x n true t line below fits
 constant_here Ne d v x n t line e below fits = truth_here x n false t line below fits
-constant_here ShiftLeft d v x n t line e below fits = absurd (cc)
-constant_here ShiftRight d v x n t line e below fits = absurd (cc)
-constant_here Join d v x n t line e below fits = absurd (cc)
-constant_here Less d v x n t line e below fits = absurd (cc)
-constant_here AtMost d v x n t line e below fits = absurd (cc)
-constant_here Gt d v x n t line e below fits = absurd (cc)
-constant_here Ge d v x n t line e below fits = absurd (cc)
+constant_here _ d v x n t line e below fits = absurd (cc)

@@ -3,7 +3,7 @@ use Rattle.std.proofs.Common.{◌≡◌, ℕ, ◌≤◌, ◌^◌, suc, Bool, tru
 use Rattle.std.proofs.lemmas.Option.{slice_get_within}
 use Rattle.tree_core.specs.declared.name.Place.{Place}
 use Rattle.tree_core.specs.declared.name.Place.TheVariants.{Unset, Upvalue, GlobalIn, GlobalOf, Local as LocalPlace}
-use Rattle.tree_core.specs.Tree.{Block, Falls, Returns, Stats, EndStats, MoreStats, Stat, Empty, Local, LocalFunction, Assign, CallStat, Do, While, Repeat, If, IfElse, NumFor, NumForStep, GenFor, Label, Goto, Break, Arms, EndArms, MoreArms, Exp, Nil, True, False, Int, Str, Vararg, Function, Var, Index, Call, Method, Unary, Binary, And, Or, Paren, Table, Exps, EndExps, MoreExps, Fields, EndFields, MoreFields, Field, Item, Keyed}
+use Rattle.tree_core.specs.Tree.{Block, Falls, Returns, Stats, EndStats, MoreStats, Stat, Local, Assign, CallStat, Do, While, Repeat, If, IfElse, NumFor, NumForStep, GenFor, Arms, EndArms, MoreArms, Exp, Int, Str, Var, Index, Call, Method, Unary, Binary, And, Or, Paren, Table, Exps, EndExps, MoreExps, Fields, EndFields, MoreFields, Field, Item, Keyed}
 use Rattle.code_core.specs.declared.proto.Const.{Const}
 use Rattle.code_core.specs.declared.proto.Const.TheVariants.{Int as IntConst, Str as StrConst}
 use Rattle.code_of.specs.Constants.{same_constant, number_in, with_constant, is_small, with_any, of_name, of_exp, of_exps, of_fields, of_field, of_stat, of_arms, of_stats, of_block, Found}
@@ -83,13 +83,8 @@ keeps_int z cs x h = by (is_small z)
 
 mutual
   pub keeps_exp : (e : Exp) (cs : List Const) → Keeps cs (of_exp e cs)
-  keeps_exp (Nil line) cs x h = h
-  keeps_exp (True line) cs x h = h
-  keeps_exp (False line) cs x h = h
   keeps_exp (Int line z) cs x h = keeps_int z cs x h
   keeps_exp (Str line bytes) cs x h = with_keeps (StrConst bytes) cs x h
-  keeps_exp (Vararg line) cs x h = h
-  keeps_exp (Function line body) cs x h = h
   keeps_exp (Var line name) cs x h = keeps_name name.place name.text cs x h
   keeps_exp (Index line object key) cs x h = keeps_exp key (of_exp object cs) x (keeps_exp object cs x h)
   keeps_exp (Call line f es) cs x h = keeps_exps es (of_exp f cs) x (keeps_exp f cs x h)
@@ -102,6 +97,7 @@ mutual
   keeps_exp (Or line e d) cs x h = keeps_exp d (of_exp e cs) x (keeps_exp e cs x h)
   keeps_exp (Paren line e) cs x h = keeps_exp e cs x h
   keeps_exp (Table line fs) cs x h = keeps_fields fs cs x h
+  keeps_exp _ cs x h = h
 
   pub keeps_exps : (es : Exps) (cs : List Const) → Keeps cs (of_exps es cs)
   keeps_exps EndExps cs x h = h
@@ -118,9 +114,7 @@ mutual
 
 mutual
   keeps_stat : (s : Stat) (cs : List Const) → Keeps cs (of_stat s cs)
-  keeps_stat (Empty line) cs x h = h
   keeps_stat (Local line names es) cs x h = keeps_exps es cs x h
-  keeps_stat (LocalFunction line name body) cs x h = h
   keeps_stat (Assign line targets es) cs x h =
       keeps_exps es (with_any (stored_constant targets es) (of_exps targets cs)) x (any_keeps (stored_constant targets es) (of_exps targets cs) x (keeps_exps targets cs x h))
   keeps_stat (CallStat line e) cs x h = keeps_exp e cs x h
@@ -135,9 +129,7 @@ mutual
       keeps_block block (of_exp step (of_exp limit (of_exp from cs))) x
       (keeps_exp step (of_exp limit (of_exp from cs)) x (keeps_exp limit (of_exp from cs) x (keeps_exp from cs x h)))
   keeps_stat (GenFor line names es block) cs x h = keeps_block block (of_exps es cs) x (keeps_exps es cs x h)
-  keeps_stat (Label line name) cs x h = h
-  keeps_stat (Goto line name) cs x h = h
-  keeps_stat (Break line) cs x h = h
+  keeps_stat _ cs x h = h
 
   keeps_arms : (arms : Arms) (cs : List Const) → Keeps cs (of_arms arms cs)
   keeps_arms EndArms cs x h = h
@@ -168,13 +160,8 @@ int_has z cs ds k great =
 
 mutual
   pub exp_has : (e : Exp) (cs ds : List Const) → Keeps (of_exp e cs) ds → ExpHas ds e
-  exp_has (Nil line) cs ds k = tt
-  exp_has (True line) cs ds k = tt
-  exp_has (False line) cs ds k = tt
   exp_has (Int line z) cs ds k = int_has z cs ds k
   exp_has (Str line bytes) cs ds k = k (StrConst bytes) (text_there bytes cs)
-  exp_has (Vararg line) cs ds k = tt
-  exp_has (Function line body) cs ds k = tt
   exp_has (Var line name) cs ds k = name_has name.place name.text cs ds k
   exp_has (Index line object key) cs ds k =
       (exp_has object cs ds (λ x h. k x (keeps_exp key (of_exp object cs) x h)), exp_has key (of_exp object cs) ds k)
@@ -194,6 +181,7 @@ mutual
   exp_has (Or line e d) cs ds k = (exp_has e cs ds (λ x h. k x (keeps_exp d (of_exp e cs) x h)), exp_has d (of_exp e cs) ds k)
   exp_has (Paren line e) cs ds k = exp_has e cs ds k
   exp_has (Table line fs) cs ds k = fields_have fs cs ds k
+  exp_has _ cs ds k = tt
 
   pub exps_have : (es : Exps) (cs ds : List Const) → Keeps (of_exps es cs) ds → ExpsHave ds es
   exps_have EndExps cs ds k = tt
@@ -212,9 +200,7 @@ mutual
 
 mutual
   stat_has : (s : Stat) (cs ds : List Const) → Keeps (of_stat s cs) ds → StatHas ds s
-  stat_has (Empty line) cs ds k = tt
   stat_has (Local line names es) cs ds k = exps_have es cs ds k
-  stat_has (LocalFunction line name body) cs ds k = tt
   stat_has (Assign line targets es) cs ds k =
       let value = with_any (stored_constant targets es) (of_exps targets cs) in
       let kept : Keeps value ds = λ x h. k x (keeps_exps es value x h) in
@@ -242,9 +228,7 @@ mutual
       )
   stat_has (GenFor line names es block) cs ds k =
       (exps_have es cs ds (λ x h. k x (keeps_block block (of_exps es cs) x h)), block_has block (of_exps es cs) ds k)
-  stat_has (Label line name) cs ds k = tt
-  stat_has (Goto line name) cs ds k = tt
-  stat_has (Break line) cs ds k = tt
+  stat_has _ cs ds k = tt
 
   arms_have : (arms : Arms) (cs ds : List Const) → Keeps (of_arms arms cs) ds → ArmsHave ds arms
   arms_have EndArms cs ds k = tt

@@ -2,7 +2,7 @@
 use Rattle.std.proofs.Common.{ℕ, ◌+◌, ◌≤◌, Bool, true, false, cond, List, [], ◌∷◌, length, Option, Some, None, arith}
 use Rattle.tree_core.specs.declared.name.Place.{Place}
 use Rattle.tree_core.specs.declared.name.Place.TheVariants.{Unset, Upvalue, GlobalIn, GlobalOf, Local as LocalPlace}
-use Rattle.tree_core.specs.Tree.{Block, Falls, Returns, Body, BodyOf, Stats, EndStats, MoreStats, Stat, Empty, Local, LocalFunction, Assign, CallStat, Do, While, Repeat, If, IfElse, NumFor, NumForStep, GenFor, Label, Goto, Break, Arms, EndArms, MoreArms, Exp, Nil, True, False, Int, Str, Vararg, Var, Function, Index, Call, Method, Unary, Binary, And, Or, Paren, Table, Exps, EndExps, MoreExps, Fields, EndFields, MoreFields, Field, Item, Keyed}
+use Rattle.tree_core.specs.Tree.{Block, Falls, Returns, Body, BodyOf, Stats, EndStats, MoreStats, Stat, Local, LocalFunction, Assign, CallStat, Do, While, Repeat, If, IfElse, NumFor, NumForStep, GenFor, Arms, EndArms, MoreArms, Exp, Int, Str, Var, Function, Index, Call, Method, Unary, Binary, And, Or, Paren, Table, Exps, EndExps, MoreExps, Fields, EndFields, MoreFields, Field, Item, Keyed}
 use Rattle.code_core.specs.declared.proto.Const.{Const}
 use Rattle.code_core.specs.declared.proto.Const.TheVariants.{Int as IntConst, Str as StrConst}
 use Rattle.code_of.specs.Constants.{same_constant, with_constant, with_any, is_small, of_name, of_exp, of_exps, of_fields, of_field, of_stat, of_arms, of_stats, of_block}
@@ -20,14 +20,6 @@ arguments_weigh (MoreExps e es) = omega arith
 
 mutual
   made_exp : (e : Exp) → made_by e ≤ functions e
-  made_exp (Nil line) = omega arith
-  made_exp (True line) = omega arith
-  made_exp (False line) = omega arith
-  made_exp (Int line n) = omega arith
-  made_exp (Str line bytes) = omega arith
-  made_exp (Vararg line) = omega arith
-  made_exp (Function line body) = omega arith
-  made_exp (Var line name) = omega arith
   made_exp (Index line object key) = omega (arith, made_exp object, made_exp key)
   made_exp (Call line f es) = omega (arith, made_exp f, made_exps es)
   made_exp (Method line object name es) = omega (arith, made_exp object, made_exps es)
@@ -37,6 +29,7 @@ mutual
   made_exp (Or line e d) = omega (arith, made_exp e, made_exp d)
   made_exp (Paren line e) = omega (arith, made_exp e)
   made_exp (Table line fs) = omega (arith, made_fields fs)
+  made_exp _ = omega arith
 
   made_exps : (es : Exps) → made_in es ≤ functions_in_exps es
   made_exps EndExps = omega arith
@@ -52,9 +45,7 @@ mutual
 
 mutual
   made_stat : (s : Stat) → made_by_stat s ≤ functions_in_stat s
-  made_stat (Empty line) = omega arith
   made_stat (Local line names es) = omega (arith, made_exps es)
-  made_stat (LocalFunction line name body) = omega arith
   made_stat (Assign line targets es) = omega (arith, made_exps targets, made_exps es)
   made_stat (CallStat line e) = made_exp e
   made_stat (Do line block) = omega (arith, made_block block)
@@ -65,9 +56,7 @@ mutual
   made_stat (NumFor line name from limit block) = omega (arith, made_exp from, made_exp limit, made_block block)
   made_stat (NumForStep line name from limit step block) = omega (arith, made_exp from, made_exp limit, made_exp step, made_block block)
   made_stat (GenFor line names es block) = omega (arith, made_exps es, made_block block)
-  made_stat (Label line name) = omega arith
-  made_stat (Goto line name) = omega arith
-  made_stat (Break line) = omega arith
+  made_stat _ = omega arith
 
   made_arms : (arms : Arms) → made_in_arms arms ≤ functions_in_arms arms
   made_arms EndArms = omega arith
@@ -83,14 +72,7 @@ mutual
 
 mutual
   written_exp : (e : Exp) → functions e ≤ weight e
-  written_exp (Nil line) = omega arith
-  written_exp (True line) = omega arith
-  written_exp (False line) = omega arith
-  written_exp (Int line n) = omega arith
-  written_exp (Str line bytes) = omega arith
-  written_exp (Vararg line) = omega arith
   written_exp (Function line body) = omega (arith, written_body body)
-  written_exp (Var line name) = omega arith
   written_exp (Index line object key) = omega (arith, written_exp object, written_exp key)
   written_exp (Call line f es) = omega (arith, written_exp f, written_exps es, arguments_weigh es)
   written_exp (Method line object name es) = omega (arith, written_exp object, written_exps es, arguments_weigh es)
@@ -100,6 +82,7 @@ mutual
   written_exp (Or line e d) = omega (arith, written_exp e, written_exp d)
   written_exp (Paren line e) = omega (arith, written_exp e)
   written_exp (Table line fs) = omega (arith, written_fields fs)
+  written_exp _ = omega arith
 
   written_exps : (es : Exps) → functions_in_exps es ≤ weight_of_exps es
   written_exps EndExps = omega arith
@@ -114,7 +97,6 @@ mutual
   written_field (Keyed line e d) = omega (arith, written_exp e, written_exp d)
 
   written_stat : (s : Stat) → functions_in_stat s ≤ weight_of_stat s
-  written_stat (Empty line) = omega arith
   written_stat (Local line names es) = omega (arith, written_exps es)
   written_stat (LocalFunction line name body) = omega (arith, written_body body)
   written_stat (Assign line targets es) = omega (arith, written_exps targets, written_exps es)
@@ -127,9 +109,7 @@ mutual
   written_stat (NumFor line name from limit block) = omega (arith, written_exp from, written_exp limit, written_block block)
   written_stat (NumForStep line name from limit step block) = omega (arith, written_exp from, written_exp limit, written_exp step, written_block block)
   written_stat (GenFor line names es block) = omega (arith, written_exps es, written_block block)
-  written_stat (Label line name) = omega arith
-  written_stat (Goto line name) = omega arith
-  written_stat (Break line) = omega arith
+  written_stat _ = omega arith
 
   written_arms : (arms : Arms) → functions_in_arms arms ≤ weight_of_arms arms
   written_arms EndArms = omega arith
@@ -169,17 +149,12 @@ named (GlobalOf u) text cs = one_more (StrConst text) cs
 
 mutual
   few_exp : (e : Exp) (cs : List Const) → length (of_exp e cs) ≤ length cs + weight e
-  few_exp (Nil line) cs = omega arith
-  few_exp (True line) cs = omega arith
-  few_exp (False line) cs = omega arith
   few_exp (Int line n) cs = by (is_small n)
     where
       by : (b : Bool) → length (cond b cs (with_constant (IntConst n) cs)) ≤ length cs + 1
       by true = omega arith
       by false = one_more (IntConst n) cs
   few_exp (Str line bytes) cs = one_more (StrConst bytes) cs
-  few_exp (Vararg line) cs = omega arith
-  few_exp (Function line body) cs = omega arith
   few_exp (Var line name) cs = named name.place name.text cs
   few_exp (Index line object key) cs = omega (arith, few_exp object cs, few_exp key (of_exp object cs))
   few_exp (Call line f es) cs = omega (arith, few_exp f cs, few_exps es (of_exp f cs), arguments_weigh es)
@@ -195,6 +170,7 @@ mutual
   few_exp (Or line e d) cs = omega (arith, few_exp e cs, few_exp d (of_exp e cs))
   few_exp (Paren line e) cs = omega (arith, few_exp e cs)
   few_exp (Table line fs) cs = omega (arith, few_fields fs cs)
+  few_exp _ cs = omega arith
 
   few_exps : (es : Exps) (cs : List Const) → length (of_exps es cs) ≤ length cs + weight_of_exps es
   few_exps EndExps cs = omega arith
@@ -211,9 +187,7 @@ mutual
 
 mutual
   few_stat : (s : Stat) (cs : List Const) → length (of_stat s cs) ≤ length cs + weight_of_stat s
-  few_stat (Empty line) cs = omega arith
   few_stat (Local line names es) cs = omega (arith, few_exps es cs)
-  few_stat (LocalFunction line name body) cs = omega arith
   few_stat (Assign line targets es) cs =
       let named = with_any (stored_constant targets es) (of_exps targets cs) in
       omega (arith, few_exps targets cs, any_more (stored_constant targets es) (of_exps targets cs), few_exps es named)
@@ -228,9 +202,7 @@ mutual
   few_stat (NumForStep line name from limit step block) cs =
       omega (arith, few_exp from cs, few_exp limit (of_exp from cs), few_exp step (of_exp limit (of_exp from cs)), few_block block (of_exp step (of_exp limit (of_exp from cs))))
   few_stat (GenFor line names es block) cs = omega (arith, few_exps es cs, few_block block (of_exps es cs))
-  few_stat (Label line name) cs = omega arith
-  few_stat (Goto line name) cs = omega arith
-  few_stat (Break line) cs = omega arith
+  few_stat _ cs = omega arith
 
   few_arms : (arms : Arms) (cs : List Const) → length (of_arms arms cs) ≤ length cs + weight_of_arms arms
   few_arms EndArms cs = omega arith

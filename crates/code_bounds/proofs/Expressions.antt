@@ -1,7 +1,7 @@
 -- The code of an expression takes the registers that are counted for it.
 use Rattle.std.proofs.Common.{◌≡◌, ℕ, zero, suc, ◌+◌, ◌-◌, ◌<◌, ◌≤◌, ◌^◌, ◌⊎◌, inl, inr, max, Bool, true, false, cond, not, List, [], ◌∷◌, ◌++◌, length, Option, Some, None, refl, sym, ap, ◌∙◌, subst, lit<, arith}
 use Rattle.tree_core.specs.declared.name.Place.{Place}
-use Rattle.tree_core.specs.declared.name.Place.TheVariants.{Unset, Upvalue, GlobalIn, GlobalOf, Local as LocalPlace}
+use Rattle.tree_core.specs.declared.name.Place.TheVariants.{Local as LocalPlace}
 use Rattle.tree_core.specs.declared.operator.UnOp.{UnOp}
 use Rattle.tree_core.specs.declared.operator.UnOp.TheVariants.{Neg, BitNot, Not as Negation, Len as Length}
 use Rattle.tree_core.specs.declared.operator.BinOp.{BinOp}
@@ -84,50 +84,25 @@ none_after false = refl
 
 place_found : (hidden : List ℕ) (ups : ℕ) (p : Place) (r size : ℕ) → local_at p ≡ Some r → PlaceIsThere hidden size ups p → r < size
 place_found hidden ups (LocalPlace q) r size e h = let same = some_is q r e in let below = h.0 in omega (arith, same, below)
-place_found hidden ups Unset r size e h = absurd (cc)
-place_found hidden ups (Upvalue u) r size e h = absurd (cc)
-place_found hidden ups (GlobalIn n) r size e h = absurd (cc)
-place_found hidden ups (GlobalOf u) r size e h = absurd (cc)
+place_found hidden ups _ r size e h = absurd (cc)
 
 pub local_found : (hidden : List ℕ) (ups : ℕ) (e : Exp) (r size : ℕ) → local_of e ≡ Some r → ExpFinds e hidden size ups → r < size
 local_found hidden ups (Var line name) r size e h = place_found hidden ups name.place r size e h
 local_found hidden ups (Paren line inner) r size e h = local_found hidden ups inner r size e h
-local_found hidden ups (Nil line) r size e h = absurd (cc)
-local_found hidden ups (True line) r size e h = absurd (cc)
-local_found hidden ups (False line) r size e h = absurd (cc)
-local_found hidden ups (Int line z) r size e h = absurd (cc)
-local_found hidden ups (Str line bytes) r size e h = absurd (cc)
-local_found hidden ups (Vararg line) r size e h = absurd (cc)
-local_found hidden ups (Function line body) r size e h = absurd (cc)
-local_found hidden ups (Index line object key) r size e h = absurd (cc)
-local_found hidden ups (Call line f es) r size e h = absurd (cc)
-local_found hidden ups (Method line object name es) r size e h = absurd (cc)
-local_found hidden ups (Unary line op inner) r size e h = absurd (cc)
-local_found hidden ups (Binary line op left right) r size e h = absurd (cc)
-local_found hidden ups (And line left right) r size e h = absurd (cc)
-local_found hidden ups (Or line left right) r size e h = absurd (cc)
-local_found hidden ups (Table line fs) r size e h = absurd (cc)
+local_found hidden ups _ r size e h = absurd (cc)
 
 module _ (cs : List Const) where
   -- an expression has a register at least, unless no value is wanted of it
   pub some_room : (e : Exp) (field : ℕ) → 1 ≤ room_of_values field → 1 ≤ room_of cs e field
-  some_room (Nil line) field some = omega arith
-  some_room (True line) field some = omega arith
-  some_room (False line) field some = omega arith
-  some_room (Int line z) field some = omega arith
-  some_room (Str line bytes) field some = omega arith
   some_room (Vararg line) field some = some
-  some_room (Function line body) field some = omega arith
   some_room (Var line name) field some = name_room cs name.place name.text
   some_room (Index line object key) field some = some_read (name_in cs key) object key (room_of cs object 2) (room_of cs key 2) (some_room object 2 (omega arith))
-  some_room (Call line f es) field some = omega arith
-  some_room (Method line object name es) field some = omega arith
   some_room (Unary line op e) field some = some_room e 2 (omega arith)
   some_room (Binary line op e d) field some = some_operation (constant_in cs op d) op e d (room_of cs e 2) (room_of cs d 2) (some_room e 2 (omega arith))
   some_room (And line e d) field some = let right = some_room d 2 (omega arith) in omega (arith, right)
   some_room (Or line e d) field some = let right = some_room d 2 (omega arith) in omega (arith, right)
   some_room (Paren line e) field some = some_room e 2 (omega arith)
-  some_room (Table line fs) field some = omega arith
+  some_room _ field some = omega arith
 
   pub own_room : (e : Exp) → 1 ≤ room_of cs e 2
   own_room e = some_room e 2 (omega arith)

@@ -1,7 +1,7 @@
 -- The functions of a body's code stand at their numbers.
 use Rattle.std.proofs.Common.{◌≡◌, ℕ, zero, suc, ◌+◌, List, [], ◌∷◌, length, drop, ◌<◌, ◌≤◌, ◌^◌, Option, Some, slice_get, refl, subst, ap, arith}
 use Rattle.std.proofs.lemmas.Option.{slice_get_within}
-use Rattle.tree_core.specs.Tree.{Block, Falls, Returns, Body, BodyOf, Stats, EndStats, MoreStats, Stat, Empty, Local, LocalFunction, Assign, CallStat, Do, While, Repeat, If, IfElse, NumFor, NumForStep, GenFor, Label, Goto, Break, Arms, EndArms, MoreArms, Exp, Nil, True, False, Int, Str, Vararg, Function, Var, Index, Call, Method, Unary, Binary, And, Or, Paren, Table, Exps, EndExps, MoreExps, Fields, EndFields, MoreFields, Field, Item, Keyed}
+use Rattle.tree_core.specs.Tree.{Block, Falls, Returns, Body, BodyOf, Stats, EndStats, MoreStats, Stat, Local, LocalFunction, Assign, CallStat, Do, While, Repeat, If, IfElse, NumFor, NumForStep, GenFor, Arms, EndArms, MoreArms, Exp, Function, Index, Call, Method, Unary, Binary, And, Or, Paren, Table, Exps, EndExps, MoreExps, Fields, EndFields, MoreFields, Field, Item, Keyed}
 use Rattle.code_core.specs.Prototype.{Prototype, Prototypes, none, list_of}
 use Rattle.code_of.specs.CodeOf.{code_of, from_exp, from_exps, from_fields, from_field, from_stat, from_arms, from_stats, from_block}
 use Rattle.code_of.specs.Expressions.{made_by, made_in, made_in_fields, made_by_field}
@@ -41,14 +41,7 @@ module _ (source : Option (List ℕ)) (fs : List Prototype) where
 
   mutual
     exp_made : (e : Exp) (j : ℕ) (rest : Prototypes) → From j (from_exp source e rest) → ExpMakes source fs e j × From (j + made_by e) rest
-    exp_made (Nil line) j rest h = nothing j rest h
-    exp_made (True line) j rest h = nothing j rest h
-    exp_made (False line) j rest h = nothing j rest h
-    exp_made (Int line z) j rest h = nothing j rest h
-    exp_made (Str line bytes) j rest h = nothing j rest h
-    exp_made (Vararg line) j rest h = nothing j rest h
     exp_made (Function line body) j rest h = function_made body j rest h
-    exp_made (Var line name) j rest h = nothing j rest h
     exp_made (Index line object key) j rest h =
         two j (made_by object) (made_by key) (from_exp source key rest) rest (exp_made object j (from_exp source key rest) h) (λ k. exp_made key (j + made_by object) rest k)
     exp_made (Call line f es) j rest h =
@@ -64,6 +57,7 @@ module _ (source : Option (List ℕ)) (fs : List Prototype) where
         two j (made_by e) (made_by d) (from_exp source d rest) rest (exp_made e j (from_exp source d rest) h) (λ k. exp_made d (j + made_by e) rest k)
     exp_made (Paren line e) j rest h = exp_made e j rest h
     exp_made (Table line fields) j rest h = fields_made fields j rest h
+    exp_made _ j rest h = nothing j rest h
 
     exps_made : (es : Exps) (j : ℕ) (rest : Prototypes) → From j (from_exps source es rest) → ExpsMake source fs es j × From (j + made_in es) rest
     exps_made EndExps j rest h = nothing j rest h
@@ -83,7 +77,6 @@ module _ (source : Option (List ℕ)) (fs : List Prototype) where
 
   mutual
     stat_made : (s : Stat) (j : ℕ) (rest : Prototypes) → From j (from_stat source s rest) → StatMakes source fs s j × From (j + made_by_stat s) rest
-    stat_made (Empty line) j rest h = nothing j rest h
     stat_made (Local line names es) j rest h = exps_made es j rest h
     stat_made (LocalFunction line name body) j rest h = function_made body j rest h
     stat_made (Assign line targets es) j rest h =
@@ -117,9 +110,7 @@ module _ (source : Option (List ℕ)) (fs : List Prototype) where
         )
     stat_made (GenFor line names es block) j rest h =
         two j (made_in es) (made_in_block block) (from_block source block rest) rest (exps_made es j (from_block source block rest) h) (λ k. block_made block (j + made_in es) rest k)
-    stat_made (Label line name) j rest h = nothing j rest h
-    stat_made (Goto line name) j rest h = nothing j rest h
-    stat_made (Break line) j rest h = nothing j rest h
+    stat_made _ j rest h = nothing j rest h
 
     arms_made : (arms : Arms) (j : ℕ) (rest : Prototypes) → From j (from_arms source arms rest) → ArmsMake source fs arms j × From (j + made_in_arms arms) rest
     arms_made EndArms j rest h = nothing j rest h
@@ -151,14 +142,7 @@ module _ (source : Option (List ℕ)) where
 
   mutual
     exp_counts : (e : Exp) → Counts (from_exp source e) (made_by e)
-    exp_counts (Nil line) = none_more
-    exp_counts (True line) = none_more
-    exp_counts (False line) = none_more
-    exp_counts (Int line z) = none_more
-    exp_counts (Str line bytes) = none_more
-    exp_counts (Vararg line) = none_more
     exp_counts (Function line body) = λ rest. omega arith
-    exp_counts (Var line name) = none_more
     exp_counts (Index line object key) = λ rest. let a = exp_counts object (from_exp source key rest) in let b = exp_counts key rest in omega (arith, a, b)
     exp_counts (Call line f es) = λ rest. let a = exp_counts f (from_exps source es rest) in let b = exps_count es rest in omega (arith, a, b)
     exp_counts (Method line object name es) = λ rest. let a = exp_counts object (from_exps source es rest) in let b = exps_count es rest in omega (arith, a, b)
@@ -168,6 +152,7 @@ module _ (source : Option (List ℕ)) where
     exp_counts (Or line e d) = λ rest. let a = exp_counts e (from_exp source d rest) in let b = exp_counts d rest in omega (arith, a, b)
     exp_counts (Paren line e) = exp_counts e
     exp_counts (Table line fs) = fields_count fs
+    exp_counts _ = none_more
 
     exps_count : (es : Exps) → Counts (from_exps source es) (made_in es)
     exps_count EndExps = none_more
@@ -183,7 +168,6 @@ module _ (source : Option (List ℕ)) where
 
   mutual
     stat_counts : (s : Stat) → Counts (from_stat source s) (made_by_stat s)
-    stat_counts (Empty line) = none_more
     stat_counts (Local line names es) = exps_count es
     stat_counts (LocalFunction line name body) = λ rest. omega arith
     stat_counts (Assign line targets es) = λ rest. let a = exps_count targets (from_exps source es rest) in let b = exps_count es rest in omega (arith, a, b)
@@ -207,9 +191,7 @@ module _ (source : Option (List ℕ)) where
         let d = block_counts block rest in
         omega (arith, a, b, c, d)
     stat_counts (GenFor line names es block) = λ rest. let a = exps_count es (from_block source block rest) in let b = block_counts block rest in omega (arith, a, b)
-    stat_counts (Label line name) = none_more
-    stat_counts (Goto line name) = none_more
-    stat_counts (Break line) = none_more
+    stat_counts _ = none_more
 
     arms_count : (arms : Arms) → Counts (from_arms source arms) (made_in_arms arms)
     arms_count EndArms = none_more

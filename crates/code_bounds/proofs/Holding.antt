@@ -2,7 +2,7 @@
 use Rattle.std.proofs.Common.{◌≡◌, ℕ, zero, suc, ◌+◌, ◌-◌, ◌%◌, ◌≤◌, max, Bool, true, false, cond, List, Option, Some, None, nat_lt, refl, ap, subst, arith}
 use Rattle.tree_core.specs.declared.name.Place.{Place}
 use Rattle.tree_core.specs.declared.name.Place.TheVariants.{Unset, Upvalue, GlobalIn, GlobalOf, Local as LocalPlace}
-use Rattle.tree_core.specs.Tree.{Exp, Nil, True, False, Int, Str, Vararg, Function, Var, Index, Call, Method, Unary, Binary, And, Or, Paren, Table, Exps, EndExps, MoreExps, Fields, EndFields, MoreFields, Item, Keyed}
+use Rattle.tree_core.specs.Tree.{Exp, True, Var, Index, Call, Method, Unary, Binary, And, Or, Paren, Table, Exps, EndExps, MoreExps, Fields, EndFields, MoreFields, Item, Keyed}
 use Rattle.code_core.specs.declared.proto.Const.{Const}
 use Rattle.code_core.specs.declared.proto.Const.TheVariants.{Str as StrConst}
 use Rattle.code_of.specs.Constants.{number_in}
@@ -31,29 +31,13 @@ same_count (MoreExps e es) = let rest = same_count es in omega (arith, rest)
 
 pub some_name : (p : Place) → 1 ≤ held_name p
 some_name Unset = omega arith
-some_name (LocalPlace n) = omega arith
-some_name (Upvalue u) = omega arith
-some_name (GlobalIn n) = omega arith
-some_name (GlobalOf u) = omega arith
+some_name _ = omega arith
 
 pub some_held : (e : Exp) → 1 ≤ held e
-some_held (Nil line) = omega arith
-some_held (True line) = omega arith
-some_held (False line) = omega arith
-some_held (Int line z) = omega arith
-some_held (Str line bytes) = omega arith
-some_held (Vararg line) = omega arith
-some_held (Function line body) = omega arith
 some_held (Var line name) = some_name name.place
-some_held (Index line object key) = omega arith
-some_held (Call line f es) = omega arith
-some_held (Method line object name es) = omega arith
 some_held (Unary line op e) = some_held e
-some_held (Binary line op e d) = omega arith
-some_held (And line e d) = omega arith
-some_held (Or line e d) = omega arith
 some_held (Paren line e) = some_held e
-some_held (Table line fs) = omega arith
+some_held _ = omega arith
 
 pub count_held : (es : Exps) (before : ℕ) → before + count es ≤ max before (held_behind before es)
 count_held EndExps before = omega arith
@@ -172,13 +156,6 @@ module _ (cs : List Const) where
 
   mutual
     pub exp_held : (e : Exp) (field : ℕ) → room_of cs e field ≤ max (held e) (room_of_values field)
-    exp_held (Nil line) field = omega arith
-    exp_held (True line) field = omega arith
-    exp_held (False line) field = omega arith
-    exp_held (Int line z) field = omega arith
-    exp_held (Str line bytes) field = omega arith
-    exp_held (Vararg line) field = omega arith
-    exp_held (Function line body) field = omega arith
     exp_held (Var line name) field = let h = name_held name.place name.text in omega (arith, h)
     exp_held (Index line object key) field =
         let a = item_by object false (exp_held object) in
@@ -200,6 +177,7 @@ module _ (cs : List Const) where
         let none : 0 + 0 ≡ 0 = omega arith in
         let a = subst (λ z. 1 + room_of_fields cs fs 0 0 ≤ max 1 (held_fields z fs)) none (fields_held fs 0 0 (omega arith)) in
         omega (arith, a)
+    exp_held _ field = omega arith
 
     -- where only the truth is wanted, and where a first operand's value is kept
     tested_held : (e : Exp) (value : ℕ) → value ≤ held e → room_tested cs e value ≤ held e
@@ -220,16 +198,7 @@ module _ (cs : List Const) where
         omega (arith, a, b, f)
     tested_held (True line) value h = omega arith
     tested_held (Var line name) value h = own_less (local_at name.place) value (held_name name.place) h
-    tested_held (Nil line) value h = h
-    tested_held (False line) value h = h
-    tested_held (Int line z) value h = h
-    tested_held (Str line bytes) value h = h
-    tested_held (Vararg line) value h = h
-    tested_held (Function line body) value h = h
-    tested_held (Index line object key) value h = h
-    tested_held (Call line f es) value h = h
-    tested_held (Method line object name es) value h = h
-    tested_held (Table line fs) value h = h
+    tested_held _ value h = h
 
     kept_held : (e : Exp) (value : ℕ) (k : Bool) → value ≤ held e → room_kept cs e value k ≤ held e
     kept_held (Paren line e) value k h = kept_held e value k h
@@ -241,17 +210,6 @@ module _ (cs : List Const) where
         let a = either_less k (room_kept cs e (room_of cs e 2) true) (room_tested cs e (room_of cs e 2)) (held e) (kept_held e (room_of cs e 2) true (item_by e false (exp_held e))) (tested_held e (room_of cs e 2) (item_by e false (exp_held e))) in
         let b = kept_held d (room_of cs d 2) k (item_by d false (exp_held d)) in
         omega (arith, a, b)
-    kept_held (Nil line) value k h = h
-    kept_held (True line) value k h = h
-    kept_held (False line) value k h = h
-    kept_held (Int line z) value k h = h
-    kept_held (Str line bytes) value k h = h
-    kept_held (Vararg line) value k h = h
-    kept_held (Function line body) value k h = h
-    kept_held (Var line name) value k h = h
-    kept_held (Index line object key) value k h = h
-    kept_held (Call line f es) value k h = h
-    kept_held (Method line object name es) value k h = h
     kept_held (Unary line op e) value k h =
         let some = some_held e in
         let a = tested_held e (room_of cs e 2) (item_by e false (exp_held e)) in
@@ -263,7 +221,7 @@ module _ (cs : List Const) where
         let own : ℕ = cond (is_compared op) 0 1 in
         let f = few_operation own (constant_in cs op d) op e d (room_of cs e 2) (room_of cs d 2) (one_or_none (is_compared op)) in
         either_less (is_compared op) (max (operation_room own (constant_in cs op d) op e d (room_of cs e 2) (room_of cs d 2)) 1) value (max (held e) (1 + held d)) (omega (arith, some, a, b, f)) h
-    kept_held (Table line fs) value k h = h
+    kept_held _ value k h = h
 
     pub exps_held : (es : Exps) (wanted : Wanted) (above : ℕ) → room_of_list cs above es wanted ≤ max (held_behind above es) (above + wanted_count wanted)
     exps_held EndExps wanted above = let h = nils_held wanted above in omega (arith, h)

@@ -235,13 +235,7 @@ number_top Idiv d x n t line is e xf tf = absurd (numeral_none d n e)
 number_top Band d x n t line is e xf tf = absurd (numeral_none d n e)
 number_top Bor d x n t line is e xf tf = absurd (numeral_none d n e)
 number_top Bxor d x n t line is e xf tf = absurd (numeral_none d n e)
-number_top Join d x n t line is e xf tf = absurd (cc)
-number_top Equal d x n t line is e xf tf = absurd (cc)
-number_top Ne d x n t line is e xf tf = absurd (cc)
-number_top Less d x n t line is e xf tf = absurd (cc)
-number_top AtMost d x n t line is e xf tf = absurd (cc)
-number_top Gt d x n t line is e xf tf = absurd (cc)
-number_top Ge d x n t line is e xf tf = absurd (cc)
+number_top _ d x n t line is e xf tf = absurd (cc)
 
 number_truth : (op : Opcode) (x n : ℕ) (k : Bool) (t line : ℕ) → registers op (abc op x (n + 127) 0 k) ≡ a_of (abc op x (n + 127) 0 k) ∷ [] → x ≤ t → t < 2 ^ 8 → top (truth_code op x (n + 127) k t line) ≡ t + 1
 number_truth op x n k t line shape below fits = let e = truth_top op x (n + 127) (x + 1) k t line (one_a op x (n + 127) 0 k shape (omega arith)) fits in omega (arith, e)
@@ -257,13 +251,7 @@ number_here Less d x n t line e below fits = number_truth LtI x n true t line re
 number_here AtMost d x n t line e below fits = number_truth LeI x n true t line refl below fits
 number_here Gt d x n t line e below fits = number_truth GtI x n true t line refl below fits
 number_here Ge d x n t line e below fits = number_truth GeI x n true t line refl below fits
-number_here Times d x n t line e below fits = absurd (numeral_none d n e)
-number_here Modulo d x n t line e below fits = absurd (numeral_none d n e)
-number_here Idiv d x n t line e below fits = absurd (numeral_none d n e)
-number_here Band d x n t line e below fits = absurd (numeral_none d n e)
-number_here Bor d x n t line e below fits = absurd (numeral_none d n e)
-number_here Bxor d x n t line e below fits = absurd (numeral_none d n e)
-number_here Join d x n t line e below fits = absurd (numeral_none d n e)
+number_here _ d x n t line e below fits = absurd (numeral_none d n e)
 
 -- operands, each with a register of its own, and what is done with them
 

@@ -4,7 +4,7 @@ use Rattle.std.specs.Prelude.{nat_lt}
 use Rattle.tree_core.specs.declared.name.Place.{Place}
 use Rattle.tree_core.specs.declared.name.Place.TheVariants.{Unset, Upvalue, GlobalIn, GlobalOf, Local as LocalPlace}
 use Rattle.tree_core.specs.declared.operator.BinOp.{BinOp}
-use Rattle.tree_core.specs.declared.operator.BinOp.TheVariants.{Add as Plus, Sub as Minus, Mul as Times, Mod as Modulo, Idiv, Band, Bor, Bxor, Shl as ShiftLeft, Shr as ShiftRight, Concat as Join, Eq as Equal, Ne, Lt as Less, Le as AtMost, Gt, Ge}
+use Rattle.tree_core.specs.declared.operator.BinOp.TheVariants.{Add as Plus}
 use Rattle.tree_core.specs.Tree.{Exp, Nil, True, False, Int, Str, Vararg, Var, Function, Index, Call, Method, Unary, Binary, And, Or, Paren, Table, BodyOf, Exps, EndExps, MoreExps, Fields, EndFields, MoreFields, Item, Keyed}
 use Rattle.code_core.specs.declared.opcode.Opcode.TheVariants.{GetTabUp, GetUpval, GetTable, OpSelf, LoadI, LoadK, LoadKx, ExtraArg, SetList, Call as CallCode, GetField}
 use Rattle.code_core.specs.declared.proto.Const.{Const}
@@ -79,41 +79,11 @@ self_short cs text x t line = by (nat_lt (number_in cs (StrConst text)) 256)
 
 operator_short : (op : BinOp) (x y t line : ℕ) → length (operator_code op x y t line) ≤ 4
 operator_short Plus x y t line = omega arith
-operator_short Minus x y t line = omega arith
-operator_short Times x y t line = omega arith
-operator_short Modulo x y t line = omega arith
-operator_short Idiv x y t line = omega arith
-operator_short Band x y t line = omega arith
-operator_short Bor x y t line = omega arith
-operator_short Bxor x y t line = omega arith
-operator_short ShiftLeft x y t line = omega arith
-operator_short ShiftRight x y t line = omega arith
-operator_short Join x y t line = omega arith
-operator_short Equal x y t line = omega arith
-operator_short Ne x y t line = omega arith
-operator_short Less x y t line = omega arith
-operator_short AtMost x y t line = omega arith
-operator_short Gt x y t line = omega arith
-operator_short Ge x y t line = omega arith
+operator_short _ x y t line = omega arith
 
 number_short : (op : BinOp) (x n t line : ℕ) → length (number_code op x n t line) ≤ 4
 number_short Plus x n t line = omega arith
-number_short Minus x n t line = omega arith
-number_short Times x n t line = omega arith
-number_short Modulo x n t line = omega arith
-number_short Idiv x n t line = omega arith
-number_short Band x n t line = omega arith
-number_short Bor x n t line = omega arith
-number_short Bxor x n t line = omega arith
-number_short ShiftLeft x n t line = omega arith
-number_short ShiftRight x n t line = omega arith
-number_short Join x n t line = omega arith
-number_short Equal x n t line = omega arith
-number_short Ne x n t line = omega arith
-number_short Less x n t line = omega arith
-number_short AtMost x n t line = omega arith
-number_short Gt x n t line = omega arith
-number_short Ge x n t line = omega arith
+number_short _ x n t line = omega arith
 
 -- a chain of `..` has one instruction besides its operands
 
@@ -191,12 +161,8 @@ nils_after e es wanted = by (is_last_open e es)
 module _ (cs : List Const) where
   mutual
     pub exp_short : (e : Exp) (t j c : ℕ) → length (exp_code cs e t j c) + 2 ≤ 6 * weight e
-    exp_short (Nil line) t j c = omega arith
-    exp_short (True line) t j c = omega arith
-    exp_short (False line) t j c = omega arith
     exp_short (Int line n) t j c = omega (arith, integer_short cs n t line)
     exp_short (Str line bytes) t j c = omega (arith, loads_short cs (StrConst bytes) t line)
-    exp_short (Vararg line) t j c = omega arith
     exp_short (Function line (BodyOf params vararg inner ups own)) t j c = omega arith
     exp_short (Var line name) t j c = omega (arith, name_short cs name.place name.text t t line)
     exp_short (Index line object key) t j c =
@@ -247,6 +213,7 @@ module _ (cs : List Const) where
         omega (arith, kept_short e (λ u i. exp_short e u i 2) true (length second) t j, exp_short d t (j + made_by e) 2, length-append (keep_code cs e true (length second) t j) second)
     exp_short (Paren line e) t j c = omega (arith, exp_short e t j 2)
     exp_short (Table line fs) t j c = omega (arith, fields_short fs 0 0 t j line)
+    exp_short _ t j c = omega arith
 
     -- a condition, and a first operand whose value is kept. The bound on the value's own code is given, since it is one of the same tree
     pub tested_short : (e : Exp) → ValueShort cs e → Short cs e

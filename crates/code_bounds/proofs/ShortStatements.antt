@@ -53,10 +53,7 @@ module _ (cs : List Const) where
 
   name_store_short : (place : Place) (text : List ℕ) (r v line : ℕ) → length (name_store cs place text r v line) ≤ 1
   name_store_short Unset text r v line = omega arith
-  name_store_short (LocalPlace n) text r v line = omega arith
-  name_store_short (Upvalue u) text r v line = omega arith
-  name_store_short (GlobalIn n) text r v line = omega arith
-  name_store_short (GlobalOf u) text r v line = omega arith
+  name_store_short _ text r v line = omega arith
 
   target_short : (e : Exp) (r j s v : ℕ) → length (target_code cs e r j) + length (store_code cs e s v) ≤ 6 * weight e
   target_short (Var line name) r j s v = omega (arith, name_target_short name.place name.text r line, name_store_short name.place name.text s v line)

@@ -6,7 +6,7 @@ use Rattle.tree_core.specs.declared.name.Declared.{Declared}
 use Rattle.tree_core.specs.declared.name.Place.{Place}
 use Rattle.tree_core.specs.declared.name.Place.TheVariants.{Unset, Upvalue, GlobalIn, GlobalOf, Local as LocalPlace}
 use Rattle.tree_core.specs.declared.operator.BinOp.{BinOp}
-use Rattle.tree_core.specs.declared.operator.BinOp.TheVariants.{Add as Plus, Sub as Minus, Mul as Times, Mod as Modulo, Idiv, Band, Bor, Bxor, Shl as ShiftLeft, Shr as ShiftRight, Concat as Join, Eq as Equal, Ne, Lt as Less, Le as AtMost, Gt, Ge}
+use Rattle.tree_core.specs.declared.operator.BinOp.TheVariants.{Add as Plus, Sub as Minus, Shl as ShiftLeft, Shr as ShiftRight, Concat as Join, Eq as Equal, Ne, Lt as Less, Le as AtMost, Gt, Ge}
 use Rattle.tree_core.specs.Tree.{Block, Falls, Returns, Body, BodyOf, Stats, EndStats, MoreStats, Stat, Empty, Local, LocalFunction, Assign, CallStat, Do, While, Repeat, If, IfElse, NumFor, NumForStep, GenFor, Label, Goto, Break, Arms, EndArms, MoreArms, Exp, Nil, True, False, Int, Str, Vararg, Function, Var, Index, Call, Method, Unary, Binary, And, Or, Paren, Table, Exps, EndExps, MoreExps, Fields, EndFields, MoreFields, Item, Keyed}
 use Rattle.tree_activation.specs.Activation.{line_of_end}
 use Rattle.tree_terms.specs.Bodies.{line_of_body, upvalues_of}
@@ -80,16 +80,6 @@ name_lines cs (GlobalOf u) text r t line h =
     either (nat_lt (number_in cs (StrConst text)) 256) _ _ (h, tt) (h, lines_both (loads cs (StrConst text) (t + 1) line) _ (loads_lines cs (StrConst text) (t + 1) line h) (h, tt))
 
 operator_lines : (op : BinOp) (x y t line : ℕ) → LineFits line → LinesFit (operator_code op x y t line)
-operator_lines Plus x y t line h = (h, (h, tt))
-operator_lines Minus x y t line h = (h, (h, tt))
-operator_lines Times x y t line h = (h, (h, tt))
-operator_lines Modulo x y t line h = (h, (h, tt))
-operator_lines Idiv x y t line h = (h, (h, tt))
-operator_lines Band x y t line h = (h, (h, tt))
-operator_lines Bor x y t line h = (h, (h, tt))
-operator_lines Bxor x y t line h = (h, (h, tt))
-operator_lines ShiftLeft x y t line h = (h, (h, tt))
-operator_lines ShiftRight x y t line h = (h, (h, tt))
 operator_lines Join x y t line h = (h, tt)
 operator_lines Equal x y t line h = (h, (h, (h, (h, tt))))
 operator_lines Ne x y t line h = (h, (h, (h, (h, tt))))
@@ -97,6 +87,7 @@ operator_lines Less x y t line h = (h, (h, (h, (h, tt))))
 operator_lines AtMost x y t line h = (h, (h, (h, (h, tt))))
 operator_lines Gt x y t line h = (h, (h, (h, (h, tt))))
 operator_lines Ge x y t line h = (h, (h, (h, (h, tt))))
+operator_lines _ x y t line h = (h, (h, tt))
 
 number_lines : (op : BinOp) (x n t line : ℕ) → LineFits line → LinesFit (number_code op x n t line)
 number_lines Plus x n t line h = (h, (h, tt))
@@ -109,13 +100,7 @@ number_lines Less x n t line h = (h, (h, (h, (h, tt))))
 number_lines AtMost x n t line h = (h, (h, (h, (h, tt))))
 number_lines Gt x n t line h = (h, (h, (h, (h, tt))))
 number_lines Ge x n t line h = (h, (h, (h, (h, tt))))
-number_lines Times x n t line h = tt
-number_lines Modulo x n t line h = tt
-number_lines Idiv x n t line h = tt
-number_lines Band x n t line h = tt
-number_lines Bor x n t line h = tt
-number_lines Bxor x n t line h = tt
-number_lines Join x n t line h = tt
+number_lines _ x n t line h = tt
 
 unless_lines : (at : Option ℕ) (xs ys : List Coded) → LinesFit xs → LinesFit ys → LinesFit (unless at xs ++ ys)
 unless_lines None xs ys h k = lines_both xs ys h k
@@ -148,14 +133,6 @@ operands_lines s at first code t by num h k g f = unless_lines at first _ h (sec
     second (a_number n) = f (seat at t) n
 
 constant_lines : (op : BinOp) (x n t line : ℕ) → LineFits line → LinesFit (constant_code op x n t line)
-constant_lines Plus x n t line h = (h, (h, tt))
-constant_lines Minus x n t line h = (h, (h, tt))
-constant_lines Times x n t line h = (h, (h, tt))
-constant_lines Modulo x n t line h = (h, (h, tt))
-constant_lines Idiv x n t line h = (h, (h, tt))
-constant_lines Band x n t line h = (h, (h, tt))
-constant_lines Bor x n t line h = (h, (h, tt))
-constant_lines Bxor x n t line h = (h, (h, tt))
 constant_lines Equal x n t line h = (h, (h, (h, (h, tt))))
 constant_lines Ne x n t line h = (h, (h, (h, (h, tt))))
 constant_lines ShiftLeft x n t line h = tt
@@ -165,6 +142,7 @@ constant_lines Less x n t line h = tt
 constant_lines AtMost x n t line h = tt
 constant_lines Gt x n t line h = tt
 constant_lines Ge x n t line h = tt
+constant_lines _ x n t line h = (h, (h, tt))
 
 lines_first : (n : ℕ) (xs : List Coded) → LinesFit xs → LinesFit (take n xs)
 lines_first zero xs h = tt
@@ -232,20 +210,8 @@ module _ (cs : List Const) where
   line_fits (Nil line) w = w
   line_fits (True line) w = w
   line_fits (False line) w = w
-  line_fits (Int line n) w = w.0
-  line_fits (Str line bytes) w = w.0
   line_fits (Vararg line) w = w
-  line_fits (Function line body) w = w.0
-  line_fits (Var line name) w = w.0
-  line_fits (Index line object key) w = w.0
-  line_fits (Call line f es) w = w.0
-  line_fits (Method line object name es) w = w.0
-  line_fits (Unary line op e) w = w.0
-  line_fits (Binary line op e d) w = w.0
-  line_fits (And line e d) w = w.0
-  line_fits (Or line e d) w = w.0
-  line_fits (Paren line e) w = w.0
-  line_fits (Table line fs) w = w.0
+  line_fits _ w = w.0
 
   -- where the lines of the value's code fit
 
@@ -266,17 +232,7 @@ module _ (cs : List Const) where
   compared_lines AtMost other by h g = g Le false true
   compared_lines Gt other by h g = g Lt true true
   compared_lines Ge other by h g = g Le true true
-  compared_lines Plus other by h g = h
-  compared_lines Minus other by h g = h
-  compared_lines Times other by h g = h
-  compared_lines Modulo other by h g = h
-  compared_lines Idiv other by h g = h
-  compared_lines Band other by h g = h
-  compared_lines Bor other by h g = h
-  compared_lines Bxor other by h g = h
-  compared_lines ShiftLeft other by h g = h
-  compared_lines ShiftRight other by h g = h
-  compared_lines Join other by h g = h
+  compared_lines _ other by h g = h
 
   comparison_lines : (line : ℕ) (op : BinOp) (e d : Exp) (k : Bool) (ahead t j : ℕ) → LineFits line → LinesFit (exp_code cs e t j 2) → LinesFit (exp_code cs d (t + 1) (j + made_by e) 2) → LinesFit (value_test cs (Binary line op e d) k ahead t j)
       → LinesFit (test_code cs (Binary line op e d) k ahead t j)
@@ -289,12 +245,8 @@ module _ (cs : List Const) where
 
   mutual
     pub exp_lines : (e : Exp) (t j c : ℕ) → ExpIsWritten e → LinesFit (exp_code cs e t j c)
-    exp_lines (Nil line) t j c w = (w, tt)
-    exp_lines (True line) t j c w = (w, tt)
-    exp_lines (False line) t j c w = (w, tt)
     exp_lines (Int line z) t j c w = integer_lines cs z t line w.0
     exp_lines (Str line bytes) t j c w = loads_lines cs (StrConst bytes) t line w.0
-    exp_lines (Vararg line) t j c w = (w, tt)
     exp_lines (Function line body) t j c w = (body_line body w.1, tt)
     exp_lines (Var line name) t j c w = name_lines cs name.place name.text t t line w.0
     exp_lines (Index line o k) t j c w =
@@ -321,6 +273,7 @@ module _ (cs : List Const) where
         lines_both (keep_code cs e true far t j) _ (kept_lines e true far t j w.1.0 (exp_lines e t j 2 w.1.0)) (exp_lines d t (j + made_by e) 2 w.1.1)
     exp_lines (Paren line e) t j c w = exp_lines e t j 2 w.1
     exp_lines (Table line fs) t j c w = (w.0, (w.0, fields_lines fs 0 0 t j line w.0 w.1))
+    exp_lines _ t j c w = (w, tt)
 
     tested_lines : (e : Exp) (k : Bool) (ahead t j : ℕ) → ExpIsWritten e → LinesFit (exp_code cs e t j 2) → LinesFit (test_code cs e k ahead t j)
     tested_lines (Paren line e) k ahead t j w h = tested_lines e k ahead t j w.1 h

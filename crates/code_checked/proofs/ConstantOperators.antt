@@ -2,7 +2,7 @@
 use Rattle.std.proofs.Common.{◌≡◌, ℕ, suc, ◌+◌, ◌<◌, ◌^◌, lit<, ℤ, Bool, true, false, not, ◌&&◌, ◌==◌, List, [], ◌∷◌, Option, Some, None, slice_get, refl, ap, subst, ◌∙◌, arith}
 use Rattle.std.specs.List.{list_any, list_all}
 use Rattle.tree_core.specs.declared.operator.BinOp.{BinOp}
-use Rattle.tree_core.specs.declared.operator.BinOp.TheVariants.{Add as Plus, Sub as Minus, Mul as Times, Mod as Modulo, Idiv, Band, Bor, Bxor, Shl as ShiftLeft, Shr as ShiftRight, Concat as Join, Eq as Equal, Ne, Lt as Less, Le as AtMost, Gt, Ge}
+use Rattle.tree_core.specs.declared.operator.BinOp.TheVariants.{Add as Plus, Sub as Minus, Mul as Times, Mod as Modulo, Idiv, Band, Bor, Bxor, Eq as Equal, Ne}
 use Rattle.tree_core.specs.Tree.{Exp}
 use Rattle.code_core.specs.declared.opcode.Opcode.{Opcode}
 use Rattle.code_core.specs.declared.opcode.Opcode.TheVariants.{AddK, SubK, MulK, ModK, IDivK, BAndK, BOrK, BXorK, MmBinK, EqK, Jmp, LoadTrue}
@@ -139,10 +139,4 @@ module _ (p : Prototype) where
   constant_piece Bxor d v x n t line is there xf nf tf = let i = arithmetic_integer Bxor d v refl is in summed_piece BXorK b_xor_k 15 x n t line i.0 refl (lit< tt) xf nf tf (there ∙ ap Some i.1)
   constant_piece Equal d v x n t line is there xf nf tf = equal_truth x n true t line v xf nf tf there
   constant_piece Ne d v x n t line is there xf nf tf = equal_truth x n false t line v xf nf tf there
-  constant_piece ShiftLeft d v x n t line is there xf nf tf = absurd (cc)
-  constant_piece ShiftRight d v x n t line is there xf nf tf = absurd (cc)
-  constant_piece Join d v x n t line is there xf nf tf = absurd (cc)
-  constant_piece Less d v x n t line is there xf nf tf = absurd (cc)
-  constant_piece AtMost d v x n t line is there xf nf tf = absurd (cc)
-  constant_piece Gt d v x n t line is there xf nf tf = absurd (cc)
-  constant_piece Ge d v x n t line is there xf nf tf = absurd (cc)
+  constant_piece _ d v x n t line is there xf nf tf = absurd (cc)

@@ -6,7 +6,7 @@ use Rattle.tree_core.specs.declared.name.Place.{Place}
 use Rattle.tree_core.specs.declared.name.Place.TheVariants.{Unset, Upvalue, GlobalIn, GlobalOf}
 use Rattle.tree_core.specs.declared.name.Place.TheVariants.{Local as LocalPlace}
 use Rattle.tree_core.specs.declared.operator.BinOp.{BinOp}
-use Rattle.tree_core.specs.Tree.{Block, Falls, Returns, Stats, EndStats, MoreStats, Stat, Empty, Local, LocalFunction, Assign, CallStat, Do, While, Repeat, If, IfElse, NumFor, NumForStep, GenFor, Label, Goto, Break, Arms, EndArms, MoreArms, Exp, Nil, True, False, Int, Str, Vararg, Function, Var, Index, Call, Method, Unary, Binary, And, Or, Paren, Table, Exps, EndExps, MoreExps, Fields, EndFields, MoreFields, Item, Keyed}
+use Rattle.tree_core.specs.Tree.{Block, Falls, Returns, Stats, EndStats, MoreStats, Stat, Local, Assign, CallStat, Do, While, Repeat, If, IfElse, NumFor, NumForStep, GenFor, Arms, EndArms, MoreArms, Exp, Nil, True, False, Int, Str, Var, Index, Call, Method, Unary, Binary, And, Or, Paren, Table, Exps, EndExps, MoreExps, Fields, EndFields, MoreFields, Item, Keyed}
 use Rattle.code_core.specs.declared.proto.Const.{Const}
 use Rattle.code_core.specs.declared.proto.Const.TheVariants.{Nil as NilConst, False as FalseConst, True as TrueConst, Int as IntConst, Str as StrConst}
 use Rattle.code_of.specs.ConstantOperands.{any_constant, constant_of, global_constant, target_constant, stored_constant}
@@ -90,13 +90,8 @@ stored_fits (MoreExps x EndExps) (MoreExps e EndExps) cs w h = target_fits x e c
 
 mutual
   pub exp_fits : (x : Exp) (cs : List Const) → ExpIsWritten x → AllFit cs → AllFit (of_exp x cs)
-  exp_fits (Nil line) cs w h = h
-  exp_fits (True line) cs w h = h
-  exp_fits (False line) cs w h = h
   exp_fits (Int line z) cs w h = integer_fits (is_small z) z cs w.1 h
   exp_fits (Str line bytes) cs w h = with_fits (StrConst bytes) cs w.1 h
-  exp_fits (Vararg line) cs w h = h
-  exp_fits (Function line body) cs w h = h
   exp_fits (Var line name) cs w h = name_fits_in name.place name.text cs w.1 h
   exp_fits (Index line object key) cs w h = exp_fits key (of_exp object cs) w.1.1 (exp_fits object cs w.1.0 h)
   exp_fits (Call line f es) cs w h = exps_fits es (of_exp f cs) w.1.1 (exp_fits f cs w.1.0 h)
@@ -107,6 +102,7 @@ mutual
   exp_fits (Or line e d) cs w h = exp_fits d (of_exp e cs) w.1.1 (exp_fits e cs w.1.0 h)
   exp_fits (Paren line e) cs w h = exp_fits e cs w.1 h
   exp_fits (Table line fs) cs w h = fields_fits fs cs w.1 h
+  exp_fits _ cs w h = h
 
   pub exps_fits : (x : Exps) (cs : List Const) → ExpsAreWritten x → AllFit cs → AllFit (of_exps x cs)
   exps_fits EndExps cs w h = h
@@ -121,9 +117,7 @@ mutual
 
 mutual
   pub stat_fits : (x : Stat) (cs : List Const) → StatIsWritten x → AllFit cs → AllFit (of_stat x cs)
-  stat_fits (Empty line) cs w h = h
   stat_fits (Local line names es) cs w h = exps_fits es cs w.1.1 h
-  stat_fits (LocalFunction line name body) cs w h = h
   stat_fits (Assign line targets es) cs w h = exps_fits es (with_any (stored_constant targets es) (of_exps targets cs)) w.1.1 (stored_fits targets es (of_exps targets cs) w.1.1 (exps_fits targets cs w.1.0 h))
   stat_fits (CallStat line e) cs w h = exp_fits e cs w.1 h
   stat_fits (Do line block) cs w h = block_fits block cs w.1 h
@@ -134,9 +128,7 @@ mutual
   stat_fits (NumFor line name from limit block) cs w h = block_fits block (of_exp limit (of_exp from cs)) w.1.1.1.1 (exp_fits limit (of_exp from cs) w.1.1.1.0 (exp_fits from cs w.1.1.0 h))
   stat_fits (NumForStep line name from limit step block) cs w h = block_fits block (of_exp step (of_exp limit (of_exp from cs))) w.1.1.1.1.1 (exp_fits step (of_exp limit (of_exp from cs)) w.1.1.1.1.0 (exp_fits limit (of_exp from cs) w.1.1.1.0 (exp_fits from cs w.1.1.0 h)))
   stat_fits (GenFor line names es block) cs w h = block_fits block (of_exps es cs) w.1.1.1 (exps_fits es cs w.1.1.0 h)
-  stat_fits (Label line name) cs w h = h
-  stat_fits (Goto line name) cs w h = h
-  stat_fits (Break line) cs w h = h
+  stat_fits _ cs w h = h
 
   pub arms_fits : (x : Arms) (cs : List Const) → ArmsAreWritten x → AllFit cs → AllFit (of_arms x cs)
   arms_fits EndArms cs w h = h

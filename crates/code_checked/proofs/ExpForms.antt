@@ -3,8 +3,8 @@ use Rattle.std.specs.Prelude.{◌%◌}
 use Rattle.std.proofs.Common.{◌≡◌, ℕ, ◌+◌, ◌<◌, ◌≤◌, ◌^◌, lit<, Bool, true, false, cond, List, [], ◌∷◌, ◌++◌, length, Option, Some, None, refl, sym, ap, subst, ◌∙◌, arith, length-append}
 use Rattle.tree_core.specs.declared.name.Name.{Name}
 use Rattle.tree_core.specs.declared.name.Place.{Place}
-use Rattle.tree_core.specs.declared.name.Place.TheVariants.{Unset, Upvalue, GlobalIn, GlobalOf, Local as LocalPlace}
-use Rattle.tree_core.specs.Tree.{Body, BodyOf, Exp, Nil, True, False, Int, Str, Vararg, Function, Var, Index, Call, Method, Unary, Binary, And, Or, Paren, Table, Exps, EndExps, MoreExps, Fields, EndFields, MoreFields, Item, Keyed}
+use Rattle.tree_core.specs.declared.name.Place.TheVariants.{Local as LocalPlace}
+use Rattle.tree_core.specs.Tree.{Body, BodyOf, Exp, Str, Function, Var, Index, Call, Method, Unary, Binary, Paren, Exps, EndExps, MoreExps, Fields, EndFields, MoreFields, Item, Keyed}
 use Rattle.tree_core.specs.declared.operator.UnOp.{UnOp}
 use Rattle.tree_core.specs.declared.operator.BinOp.{BinOp}
 use Rattle.code_core.specs.declared.opcode.Opcode.TheVariants.{GetTable, GetI, GetField}
@@ -47,51 +47,20 @@ append_nil (x ∷ xs) = ap (λ l. x ∷ l) (append_nil xs)
 
 -- the part of a table that the last of two trees makes
 pub exp_register : (source : Option (List ℕ)) (p : Prototype) (e : Exp) (size t : ℕ) → ExpIsNear source p e size t → IsRegister t
-exp_register source p (Nil line) size t h = h.0
-exp_register source p (True line) size t h = h.0
-exp_register source p (False line) size t h = h.0
-exp_register source p (Int line z) size t h = h.0
-exp_register source p (Str line bytes) size t h = h.0
-exp_register source p (Vararg line) size t h = h.0
-exp_register source p (Function line body) size t h = h.0
-exp_register source p (Var line name) size t h = h.0
-exp_register source p (Index line o k) size t h = h.0
 exp_register source p (Call line f es) size t h = let r = h.0 in omega (arith, r)
 exp_register source p (Method line o name es) size t h = let r = h.0 in omega (arith, r)
-exp_register source p (Unary line op e) size t h = h.0
-exp_register source p (Binary line op e d) size t h = h.0
-exp_register source p (And line e d) size t h = h.0
-exp_register source p (Or line e d) size t h = h.0
-exp_register source p (Paren line e) size t h = h.0
-exp_register source p (Table line fs) size t h = h.0
+exp_register source p _ size t h = h.0
 
 -- a local's register has 8 bits
 
 place_near : (ups : ℕ) (q : Place) (r : ℕ) → local_at q ≡ Some r → NameIsNear ups q → r < 2 ^ 8
 place_near ups (LocalPlace n) r e h = let same = some_is n r e in omega (arith, same, h)
-place_near ups Unset r e h = absurd (cc)
-place_near ups (Upvalue u) r e h = absurd (cc)
-place_near ups (GlobalIn n) r e h = absurd (cc)
-place_near ups (GlobalOf u) r e h = absurd (cc)
+place_near ups _ r e h = absurd (cc)
 
 pub local_near : (source : Option (List ℕ)) (p : Prototype) (e : Exp) (size t r : ℕ) → local_of e ≡ Some r → ExpIsNear source p e size t → r < 2 ^ 8
 local_near source p (Var line name) size t r e h = place_near (length p.own.upvalues) name.place r e h.1
 local_near source p (Paren line inner) size t r e h = local_near source p inner size t r e h.1
-local_near source p (Nil line) size t r e h = absurd (cc)
-local_near source p (True line) size t r e h = absurd (cc)
-local_near source p (False line) size t r e h = absurd (cc)
-local_near source p (Int line z) size t r e h = absurd (cc)
-local_near source p (Str line bytes) size t r e h = absurd (cc)
-local_near source p (Vararg line) size t r e h = absurd (cc)
-local_near source p (Function line body) size t r e h = absurd (cc)
-local_near source p (Index line o k) size t r e h = absurd (cc)
-local_near source p (Call line f es) size t r e h = absurd (cc)
-local_near source p (Method line o name es) size t r e h = absurd (cc)
-local_near source p (Unary line op inner) size t r e h = absurd (cc)
-local_near source p (Binary line op left right) size t r e h = absurd (cc)
-local_near source p (And line left right) size t r e h = absurd (cc)
-local_near source p (Or line left right) size t r e h = absurd (cc)
-local_near source p (Table line fs) size t r e h = absurd (cc)
+local_near source p _ size t r e h = absurd (cc)
 
 -- the register in which an operand stands that is alone
 pub seat_near : (source : Option (List ℕ)) (p : Prototype) (e : Exp) (size t : ℕ) → t < 2 ^ 8 → ExpIsNear source p e size t → seat (local_of e) t < 2 ^ 8

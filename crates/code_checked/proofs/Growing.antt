@@ -4,7 +4,7 @@ use Rattle.std.specs.Prelude.{ℤ}
 use Rattle.tree_core.specs.declared.name.Place.{Place}
 use Rattle.tree_core.specs.declared.name.Place.TheVariants.{Unset, Upvalue, GlobalIn, GlobalOf}
 use Rattle.tree_core.specs.declared.name.Place.TheVariants.{Local as LocalPlace}
-use Rattle.tree_core.specs.Tree.{Block, Falls, Returns, Stats, EndStats, MoreStats, Stat, Empty, Local, LocalFunction, Assign, CallStat, Do, While, Repeat, If, IfElse, NumFor, NumForStep, GenFor, Label, Goto, Break, Arms, EndArms, MoreArms, Exp, Nil, True, False, Int, Str, Vararg, Function, Var, Index, Call, Method, Unary, Binary, And, Or, Paren, Table, Exps, EndExps, MoreExps, Fields, EndFields, MoreFields, Field, Item, Keyed}
+use Rattle.tree_core.specs.Tree.{Block, Falls, Returns, Stats, EndStats, MoreStats, Stat, Local, LocalFunction, Assign, CallStat, Do, While, Repeat, If, IfElse, NumFor, NumForStep, GenFor, Arms, EndArms, MoreArms, Exp, Int, Str, Function, Var, Index, Call, Method, Unary, Binary, And, Or, Paren, Table, Exps, EndExps, MoreExps, Fields, EndFields, MoreFields, Field, Item, Keyed}
 use Rattle.code_core.specs.declared.proto.Const.{Const}
 use Rattle.code_core.specs.declared.proto.Const.TheVariants.{Int as IntConst, Str as StrConst}
 use Rattle.code_core.specs.Prototype.{Prototype, Prototypes}
@@ -29,13 +29,8 @@ grows_integer false z cs = grows_with (IntConst z) cs
 
 mutual
   pub grows_exp : (x : Exp) (cs : List Const) → Grows cs (of_exp x cs)
-  grows_exp (Nil line) cs = grows_none cs
-  grows_exp (True line) cs = grows_none cs
-  grows_exp (False line) cs = grows_none cs
   grows_exp (Int line z) cs = grows_integer (is_small z) z cs
   grows_exp (Str line bytes) cs = grows_with (StrConst bytes) cs
-  grows_exp (Vararg line) cs = grows_none cs
-  grows_exp (Function line body) cs = grows_none cs
   grows_exp (Var line name) cs = grows_name name.place name.text cs
   grows_exp (Index line o k) cs = grows_then cs (of_exp o cs) (of_exp k (of_exp o cs)) (grows_exp o cs) (grows_exp k (of_exp o cs))
   grows_exp (Call line f es) cs = grows_then cs (of_exp f cs) (of_exps es (of_exp f cs)) (grows_exp f cs) (grows_exps es (of_exp f cs))
@@ -48,6 +43,7 @@ mutual
   grows_exp (Or line e d) cs = grows_then cs (of_exp e cs) (of_exp d (of_exp e cs)) (grows_exp e cs) (grows_exp d (of_exp e cs))
   grows_exp (Paren line e) cs = grows_exp e cs
   grows_exp (Table line fs) cs = grows_fields fs cs
+  grows_exp _ cs = grows_none cs
 
   pub grows_exps : (x : Exps) (cs : List Const) → Grows cs (of_exps x cs)
   grows_exps EndExps cs = grows_none cs
@@ -65,9 +61,7 @@ mutual
 
 mutual
   pub grows_stat : (x : Stat) (cs : List Const) → Grows cs (of_stat x cs)
-  grows_stat (Empty line) cs = grows_none cs
   grows_stat (Local line names es) cs = grows_exps es cs
-  grows_stat (LocalFunction line name body) cs = grows_none cs
   grows_stat (Assign line ts es) cs =
       let named = with_any (stored_constant ts es) (of_exps ts cs) in
       grows_then cs named (of_exps es named) (grows_then cs (of_exps ts cs) named (grows_exps ts cs) (grows_any (stored_constant ts es) (of_exps ts cs))) (grows_exps es named)
@@ -80,9 +74,7 @@ mutual
   grows_stat (NumFor line name e d b) cs = grows_then cs (of_exp e cs) (of_block b (of_exp d (of_exp e cs))) (grows_exp e cs) (grows_then (of_exp e cs) (of_exp d (of_exp e cs)) (of_block b (of_exp d (of_exp e cs))) (grows_exp d (of_exp e cs)) (grows_block b (of_exp d (of_exp e cs))))
   grows_stat (NumForStep line name e d s b) cs = grows_then cs (of_exp e cs) (of_block b (of_exp s (of_exp d (of_exp e cs)))) (grows_exp e cs) (grows_then (of_exp e cs) (of_exp d (of_exp e cs)) (of_block b (of_exp s (of_exp d (of_exp e cs)))) (grows_exp d (of_exp e cs)) (grows_then (of_exp d (of_exp e cs)) (of_exp s (of_exp d (of_exp e cs))) (of_block b (of_exp s (of_exp d (of_exp e cs)))) (grows_exp s (of_exp d (of_exp e cs))) (grows_block b (of_exp s (of_exp d (of_exp e cs))))))
   grows_stat (GenFor line names es b) cs = grows_then cs (of_exps es cs) (of_block b (of_exps es cs)) (grows_exps es cs) (grows_block b (of_exps es cs))
-  grows_stat (Label line name) cs = grows_none cs
-  grows_stat (Goto line name) cs = grows_none cs
-  grows_stat (Break line) cs = grows_none cs
+  grows_stat _ cs = grows_none cs
 
   pub grows_arms : (x : Arms) (cs : List Const) → Grows cs (of_arms x cs)
   grows_arms EndArms cs = grows_none cs
@@ -102,14 +94,7 @@ same_number p j ps h = let e : j ≡ j + 0 = omega arith in subst (λ k. Functio
 module _ (source : Option (List ℕ)) (p : Prototype) where
   mutual
     pub after_exp : (x : Exp) (j : ℕ) (rest : Prototypes) → Functions p j (from_exp source x rest) → Functions p (j + made_by x) rest
-    after_exp (Nil line) j rest h = same_number p j rest h
-    after_exp (True line) j rest h = same_number p j rest h
-    after_exp (False line) j rest h = same_number p j rest h
-    after_exp (Int line z) j rest h = same_number p j rest h
-    after_exp (Str line bytes) j rest h = same_number p j rest h
-    after_exp (Vararg line) j rest h = same_number p j rest h
     after_exp (Function line body) j rest h = functions_next p j (parts_of source body) (from_body source body) rest h
-    after_exp (Var line name) j rest h = same_number p j rest h
     after_exp (Index line o k) j rest h = let sum : (j + made_by o) + made_by k ≡ j + (made_by o + made_by k) = omega arith in subst (λ k. Functions p k rest) sum (after_exp k (j + made_by o) rest (after_exp o j (from_exp source k rest) h))
     after_exp (Call line f es) j rest h = let sum : (j + made_by f) + made_in es ≡ j + (made_by f + made_in es) = omega arith in subst (λ k. Functions p k rest) sum (after_exps es (j + made_by f) rest (after_exp f j (from_exps source es rest) h))
     after_exp (Method line o name es) j rest h = let sum : (j + made_by o) + made_in es ≡ j + (made_by o + made_in es) = omega arith in subst (λ k. Functions p k rest) sum (after_exps es (j + made_by o) rest (after_exp o j (from_exps source es rest) h))
@@ -119,6 +104,7 @@ module _ (source : Option (List ℕ)) (p : Prototype) where
     after_exp (Or line e d) j rest h = let sum : (j + made_by e) + made_by d ≡ j + (made_by e + made_by d) = omega arith in subst (λ k. Functions p k rest) sum (after_exp d (j + made_by e) rest (after_exp e j (from_exp source d rest) h))
     after_exp (Paren line e) j rest h = (after_exp e j rest h)
     after_exp (Table line fs) j rest h = (after_fields fs j rest h)
+    after_exp _ j rest h = same_number p j rest h
 
     pub after_exps : (x : Exps) (j : ℕ) (rest : Prototypes) → Functions p j (from_exps source x rest) → Functions p (j + made_in x) rest
     after_exps EndExps j rest h = same_number p j rest h
@@ -134,7 +120,6 @@ module _ (source : Option (List ℕ)) (p : Prototype) where
 
   mutual
     pub after_stat : (x : Stat) (j : ℕ) (rest : Prototypes) → Functions p j (from_stat source x rest) → Functions p (j + made_by_stat x) rest
-    after_stat (Empty line) j rest h = same_number p j rest h
     after_stat (Local line names es) j rest h = (after_exps es j rest h)
     after_stat (LocalFunction line name body) j rest h = functions_next p j (parts_of source body) (from_body source body) rest h
     after_stat (Assign line ts es) j rest h = let sum : (j + made_in ts) + made_in es ≡ j + (made_in ts + made_in es) = omega arith in subst (λ k. Functions p k rest) sum (after_exps es (j + made_in ts) rest (after_exps ts j (from_exps source es rest) h))
@@ -147,9 +132,7 @@ module _ (source : Option (List ℕ)) (p : Prototype) where
     after_stat (NumFor line name e d b) j rest h = let sum : ((j + made_by e) + made_by d) + made_in_block b ≡ j + (made_by e + made_by d + made_in_block b) = omega arith in subst (λ k. Functions p k rest) sum (after_block b ((j + made_by e) + made_by d) rest (after_exp d (j + made_by e) (from_block source b rest) (after_exp e j (from_exp source d (from_block source b rest)) h)))
     after_stat (NumForStep line name e d s b) j rest h = let sum : (((j + made_by e) + made_by d) + made_by s) + made_in_block b ≡ j + (made_by e + made_by d + made_by s + made_in_block b) = omega arith in subst (λ k. Functions p k rest) sum (after_block b (((j + made_by e) + made_by d) + made_by s) rest (after_exp s ((j + made_by e) + made_by d) (from_block source b rest) (after_exp d (j + made_by e) (from_exp source s (from_block source b rest)) (after_exp e j (from_exp source d (from_exp source s (from_block source b rest))) h))))
     after_stat (GenFor line names es b) j rest h = let sum : (j + made_in es) + made_in_block b ≡ j + (made_in es + made_in_block b) = omega arith in subst (λ k. Functions p k rest) sum (after_block b (j + made_in es) rest (after_exps es j (from_block source b rest) h))
-    after_stat (Label line name) j rest h = same_number p j rest h
-    after_stat (Goto line name) j rest h = same_number p j rest h
-    after_stat (Break line) j rest h = same_number p j rest h
+    after_stat _ j rest h = same_number p j rest h
 
     pub after_arms : (x : Arms) (j : ℕ) (rest : Prototypes) → Functions p j (from_arms source x rest) → Functions p (j + made_in_arms x) rest
     after_arms EndArms j rest h = same_number p j rest h

@@ -1,6 +1,6 @@
 -- All functions of a tree keep the rules, each with those in it.
 use Rattle.std.proofs.Common.{ℕ, ◌+◌, ◌*◌, ◌%◌, Bool, List, length, Option, IsTrue, true, false, arith}
-use Rattle.tree_core.specs.Tree.{Block, Falls, Returns, Body, BodyOf, Stats, EndStats, MoreStats, Stat, Empty, Local, LocalFunction, Assign, CallStat, Do, While, Repeat, If, IfElse, NumFor, NumForStep, GenFor, Label, Goto, Break, Arms, EndArms, MoreArms, Exp, Nil, True, False, Int, Str, Vararg, Function, Var, Index, Call, Method, Unary, Binary, And, Or, Paren, Table, Exps, EndExps, MoreExps, Fields, EndFields, MoreFields, Item, Keyed}
+use Rattle.tree_core.specs.Tree.{Block, Falls, Returns, Body, BodyOf, Stats, EndStats, MoreStats, Stat, Local, LocalFunction, Assign, CallStat, Do, While, Repeat, If, IfElse, NumFor, NumForStep, GenFor, Arms, EndArms, MoreArms, Exp, Function, Var, Index, Call, Method, Unary, Binary, And, Or, Paren, Table, Exps, EndExps, MoreExps, Fields, EndFields, MoreFields, Item, Keyed}
 use Rattle.code_core.specs.Prototype.{Prototype, Prototypes, none, more}
 use Rattle.code_core.specs.Writable.{name_fits}
 use Rattle.code_core.specs.Check.{IsChecked}
@@ -19,13 +19,6 @@ module _ (source : Option (List ℕ)) (named : IsTrue (name_fits source)) where
 
   mutual
     keep_exp : (p : Prototype) (e : Exp) (size t : ℕ) (rest : Prototypes) → ExpIsNear source p e size t → ExpIsWritten e → AllKeep source rest → AllKeep source (from_exp source e rest)
-    keep_exp p (Nil line) size t rest near w others = others
-    keep_exp p (True line) size t rest near w others = others
-    keep_exp p (False line) size t rest near w others = others
-    keep_exp p (Int line z) size t rest near w others = others
-    keep_exp p (Str line bytes) size t rest near w others = others
-    keep_exp p (Vararg line) size t rest near w others = others
-    keep_exp p (Var line name) size t rest near w others = others
     keep_exp p (Function line body) size t rest near w others = with_function body rest (keep_body body near.1.1 w.1) others
     keep_exp p (Index line object key) size t rest near w others = keep_exp p object size t (from_exp source key rest) near.1.0 w.1.0 (keep_exp p key size (t + 1) rest near.1.1 w.1.1 others)
     keep_exp p (Call line f es) size t rest near w others = keep_exp p f size t (from_exps source es rest) near.1.0 w.1.0 (keep_exps p es size (t + 1) rest near.1.1 w.1.1 others)
@@ -36,6 +29,7 @@ module _ (source : Option (List ℕ)) (named : IsTrue (name_fits source)) where
     keep_exp p (Or line e d) size t rest near w others = keep_exp p e size t (from_exp source d rest) near.1.0 w.1.0 (keep_exp p d size t rest near.1.1 w.1.1 others)
     keep_exp p (Paren line e) size t rest near w others = keep_exp p e size t rest near.1 w.1 others
     keep_exp p (Table line fs) size t rest near w others = keep_fields p fs 0 size t rest near.1 w.1 others
+    keep_exp p _ size t rest near w others = others
 
     keep_exps : (p : Prototype) (es : Exps) (size t : ℕ) (rest : Prototypes) → ExpsAreNear source p es size t → ExpsAreWritten es → AllKeep source rest → AllKeep source (from_exps source es rest)
     keep_exps p EndExps size t rest near w others = others
@@ -56,10 +50,6 @@ module _ (source : Option (List ℕ)) (named : IsTrue (name_fits source)) where
     keep_targets p (MoreExps e es) size r rest near w others = keep_target p e size r (from_exps source es rest) near.0 w.0 (keep_targets p es size (r + 2) rest near.1 w.1 others)
 
     keep_stat : (p : Prototype) (s : Stat) (closing : Bool) (t j : ℕ) (rest : Prototypes) → StatIsNear source p s closing t j → StatIsWritten s → AllKeep source rest → AllKeep source (from_stat source s rest)
-    keep_stat p (Empty line) closing t j rest near w others = others
-    keep_stat p (Label line name) closing t j rest near w others = others
-    keep_stat p (Goto line name) closing t j rest near w others = others
-    keep_stat p (Break line) closing t j rest near w others = others
     keep_stat p (Local line names es) closing t j rest near w others = keep_exps p es t t rest near.1 w.1.1 others
     keep_stat p (LocalFunction line name body) closing t j rest near w others = with_function body rest (keep_body body near.1.1 w.1.1) others
     keep_stat p (Assign line targets es) closing t j rest near w others = keep_targets p targets t t (from_exps source es rest) near.1.0 w.1.0 (keep_exps p es t (t + 2 * count targets) rest near.1.1 w.1.1 others)
@@ -72,6 +62,7 @@ module _ (source : Option (List ℕ)) (named : IsTrue (name_fits source)) where
     keep_stat p (NumFor line name from limit block) closing t j rest near w others = keep_exp p from t t (from_exp source limit (from_block source block rest)) near.1.0 w.1.1.0 (keep_exp p limit t (t + 1) (from_block source block rest) near.1.1.0 w.1.1.1.0 (keep_block p block closing (t + 4) (j + made_by from + made_by limit) rest near.1.1.1.1 w.1.1.1.1 others))
     keep_stat p (NumForStep line name from limit step block) closing t j rest near w others = keep_exp p from t t (from_exp source limit (from_exp source step (from_block source block rest))) near.1.0 w.1.1.0 (keep_exp p limit t (t + 1) (from_exp source step (from_block source block rest)) near.1.1.0 w.1.1.1.0 (keep_exp p step t (t + 2) (from_block source block rest) near.1.1.1.0 w.1.1.1.1.0 (keep_block p block closing (t + 4) (j + made_by from + made_by limit + made_by step) rest near.1.1.1.1.1 w.1.1.1.1.1 others)))
     keep_stat p (GenFor line names es block) closing t j rest near w others = keep_exps p es t t (from_block source block rest) near.1.0 w.1.1.0 (keep_block p block true (t + 4 + length names) (j + made_in es) rest near.1.1.1 w.1.1.1 others)
+    keep_stat p _ closing t j rest near w others = others
 
     keep_arms : (p : Prototype) (a : Arms) (closing : Bool) (t j : ℕ) (rest : Prototypes) → ArmsAreNear source p a closing t j → ArmsAreWritten a → AllKeep source rest → AllKeep source (from_arms source a rest)
     keep_arms p EndArms closing t j rest near w others = others

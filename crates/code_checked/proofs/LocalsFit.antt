@@ -3,7 +3,7 @@ use Rattle.std.proofs.Common.{◌≡◌, ℕ, zero, suc, ◌+◌, ◌<◌, ◌�
 use Rattle.std.specs.List.{list_all}
 use Rattle.tree_core.specs.declared.name.Name.{Name}
 use Rattle.tree_core.specs.declared.name.Declared.{Declared}
-use Rattle.tree_core.specs.Tree.{Block, Falls, Returns, Body, BodyOf, Stats, EndStats, MoreStats, Stat, Empty, Local, LocalFunction, Assign, CallStat, Do, While, Repeat, If, IfElse, NumFor, NumForStep, GenFor, Label, Goto, Break, Arms, EndArms, MoreArms}
+use Rattle.tree_core.specs.Tree.{Block, Falls, Returns, Body, BodyOf, Stats, EndStats, MoreStats, Stat, Local, LocalFunction, Do, While, Repeat, If, IfElse, NumFor, NumForStep, GenFor, Arms, EndArms, MoreArms}
 use Rattle.code_core.specs.declared.proto.Const.{Const}
 use Rattle.code_core.specs.declared.proto.LocVar.{LocVar}
 use Rattle.code_core.specs.Writable.{name_fits, local_fits}
@@ -61,11 +61,6 @@ module _ (cs : List Const) (back : Leaving) (n : ℕ) where
 
   mutual
     stat_fit : (s : Stat) (closing : Bool) (t j pc : ℕ) → StatIsWritten s → pc + stat_size cs back s closing t j ≤ n → LocalsFit n (within_stat cs back s closing t j pc)
-    stat_fit (Empty line) closing t j pc w le = tt
-    stat_fit (Local line names es) closing t j pc w le = tt
-    stat_fit (LocalFunction line name body) closing t j pc w le = tt
-    stat_fit (Assign line targets es) closing t j pc w le = tt
-    stat_fit (CallStat line e) closing t j pc w le = tt
     stat_fit (Do line block) closing t j pc w le = block_fit block closing t t j pc w.1 le
     stat_fit (While line e block) closing t j pc w le = block_fit block closing t t (j + made_by e) (pc + length (test_code cs e true 0 t j)) w.1.1 (omega (arith, le))
     stat_fit (Repeat line block e) closing t j pc w le = open_fit block closing t j pc (pc + stat_size cs back (Repeat line block e) closing t j) w.1.0 (omega (arith, le)) le
@@ -93,9 +88,7 @@ module _ (cs : List Const) (back : Leaving) (n : ℕ) where
         let size = block_size cs back block true (t + 4) (t + 4 + length names) k in
         let end = pc + stat_size cs back (GenFor line names es block) closing t j in
         locals_both n (looped cs back 4 names place size end) _ (looped_fit 4 names place size end w.1.0 (omega arith) le) (block_fit block true (t + 4) (t + 4 + length names) k (place + 1) w.1.1.1 (omega (arith, le)))
-    stat_fit (Label line name) closing t j pc w le = tt
-    stat_fit (Goto line name) closing t j pc w le = tt
-    stat_fit (Break line) closing t j pc w le = tt
+    stat_fit _ closing t j pc w le = tt
 
     arms_fit : (arms : Arms) (rest : ℕ) (closing : Bool) (t j pc : ℕ) → ArmsAreWritten arms → pc + arms_size cs back arms rest closing t j ≤ n → LocalsFit n (within_arms cs back arms rest closing t j pc)
     arms_fit EndArms rest closing t j pc w le = tt

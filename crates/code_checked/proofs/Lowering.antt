@@ -1,6 +1,6 @@
 -- What has registers from one on has them from a lower one on.
 use Rattle.std.proofs.Common.{ℕ, ◌+◌, ◌%◌, ◌≤◌, List, Option, arith}
-use Rattle.tree_core.specs.Tree.{Exp, Nil, True, False, Int, Str, Vararg, Function, Var, Index, Call, Method, Unary, Binary, And, Or, Paren, Table, Exps, EndExps, MoreExps, Fields, EndFields, MoreFields, Item, Keyed}
+use Rattle.tree_core.specs.Tree.{Exp, Vararg, Function, Var, Index, Call, Method, Unary, Binary, And, Or, Paren, Table, Exps, EndExps, MoreExps, Fields, EndFields, MoreFields, Item, Keyed}
 use Rattle.code_core.specs.Prototype.{Prototype}
 use Rattle.code_checked.specs.Near.{ExpIsNear, ExpsAreNear, FieldsAreNear}
 
@@ -19,11 +19,7 @@ module _ (source : Option (List ℕ)) (p : Prototype) where
     exp_lower (Or line e d) size t u le h = let r = h.0 in (omega (arith, le, r), (exp_lower e size t u le h.1.0, exp_lower d size t u le h.1.1))
     exp_lower (Paren line e) size t u le h = let r = h.0 in (omega (arith, le, r), exp_lower e size t u le h.1)
     exp_lower (Table line fs) size t u le h = let r = h.0 in (omega (arith, le, r), fields_lower fs 0 size t u le h.1)
-    exp_lower (Nil line) size t u le h = let r = h.0 in (omega (arith, le, r), tt)
-    exp_lower (True line) size t u le h = let r = h.0 in (omega (arith, le, r), tt)
-    exp_lower (False line) size t u le h = let r = h.0 in (omega (arith, le, r), tt)
-    exp_lower (Int line z) size t u le h = let r = h.0 in (omega (arith, le, r), tt)
-    exp_lower (Str line bytes) size t u le h = let r = h.0 in (omega (arith, le, r), tt)
+    exp_lower _ size t u le h = let r = h.0 in (omega (arith, le, r), tt)
 
     pub exps_lower : (es : Exps) (size t u : ℕ) → t ≤ u → ExpsAreNear source p es size u → ExpsAreNear source p es size t
     exps_lower EndExps size t u le h = tt

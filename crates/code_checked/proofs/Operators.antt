@@ -107,10 +107,4 @@ module _ (p : Prototype) where
   number_piece AtMost d x n t line e xf tf = number_truth LeI (first_le_i p) x n true t line (numeral_is d 128 n e).small xf tf
   number_piece Gt d x n t line e xf tf = number_truth GtI (first_gt_i p) x n true t line (numeral_is d 128 n e).small xf tf
   number_piece Ge d x n t line e xf tf = number_truth GeI (first_ge_i p) x n true t line (numeral_is d 128 n e).small xf tf
-  number_piece Times d x n t line e xf tf = absurd (numeral_none d n e)
-  number_piece Modulo d x n t line e xf tf = absurd (numeral_none d n e)
-  number_piece Idiv d x n t line e xf tf = absurd (numeral_none d n e)
-  number_piece Band d x n t line e xf tf = absurd (numeral_none d n e)
-  number_piece Bor d x n t line e xf tf = absurd (numeral_none d n e)
-  number_piece Bxor d x n t line e xf tf = absurd (numeral_none d n e)
-  number_piece Join d x n t line e xf tf = absurd (numeral_none d n e)
+  number_piece _ d x n t line e xf tf = absurd (numeral_none d n e)

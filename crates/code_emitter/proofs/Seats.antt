@@ -2,7 +2,7 @@
 use Rattle.std.proofs.Common.{◌≡◌, ℕ, ◌+◌, Bool, true, false, cond, List, [], ◌++◌, Option, Some, None, refl, sym, ap, ap₂, ◌∙◌, arith, append-nil, append_assoc}
 use Rattle.std.specs.Prelude.{is_some}
 use Rattle.tree_core.specs.declared.operator.BinOp.{BinOp}
-use Rattle.tree_core.specs.declared.operator.BinOp.TheVariants.{Add as Plus, Sub as Minus, Mul as Times, Mod as Modulo, Idiv, Band, Bor, Bxor, Shl as ShiftLeft, Shr as ShiftRight, Concat as Join, Eq as Equal, Ne, Lt as Less, Le as AtMost, Gt, Ge}
+use Rattle.tree_core.specs.declared.operator.BinOp.TheVariants.{Concat as Join}
 use Rattle.tree_core.specs.Tree.{Exp}
 use Rattle.code_of.specs.Coded.{Coded}
 use Rattle.code_of.specs.Expressions.{made_by}
@@ -23,22 +23,7 @@ join_none Join d e = none (numeral_of d None) refl
     none : (o : Option ℕ) → numeral_of d None ≡ o → o ≡ None
     none None e = refl
     none (Some n) e = absurd (numeral_none d n e)
-join_none Plus d e = absurd (cc)
-join_none Minus d e = absurd (cc)
-join_none Times d e = absurd (cc)
-join_none Modulo d e = absurd (cc)
-join_none Idiv d e = absurd (cc)
-join_none Band d e = absurd (cc)
-join_none Bor d e = absurd (cc)
-join_none Bxor d e = absurd (cc)
-join_none ShiftLeft d e = absurd (cc)
-join_none ShiftRight d e = absurd (cc)
-join_none Equal d e = absurd (cc)
-join_none Ne d e = absurd (cc)
-join_none Less d e = absurd (cc)
-join_none AtMost d e = absurd (cc)
-join_none Gt d e = absurd (cc)
-join_none Ge d e = absurd (cc)
+join_none _ d e = absurd (cc)
 
 pub second_numeral : (op : BinOp) (d : Exp) → number_of_second (second_of op d) ≡ operand_numeral op d
 second_numeral op d = by (joins op) (operand_numeral op d) (local_of d) (join_none op d)
@@ -62,22 +47,7 @@ second_number op d e = by (joins op) (operand_numeral op d) (local_of d) e
 
 not_join : (op : BinOp) → (op ≡ Join → ⊥) → joins op ≡ false
 not_join Join h = absurd (h refl)
-not_join Plus h = refl
-not_join Minus h = refl
-not_join Times h = refl
-not_join Modulo h = refl
-not_join Idiv h = refl
-not_join Band h = refl
-not_join Bor h = refl
-not_join Bxor h = refl
-not_join ShiftLeft h = refl
-not_join ShiftRight h = refl
-not_join Equal h = refl
-not_join Ne h = refl
-not_join Less h = refl
-not_join AtMost h = refl
-not_join Gt h = refl
-not_join Ge h = refl
+not_join _ h = refl
 
 pub second_local : (op : BinOp) (d : Exp) → (op ≡ Join → ⊥) → is_some (operand_numeral op d) ≡ false → local_of_second (second_of op d) ≡ local_of d
 second_local op d other e = by (joins op) (operand_numeral op d) (local_of d) (not_join op other) e

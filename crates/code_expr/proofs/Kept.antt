@@ -6,7 +6,7 @@ use Rattle.std.proofs.lemmas.Result.{IfOk-weaker}
 use Rattle.std.proofs.lemmas.List.{length-append, length-map}
 use Rattle.tree_core.specs.declared.operator.UnOp.{UnOp}
 use Rattle.tree_core.specs.declared.operator.UnOp.TheVariants.{Neg, BitNot, Not as Negation, Len as Length}
-use Rattle.tree_core.specs.Tree.{Exp, Nil, True, False, Int, Str, Vararg, Function, Var, Index, Call, Method, Unary, Binary, And, Or, Paren, Table}
+use Rattle.tree_core.specs.Tree.{Exp, Unary, Binary, And, Or, Paren}
 use Rattle.code_core.specs.declared.opcode.Opcode.TheVariants.{Test, TestSet}
 use Rattle.code_core.specs.declared.proto.Const.{Const}
 use Rattle.code_of.specs.Coded.{Coded}
@@ -30,23 +30,12 @@ leaf_by true x y h = absurd (cc)
 leaf_by false x y h = refl
 
 pub leaf_is : (cs : List Const) (e : Exp) (k : Bool) (t j : ℕ) → is_plain e ≡ true → is_truth e ≡ false → (ahead : ℕ) → kept_value e (exp_code cs e t j 2) k ahead t ≡ keep_code cs e k ahead t j
-leaf_is cs (Nil line) k t j plain h ahead = refl
-leaf_is cs (True line) k t j plain h ahead = refl
-leaf_is cs (False line) k t j plain h ahead = refl
-leaf_is cs (Int line n) k t j plain h ahead = refl
-leaf_is cs (Str line bytes) k t j plain h ahead = refl
-leaf_is cs (Vararg line) k t j plain h ahead = refl
-leaf_is cs (Function line body) k t j plain h ahead = refl
-leaf_is cs (Var line name) k t j plain h ahead = refl
-leaf_is cs (Index line object key) k t j plain h ahead = refl
-leaf_is cs (Call line f es) k t j plain h ahead = refl
-leaf_is cs (Method line object name es) k t j plain h ahead = refl
 leaf_is cs (Unary line op e) k t j plain h ahead = leaf_by (is_not op) (test_code cs e (not k) 2 t j ++ load_truth k ahead t line) (kept_value (Unary line op e) (exp_code cs (Unary line op e) t j 2) k ahead t) h
 leaf_is cs (Binary line op e d) k t j plain h ahead = leaf_by (is_compared op) (kept_truth cs (Binary line op e d) k ahead t j) (kept_value (Binary line op e d) (exp_code cs (Binary line op e d) t j 2) k ahead t) h
-leaf_is cs (Table line fs) k t j plain h ahead = refl
 leaf_is cs (And line e d) k t j plain h ahead = absurd (cc)
 leaf_is cs (Or line e d) k t j plain h ahead = absurd (cc)
 leaf_is cs (Paren line e) k t j plain h ahead = absurd (cc)
+leaf_is cs _ k t j plain h ahead = refl
 
 -- a comparison or `not`
 
@@ -63,21 +52,7 @@ truth_unary cs line Length e k ahead t j h = absurd (cc)
 pub truth_is : (cs : List Const) (e : Exp) (k : Bool) (t j : ℕ) → is_truth e ≡ true → (ahead : ℕ) → kept_truth cs e k ahead t j ≡ keep_code cs e k ahead t j
 truth_is cs (Unary line op e) k t j h ahead = truth_unary cs line op e k ahead t j h
 truth_is cs (Binary line op e d) k t j h ahead = truth_by (is_compared op) (kept_truth cs (Binary line op e d) k ahead t j) (kept_value (Binary line op e d) (exp_code cs (Binary line op e d) t j 2) k ahead t) h
-truth_is cs (Nil line) k t j h ahead = absurd (cc)
-truth_is cs (True line) k t j h ahead = absurd (cc)
-truth_is cs (False line) k t j h ahead = absurd (cc)
-truth_is cs (Int line n) k t j h ahead = absurd (cc)
-truth_is cs (Str line bytes) k t j h ahead = absurd (cc)
-truth_is cs (Vararg line) k t j h ahead = absurd (cc)
-truth_is cs (Function line body) k t j h ahead = absurd (cc)
-truth_is cs (Var line name) k t j h ahead = absurd (cc)
-truth_is cs (Index line object key) k t j h ahead = absurd (cc)
-truth_is cs (Call line f es) k t j h ahead = absurd (cc)
-truth_is cs (Method line object name es) k t j h ahead = absurd (cc)
-truth_is cs (And line e d) k t j h ahead = absurd (cc)
-truth_is cs (Or line e d) k t j h ahead = absurd (cc)
-truth_is cs (Paren line e) k t j h ahead = absurd (cc)
-truth_is cs (Table line fs) k t j h ahead = absurd (cc)
+truth_is cs _ k t j h ahead = absurd (cc)
 
 module _ (s q : Listing) (e : Exp) (k : Bool) (t : ℕ) (r : Places) where
   pub truth_keeps : is_truth e ≡ true → IfOk r (λ places. Opened s q (λ ahead. kept_truth s.constants e k ahead t s.made) (made_by e) places.items) → IfOk r (λ places. Keeps s q e k t places.items)

@@ -1,7 +1,7 @@
 -- The line of a body, and of a plain tree; a vector that is not one of one expression.
 use Rattle.std.proofs.Common.{◌≡◌, ℕ, List, [], ◌∷◌, length, None, refl, ap}
 use Rattle.tree_core.specs.declared.tree.Exp.{Exp}
-use Rattle.tree_core.specs.declared.tree.ExpNode.{ExpNode, Nil, True, False, Int, Str, Vararg, Function', Var, Index', Call', Method', Unary', Binary', And', Or', Paren', Table'}
+use Rattle.tree_core.specs.declared.tree.ExpNode.{ExpNode, Nil}
 use Rattle.tree_core.specs.declared.tree.Body.{Body, out-Body}
 use Rattle.tree_core.specs.Tree as tree
 use Rattle.tree_core.specs.Plain.{plain_exps, plain_exp_node, plain_body}
@@ -16,22 +16,7 @@ body_line b = ap line_of_body (plain-body b)
 -- the line of a plain tree
 pub line_is : (node : ExpNode) (line : ℕ) → line_of (plain_exp_node node line) ≡ line
 line_is Nil line = refl
-line_is True line = refl
-line_is False line = refl
-line_is (Int n) line = refl
-line_is (Str bytes) line = refl
-line_is Vararg line = refl
-line_is (Function' p inner) line = refl
-line_is (Var name) line = refl
-line_is (Index' p l a q k b) line = refl
-line_is (Call' p l f s args) line = refl
-line_is (Method' p l f name s args) line = refl
-line_is (Unary' op p l a) line = refl
-line_is (Binary' op p l a q k b) line = refl
-line_is (And' p l a q k b) line = refl
-line_is (Or' p l a q k b) line = refl
-line_is (Paren' p l a) line = refl
-line_is (Table' s fs) line = refl
+line_is _ line = refl
 
 -- a vector of another number of expressions
 pub none_lone : (xs : List Exp) → (length xs ≡ 1 → ⊥) → None ≡ lone_local (tree.exps (plain_exps xs))

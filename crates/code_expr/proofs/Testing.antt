@@ -5,7 +5,7 @@ use Rattle.std.specs.declared.alloc.AllocError.{AllocError}
 use Rattle.std.proofs.lemmas.Result.{IfOk-weaker}
 use Rattle.tree_core.specs.declared.operator.BinOp.{BinOp}
 use Rattle.tree_core.specs.declared.operator.UnOp.TheVariants.{Not as Negation}
-use Rattle.tree_core.specs.Tree.{Exp, Nil, True, False, Int, Str, Vararg, Function, Var, Index, Call, Method, Unary, Binary, And, Or, Paren, Table}
+use Rattle.tree_core.specs.Tree.{Exp, True, Unary, Binary, And, Or, Paren}
 use Rattle.code_core.specs.declared.opcode.Opcode.{Opcode}
 use Rattle.code_core.specs.declared.opcode.Opcode.TheVariants.{Test, EqK}
 use Rattle.code_core.specs.declared.proto.Const.{Const}
@@ -90,23 +90,13 @@ valued_prefix true x y h = absurd (cc)
 valued_prefix false x y h = refl
 
 pub valued_is : (cs : List Const) (e : Exp) (w : Bool) (t j : ℕ) → is_valued e ≡ true → (ahead : ℕ) → value_test cs e w ahead t j ≡ test_code cs e w ahead t j
-valued_is cs (Nil line) w t j h ahead = refl
-valued_is cs (False line) w t j h ahead = refl
-valued_is cs (Int line n) w t j h ahead = refl
-valued_is cs (Str line bytes) w t j h ahead = refl
-valued_is cs (Vararg line) w t j h ahead = refl
-valued_is cs (Function line body) w t j h ahead = refl
-valued_is cs (Var line name) w t j h ahead = refl
-valued_is cs (Index line object key) w t j h ahead = refl
-valued_is cs (Call line f es) w t j h ahead = refl
-valued_is cs (Method line object name es) w t j h ahead = refl
-valued_is cs (Table line fs) w t j h ahead = refl
 valued_is cs (Unary line op e) w t j h ahead = valued_prefix (is_not op) (test_code cs e (not w) ahead t j) (value_test cs (Unary line op e) w ahead t j) h
 valued_is cs (True line) w t j h ahead = absurd (cc)
 valued_is cs (Binary line op e d) w t j h ahead = absurd (cc)
 valued_is cs (And line e d) w t j h ahead = absurd (cc)
 valued_is cs (Or line e d) w t j h ahead = absurd (cc)
 valued_is cs (Paren line e) w t j h ahead = absurd (cc)
+valued_is cs _ w t j h ahead = refl
 
 -- a value that is tested, and two that are compared
 

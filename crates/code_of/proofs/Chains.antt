@@ -3,7 +3,7 @@ use Rattle.std.proofs.Common.{◌≡◌, ℕ, suc, ◌+◌, ◌-◌, ◌≤◌, 
 use Rattle.std.specs.Prelude.{nat_eq}
 use Rattle.int_core.specs.Value.{without_last}
 use Rattle.tree_core.specs.declared.operator.BinOp.{BinOp}
-use Rattle.tree_core.specs.declared.operator.BinOp.TheVariants.{Add as Plus, Sub as Minus, Mul as Times, Mod as Modulo, Idiv, Band, Bor, Bxor, Shl as ShiftLeft, Shr as ShiftRight, Concat as Join, Eq as Equal, Ne, Lt as Less, Le as AtMost, Gt, Ge}
+use Rattle.tree_core.specs.declared.operator.BinOp.TheVariants.{Concat as Join}
 use Rattle.tree_core.specs.Tree.{Exp, Nil, True, False, Int, Str, Vararg, Function, Var, Index, Call, Method, Unary, Binary, And, Or, Paren, Table}
 use Rattle.code_core.specs.declared.opcode.Opcode.TheVariants.{Concat}
 use Rattle.code_core.specs.declared.proto.Const.{Const}
@@ -22,22 +22,7 @@ use Rattle.code_of.proofs.Operations.{constant_is, operand_form}
 
 pub joins_is : (op : BinOp) → joins op ≡ true → op ≡ Join
 joins_is Join h = refl
-joins_is Plus h = absurd (cc)
-joins_is Minus h = absurd (cc)
-joins_is Times h = absurd (cc)
-joins_is Modulo h = absurd (cc)
-joins_is Idiv h = absurd (cc)
-joins_is Band h = absurd (cc)
-joins_is Bor h = absurd (cc)
-joins_is Bxor h = absurd (cc)
-joins_is ShiftLeft h = absurd (cc)
-joins_is ShiftRight h = absurd (cc)
-joins_is Equal h = absurd (cc)
-joins_is Ne h = absurd (cc)
-joins_is Less h = absurd (cc)
-joins_is AtMost h = absurd (cc)
-joins_is Gt h = absurd (cc)
-joins_is Ge h = absurd (cc)
+joins_is _ h = absurd (cc)
 
 -- a right operand that goes on with the chain
 
@@ -53,22 +38,7 @@ record IsLink (line : ℕ) (d : Exp) : Type 0 where
 
 link_is : (line : ℕ) (d : Exp) → continues line d ≡ true → IsLink line d
 link_is line (Binary own op e d) h = record { left = e; right = d; is = link_form line own op e d h }
-link_is line (Nil own) h = absurd (cc)
-link_is line (True own) h = absurd (cc)
-link_is line (False own) h = absurd (cc)
-link_is line (Int own z) h = absurd (cc)
-link_is line (Str own bytes) h = absurd (cc)
-link_is line (Vararg own) h = absurd (cc)
-link_is line (Function own body) h = absurd (cc)
-link_is line (Var own name) h = absurd (cc)
-link_is line (Index own object key) h = absurd (cc)
-link_is line (Call own f es) h = absurd (cc)
-link_is line (Method own object name es) h = absurd (cc)
-link_is line (Unary own op e) h = absurd (cc)
-link_is line (And own e d) h = absurd (cc)
-link_is line (Or own e d) h = absurd (cc)
-link_is line (Paren own e) h = absurd (cc)
-link_is line (Table own fs) h = absurd (cc)
+link_is line _ h = absurd (cc)
 
 pub continues_more : (line : ℕ) (e d : Exp) → continues line (Binary line Join e d) ≡ true
 continues_more line e d = ap (λ b. true && b) (eq_refl line)
@@ -78,22 +48,7 @@ links_more line e d = ap (λ b. cond (true && b) (suc (links line d)) 1) (eq_ref
 
 pub links_end : (line : ℕ) (d : Exp) → continues line d ≡ false → links line d ≡ 1
 links_end line (Binary own op e d) h = ap (λ b. cond b (suc (links line d)) 1) h
-links_end line (Nil own) h = refl
-links_end line (True own) h = refl
-links_end line (False own) h = refl
-links_end line (Int own z) h = refl
-links_end line (Str own bytes) h = refl
-links_end line (Vararg own) h = refl
-links_end line (Function own body) h = refl
-links_end line (Var own name) h = refl
-links_end line (Index own object key) h = refl
-links_end line (Call own f es) h = refl
-links_end line (Method own object name es) h = refl
-links_end line (Unary own op e) h = refl
-links_end line (And own e d) h = refl
-links_end line (Or own e d) h = refl
-links_end line (Paren own e) h = refl
-links_end line (Table own fs) h = refl
+links_end line _ h = refl
 
 pub links_some : (line : ℕ) (d : Exp) → 1 ≤ links line d
 links_some line d = by (continues line d) refl
@@ -150,22 +105,7 @@ chain_short line d first second t =
 
 join_has_none : (op : BinOp) (d : Exp) (x : Const) → joins op ≡ true → constant_by op d ≡ Some x → ⊥
 join_has_none Join d x joined h = absurd (cc)
-join_has_none Plus d x joined h = absurd (cc)
-join_has_none Minus d x joined h = absurd (cc)
-join_has_none Times d x joined h = absurd (cc)
-join_has_none Modulo d x joined h = absurd (cc)
-join_has_none Idiv d x joined h = absurd (cc)
-join_has_none Band d x joined h = absurd (cc)
-join_has_none Bor d x joined h = absurd (cc)
-join_has_none Bxor d x joined h = absurd (cc)
-join_has_none ShiftLeft d x joined h = absurd (cc)
-join_has_none ShiftRight d x joined h = absurd (cc)
-join_has_none Equal d x joined h = absurd (cc)
-join_has_none Ne d x joined h = absurd (cc)
-join_has_none Less d x joined h = absurd (cc)
-join_has_none AtMost d x joined h = absurd (cc)
-join_has_none Gt d x joined h = absurd (cc)
-join_has_none Ge d x joined h = absurd (cc)
+join_has_none _ d x joined h = absurd (cc)
 
 pub join_room : (cs : List Const) (own : ℕ) (op : BinOp) (e d : Exp) (first second : ℕ) → joins op ≡ true → operation_room own (constant_in cs op d) op e d first second ≡ max first (1 + second)
 join_room cs own op e d first second joined = by (constant_in cs op d) refl

@@ -5,8 +5,8 @@ use Rattle.tree_core.specs.declared.name.Place.{Place}
 use Rattle.tree_core.specs.declared.name.Place.TheVariants.{Unset, Upvalue, GlobalIn, GlobalOf}
 use Rattle.tree_core.specs.declared.name.Place.TheVariants.{Local as LocalPlace}
 use Rattle.tree_core.specs.declared.operator.BinOp.{BinOp}
-use Rattle.tree_core.specs.declared.operator.BinOp.TheVariants.{Add as Plus, Sub as Minus, Mul as Times, Mod as Modulo, Idiv, Band, Bor, Bxor, Shl as ShiftLeft, Shr as ShiftRight, Concat as Join, Eq as Equal, Ne, Lt as Less, Le as AtMost, Gt, Ge}
-use Rattle.tree_core.specs.Tree.{Exp, Nil, True, False, Int, Str, Vararg, Function, Var, Index, Call, Method, Unary, Binary, And, Or, Paren, Table, Exps, EndExps, MoreExps}
+use Rattle.tree_core.specs.declared.operator.BinOp.TheVariants.{Add as Plus, Mul as Times, Mod as Modulo, Idiv, Band, Bor, Bxor, Concat as Join}
+use Rattle.tree_core.specs.Tree.{Exp, Int, Str, Var, Index, Call, Method, Unary, Binary, And, Or, Paren, Exps, EndExps, MoreExps}
 use Rattle.code_core.specs.declared.opcode.Opcode.TheVariants.{LoadI, LoadK, LoadKx, ExtraArg, GetUpval, GetTabUp, GetTable, GetI, GetField, Call as CallCode}
 use Rattle.code_core.specs.declared.proto.Const.{Const}
 use Rattle.code_core.specs.declared.proto.Const.TheVariants.{Int as IntConst, Str as StrConst}
@@ -42,35 +42,10 @@ numbered_some number t line = by (nat_lt number 131072)
 
 operator_some : (op : BinOp) (x y t line : ℕ) → 1 ≤ length (operator_code op x y t line)
 operator_some Plus x y t line = omega arith
-operator_some Minus x y t line = omega arith
-operator_some Times x y t line = omega arith
-operator_some Modulo x y t line = omega arith
-operator_some Idiv x y t line = omega arith
-operator_some Band x y t line = omega arith
-operator_some Bor x y t line = omega arith
-operator_some Bxor x y t line = omega arith
-operator_some ShiftLeft x y t line = omega arith
-operator_some ShiftRight x y t line = omega arith
-operator_some Join x y t line = omega arith
-operator_some Equal x y t line = omega arith
-operator_some Ne x y t line = omega arith
-operator_some Less x y t line = omega arith
-operator_some AtMost x y t line = omega arith
-operator_some Gt x y t line = omega arith
-operator_some Ge x y t line = omega arith
+operator_some _ x y t line = omega arith
 
 -- an operator that takes no numeral is never asked for one
 number_some : (op : BinOp) (d : Exp) (m : ℕ) → operand_numeral op d ≡ Some m → (x n t line : ℕ) → 1 ≤ length (number_code op x n t line)
-number_some Plus d m e x n t line = omega arith
-number_some Minus d m e x n t line = omega arith
-number_some ShiftLeft d m e x n t line = omega arith
-number_some ShiftRight d m e x n t line = omega arith
-number_some Equal d m e x n t line = omega arith
-number_some Ne d m e x n t line = omega arith
-number_some Less d m e x n t line = omega arith
-number_some AtMost d m e x n t line = omega arith
-number_some Gt d m e x n t line = omega arith
-number_some Ge d m e x n t line = omega arith
 number_some Times d m e x n t line = absurd (numeral_none d m e)
 number_some Modulo d m e x n t line = absurd (numeral_none d m e)
 number_some Idiv d m e x n t line = absurd (numeral_none d m e)
@@ -78,6 +53,7 @@ number_some Band d m e x n t line = absurd (numeral_none d m e)
 number_some Bor d m e x n t line = absurd (numeral_none d m e)
 number_some Bxor d m e x n t line = absurd (numeral_none d m e)
 number_some Join d m e x n t line = absurd (numeral_none d m e)
+number_some _ d m e x n t line = omega arith
 
 operands_some : (s : Second) (at : Option ℕ) (first code : List Coded) (t : ℕ) (by num : (x y : ℕ) → List Coded) → ((x y : ℕ) → 1 ≤ length (by x y)) → ((n : ℕ) → s ≡ a_number n → (x : ℕ) → 1 ≤ length (num x n))
     → 1 ≤ length (operands_code s at first code t by num)
@@ -114,17 +90,12 @@ module _ (cs : List Const) where
       by false = omega arith
 
   pub exp_some : (e : Exp) (t j c : ℕ) → 1 ≤ length (exp_code cs e t j c)
-  exp_some (Nil line) t j c = omega arith
-  exp_some (True line) t j c = omega arith
-  exp_some (False line) t j c = omega arith
   exp_some (Int line n) t j c = by (is_small n)
     where
       by : (b : Bool) → 1 ≤ length (cond b (with_abx LoadI t (small_field n) line ∷ []) (loads cs (IntConst n) t line))
       by true = omega arith
       by false = numbered_some (number_in cs (IntConst n)) t line
   exp_some (Str line bytes) t j c = numbered_some (number_in cs (StrConst bytes)) t line
-  exp_some (Vararg line) t j c = omega arith
-  exp_some (Function line body) t j c = omega arith
   exp_some (Var line name) t j c = name_some name.place name.text t line
   exp_some (Index line object key) t j c = read_some (name_in cs key) object key (exp_code cs object t j 2) (exp_code cs key (t + 1) (j + made_by object) 2) t t line
   exp_some (Call line f es) t j c = some_before (exp_code cs f t j 2) _ (exp_some f t j 2)
@@ -145,7 +116,7 @@ module _ (cs : List Const) where
       let second = exp_code cs d t (j + made_by e) 2 in
       some_behind (kept_by cs e (exp_code cs e t j 2) true (length second) t j) second (exp_some d t (j + made_by e) 2)
   exp_some (Paren line e) t j c = exp_some e t j 2
-  exp_some (Table line fs) t j c = omega arith
+  exp_some _ t j c = omega arith
 
   -- where a value is wanted, there is code
   pub values_some : (es : Exps) (n t j line : ℕ) → 1 ≤ length (exps_code cs es (Some (suc n)) t j line)

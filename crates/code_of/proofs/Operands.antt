@@ -2,11 +2,11 @@
 use Rattle.std.proofs.Common.{leb-true, ◌≡◌, ℕ, zero, suc, ◌+◌, ◌≤◌, max, pos, negsuc, Bool, true, false, cond, List, ◌++◌, length, Option, Some, None, refl, sym, ap, ◌∙◌, arith, length-append}
 use Rattle.std.specs.Prelude.{nat_le}
 use Rattle.tree_core.specs.declared.operator.BinOp.{BinOp}
-use Rattle.tree_core.specs.declared.operator.BinOp.TheVariants.{Add as Plus, Sub as Minus, Mul as Times, Mod as Modulo, Idiv, Band, Bor, Bxor, Shl as ShiftLeft, Shr as ShiftRight, Concat as Join, Eq as Equal, Ne, Lt as Less, Le as AtMost, Gt, Ge}
+use Rattle.tree_core.specs.declared.operator.BinOp.TheVariants.{Sub as Minus, Mul as Times, Mod as Modulo, Idiv, Band, Bor, Bxor, Shl as ShiftLeft, Concat as Join, Eq as Equal, Ne, Lt as Less, Le as AtMost, Gt, Ge}
 use Rattle.tree_core.specs.declared.name.Name.{Name}
 use Rattle.tree_core.specs.declared.name.Place.{Place}
 use Rattle.tree_core.specs.declared.name.Place.TheVariants.{Local as LocalPlace}
-use Rattle.tree_core.specs.Tree.{Exp, Nil, True, False, Int, Str, Vararg, Function, Var, Index, Call, Method, Unary, Binary, And, Or, Paren, Table, Exps, EndExps, MoreExps}
+use Rattle.tree_core.specs.Tree.{Exp, Nil, True, False, Int, Str, Vararg, Var, Unary, Binary, And, Or, Paren, Table, Exps, EndExps, MoreExps}
 use Rattle.code_of.specs.Coded.{Coded}
 use Rattle.code_of.specs.Expressions.{made_by}
 use Rattle.code_of.specs.Operands.{local_at, local_of, lone_local, computes, is_direct, target_local, assigned, numeral_of, from_one, operand_numeral, joins, Second, a_number, a_local, made, second_by, second_of, key_operand, first_of, unless, seat, operand_code, second_code, operands_code, operands_room, second_assigned}
@@ -60,42 +60,23 @@ numeral_is (Int line (pos m)) most n e = by (nat_le m most) refl e
     by true le e = let same = some_is m n e in let below = leb-true m most le in record { line = line; is = ap (λ k. Int line (pos k)) same; small = omega (arith, same, below) }
     by false le e = absurd (cc)
 numeral_is (Int line (negsuc m)) most n e = absurd (cc)
-numeral_is (Nil line) most n e = absurd (cc)
-numeral_is (True line) most n e = absurd (cc)
-numeral_is (False line) most n e = absurd (cc)
-numeral_is (Str line bytes) most n e = absurd (cc)
-numeral_is (Vararg line) most n e = absurd (cc)
-numeral_is (Function line body) most n e = absurd (cc)
-numeral_is (Var line name) most n e = absurd (cc)
-numeral_is (Index line object key) most n e = absurd (cc)
-numeral_is (Call line f es) most n e = absurd (cc)
-numeral_is (Method line object name es) most n e = absurd (cc)
 numeral_is (Unary line op e) most n h = absurd (cc)
 numeral_is (Binary line op e d) most n h = absurd (cc)
 numeral_is (And line e d) most n h = absurd (cc)
 numeral_is (Or line e d) most n h = absurd (cc)
 numeral_is (Paren line e) most n h = absurd (cc)
 numeral_is (Table line fs) most n h = absurd (cc)
+numeral_is _ most n e = absurd (cc)
 
 -- some operators have none
 pub numeral_none : (d : Exp) (n : ℕ) → numeral_of d None ≡ Some n → ⊥
-numeral_none (Int line z) n e = absurd (cc)
-numeral_none (Nil line) n e = absurd (cc)
-numeral_none (True line) n e = absurd (cc)
-numeral_none (False line) n e = absurd (cc)
-numeral_none (Str line bytes) n e = absurd (cc)
-numeral_none (Vararg line) n e = absurd (cc)
-numeral_none (Function line body) n e = absurd (cc)
-numeral_none (Var line name) n e = absurd (cc)
-numeral_none (Index line object key) n e = absurd (cc)
-numeral_none (Call line f es) n e = absurd (cc)
-numeral_none (Method line object name es) n e = absurd (cc)
 numeral_none (Unary line op e) n h = absurd (cc)
 numeral_none (Binary line op e d) n h = absurd (cc)
 numeral_none (And line e d) n h = absurd (cc)
 numeral_none (Or line e d) n h = absurd (cc)
 numeral_none (Paren line e) n h = absurd (cc)
 numeral_none (Table line fs) n h = absurd (cc)
+numeral_none _ n e = absurd (cc)
 
 -- that of `<<` is not 0
 pub shift_is : (d : Exp) (n : ℕ) → operand_numeral ShiftLeft d ≡ Some n → IsNumeral d n 127 × (1 ≤ n)
@@ -108,14 +89,6 @@ shift_is d n e = by (numeral_of d (Some 127)) refl e
 
 -- no operator takes a greater one than its field holds
 pub numeral_form : (op : BinOp) (d : Exp) (n : ℕ) → operand_numeral op d ≡ Some n → IsNumeral d n 128
-numeral_form Plus d n e = numeral_is d 128 n e
-numeral_form ShiftRight d n e = numeral_is d 128 n e
-numeral_form Equal d n e = numeral_is d 128 n e
-numeral_form Ne d n e = numeral_is d 128 n e
-numeral_form Less d n e = numeral_is d 128 n e
-numeral_form AtMost d n e = numeral_is d 128 n e
-numeral_form Gt d n e = numeral_is d 128 n e
-numeral_form Ge d n e = numeral_is d 128 n e
 numeral_form Minus d n e = let h = numeral_is d 127 n e in let le = h.small in record { line = h.line; is = h.is; small = omega (arith, le) }
 numeral_form ShiftLeft d n e = let h = (shift_is d n e).0 in let le = h.small in record { line = h.line; is = h.is; small = omega (arith, le) }
 numeral_form Times d n e = absurd (numeral_none d n e)
@@ -125,6 +98,7 @@ numeral_form Band d n e = absurd (numeral_none d n e)
 numeral_form Bor d n e = absurd (numeral_none d n e)
 numeral_form Bxor d n e = absurd (numeral_none d n e)
 numeral_form Join d n e = absurd (numeral_none d n e)
+numeral_form _ d n e = numeral_is d 128 n e
 
 -- the operands of `..` are made
 
@@ -145,16 +119,6 @@ number_no_join op d n e joined = number_not_made n (sym e ∙ joins_made op d jo
 
 -- an operator that computes a value joins nothing
 pub computes_no_join : (op : BinOp) → computes op ≡ true → joins op ≡ false
-computes_no_join Plus e = refl
-computes_no_join Minus e = refl
-computes_no_join Times e = refl
-computes_no_join Modulo e = refl
-computes_no_join Idiv e = refl
-computes_no_join Band e = refl
-computes_no_join Bor e = refl
-computes_no_join Bxor e = refl
-computes_no_join ShiftLeft e = refl
-computes_no_join ShiftRight e = refl
 computes_no_join Join e = absurd (cc)
 computes_no_join Equal e = absurd (cc)
 computes_no_join Ne e = absurd (cc)
@@ -162,6 +126,7 @@ computes_no_join Less e = absurd (cc)
 computes_no_join AtMost e = absurd (cc)
 computes_no_join Gt e = absurd (cc)
 computes_no_join Ge e = absurd (cc)
+computes_no_join _ e = refl
 
 -- where a local is assigned a value straight into its register
 
@@ -259,15 +224,7 @@ local_makes (True line) r h = refl
 local_makes (False line) r h = refl
 local_makes (Str line bytes) r h = refl
 local_makes (Vararg line) r h = refl
-local_makes (Function line body) r h = absurd (cc)
-local_makes (Index line object key) r h = absurd (cc)
-local_makes (Call line f es) r h = absurd (cc)
-local_makes (Method line object name es) r h = absurd (cc)
-local_makes (Unary line op e) r h = absurd (cc)
-local_makes (Binary line op e d) r h = absurd (cc)
-local_makes (And line e d) r h = absurd (cc)
-local_makes (Or line e d) r h = absurd (cc)
-local_makes (Table line fs) r h = absurd (cc)
+local_makes _ r h = absurd (cc)
 
 -- the first operand stays where it is a local and the second one is not made
 

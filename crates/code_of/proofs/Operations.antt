@@ -80,15 +80,7 @@ arithmetic_integer Idiv d x is h = integer_is d x h
 arithmetic_integer Band d x is h = integer_is d x h
 arithmetic_integer Bor d x is h = integer_is d x h
 arithmetic_integer Bxor d x is h = integer_is d x h
-arithmetic_integer ShiftLeft d x is h = absurd (cc)
-arithmetic_integer ShiftRight d x is h = absurd (cc)
-arithmetic_integer Join d x is h = absurd (cc)
-arithmetic_integer Equal d x is h = absurd (cc)
-arithmetic_integer Ne d x is h = absurd (cc)
-arithmetic_integer Less d x is h = absurd (cc)
-arithmetic_integer AtMost d x is h = absurd (cc)
-arithmetic_integer Gt d x is h = absurd (cc)
-arithmetic_integer Ge d x is h = absurd (cc)
+arithmetic_integer _ d x is h = absurd (cc)
 
 -- each is written out in the source
 
@@ -97,14 +89,6 @@ integer_any (Int line z) x h = h
 integer_any _ x h = absurd (cc)
 
 pub operand_literal : (op : BinOp) (d : Exp) (x : Const) → constant_by op d ≡ Some x → any_constant d ≡ Some x
-operand_literal Plus d x h = integer_any d x h
-operand_literal Minus d x h = integer_any d x h
-operand_literal Times d x h = integer_any d x h
-operand_literal Modulo d x h = integer_any d x h
-operand_literal Idiv d x h = integer_any d x h
-operand_literal Band d x h = integer_any d x h
-operand_literal Bor d x h = integer_any d x h
-operand_literal Bxor d x h = integer_any d x h
 operand_literal Equal d x h = h
 operand_literal Ne d x h = h
 operand_literal ShiftLeft d x h = absurd (cc)
@@ -114,6 +98,7 @@ operand_literal Less d x h = absurd (cc)
 operand_literal AtMost d x h = absurd (cc)
 operand_literal Gt d x h = absurd (cc)
 operand_literal Ge d x h = absurd (cc)
+operand_literal _ d x h = integer_any d x h
 
 -- so it makes no function
 pub literal_makes : (d : Exp) (x : Const) → any_constant d ≡ Some x → made_by d ≡ 0
@@ -132,16 +117,6 @@ operand_makes cs op d number h =
 -- the instruction is there
 
 pub constant_some : (op : BinOp) (d : Exp) (v : Const) → constant_by op d ≡ Some v → (x n t line : ℕ) → 1 ≤ length (constant_code op x n t line)
-constant_some Plus d v h x n t line = omega arith
-constant_some Minus d v h x n t line = omega arith
-constant_some Times d v h x n t line = omega arith
-constant_some Modulo d v h x n t line = omega arith
-constant_some Idiv d v h x n t line = omega arith
-constant_some Band d v h x n t line = omega arith
-constant_some Bor d v h x n t line = omega arith
-constant_some Bxor d v h x n t line = omega arith
-constant_some Equal d v h x n t line = omega arith
-constant_some Ne d v h x n t line = omega arith
 constant_some ShiftLeft d v h x n t line = absurd (cc)
 constant_some ShiftRight d v h x n t line = absurd (cc)
 constant_some Join d v h x n t line = absurd (cc)
@@ -149,25 +124,11 @@ constant_some Less d v h x n t line = absurd (cc)
 constant_some AtMost d v h x n t line = absurd (cc)
 constant_some Gt d v h x n t line = absurd (cc)
 constant_some Ge d v h x n t line = absurd (cc)
+constant_some _ d v h x n t line = omega arith
 
 pub constant_short : (op : BinOp) (x n t line : ℕ) → length (constant_code op x n t line) ≤ 4
 constant_short Plus x n t line = omega arith
-constant_short Minus x n t line = omega arith
-constant_short Times x n t line = omega arith
-constant_short Modulo x n t line = omega arith
-constant_short Idiv x n t line = omega arith
-constant_short Band x n t line = omega arith
-constant_short Bor x n t line = omega arith
-constant_short Bxor x n t line = omega arith
-constant_short Equal x n t line = omega arith
-constant_short Ne x n t line = omega arith
-constant_short ShiftLeft x n t line = omega arith
-constant_short ShiftRight x n t line = omega arith
-constant_short Join x n t line = omega arith
-constant_short Less x n t line = omega arith
-constant_short AtMost x n t line = omega arith
-constant_short Gt x n t line = omega arith
-constant_short Ge x n t line = omega arith
+constant_short _ x n t line = omega arith
 
 -- sizes
 

@@ -3,7 +3,7 @@ use Rattle.std.proofs.Common.{◌≡◌, ℕ, ◌≤◌, arith, Bool, true, fals
 use Rattle.std.specs.Prelude.{nat_lt}
 use Rattle.tree_core.specs.declared.name.Place.{Place}
 use Rattle.tree_core.specs.declared.name.Place.TheVariants.{Unset, Upvalue, GlobalIn, GlobalOf, Local as LocalPlace}
-use Rattle.tree_core.specs.Tree.{Exp, Nil, True, False, Int, Str, Vararg, Function, Var, Index, Call, Method, Unary, Binary, And, Or, Paren, Table}
+use Rattle.tree_core.specs.Tree.{Exp, Var, Paren}
 use Rattle.code_core.specs.declared.proto.Const.{Const}
 use Rattle.code_core.specs.declared.proto.Const.TheVariants.{Str as StrConst}
 use Rattle.code_of.specs.Constants.{number_in}
@@ -52,26 +52,9 @@ self_room cs text = either_self (nat_lt (number_in cs (StrConst text)) 256)
 
 place_room : (cs : List Const) (place : Place) (text : List ℕ) (r : ℕ) → local_at place ≡ Some r → room_of_name cs place text ≡ 1
 place_room cs (LocalPlace q) text r e = refl
-place_room cs Unset text r e = absurd (cc)
-place_room cs (Upvalue u) text r e = absurd (cc)
-place_room cs (GlobalIn n) text r e = absurd (cc)
-place_room cs (GlobalOf u) text r e = absurd (cc)
+place_room cs _ text r e = absurd (cc)
 
 pub local_room : (cs : List Const) (e : Exp) (r : ℕ) → local_of e ≡ Some r → room_of cs e 2 ≡ 1
 local_room cs (Var line name) r e = place_room cs name.place name.text r e
 local_room cs (Paren line inner) r e = local_room cs inner r e
-local_room cs (Nil line) r e = absurd (cc)
-local_room cs (True line) r e = absurd (cc)
-local_room cs (False line) r e = absurd (cc)
-local_room cs (Int line z) r e = absurd (cc)
-local_room cs (Str line bytes) r e = absurd (cc)
-local_room cs (Vararg line) r e = absurd (cc)
-local_room cs (Function line body) r e = absurd (cc)
-local_room cs (Index line object key) r e = absurd (cc)
-local_room cs (Call line f es) r e = absurd (cc)
-local_room cs (Method line object name es) r e = absurd (cc)
-local_room cs (Unary line op inner) r e = absurd (cc)
-local_room cs (Binary line op left right) r e = absurd (cc)
-local_room cs (And line left right) r e = absurd (cc)
-local_room cs (Or line left right) r e = absurd (cc)
-local_room cs (Table line fs) r e = absurd (cc)
+local_room cs _ r e = absurd (cc)

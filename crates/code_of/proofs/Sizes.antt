@@ -1,7 +1,7 @@
 -- The code of a statement has as many instructions as its size says, wherever it stands and its jumps lead.
 use Rattle.std.proofs.Common.{◌≡◌, ℕ, ◌+◌, Bool, true, false, List, [], ◌∷◌, ◌++◌, length, Option, Some, None, refl, sym, ap, ap₂, ◌∙◌, arith, length-append, ◌≤◌, cond}
 use Rattle.tree_terms.specs.Bodies.{line_of_body, upvalues_of}
-use Rattle.tree_core.specs.Tree.{Body, Block, Falls, Returns, Stats, EndStats, MoreStats, Stat, Empty, Local, LocalFunction, Assign, CallStat, Do, While, Repeat, If, IfElse, NumFor, NumForStep, GenFor, Label, Goto, Break, Arms, EndArms, MoreArms, Exp, Nil, True, False, Int, Str, Vararg, Function, Var, Index, Call, Method, Unary, Binary, And, Or, Paren, Table}
+use Rattle.tree_core.specs.Tree.{Body, Block, Falls, Returns, Stats, EndStats, MoreStats, Stat, Local, Do, While, Repeat, If, IfElse, NumFor, NumForStep, GenFor, Goto, Break, Arms, EndArms, MoreArms, Exp, Nil, True, False, Int, Str, Vararg, Function, Var, Index, Call, Method, Unary, Binary, And, Or, Paren, Table}
 use Rattle.tree_core.specs.declared.operator.BinOp.{BinOp}
 use Rattle.tree_core.specs.declared.operator.BinOp.TheVariants.{Add as Plus, Sub as Minus, Mul as Times, Mod as Modulo, Idiv, Band, Bor, Bxor, Shl as ShiftLeft, Shr as ShiftRight, Concat as Join, Eq as Equal, Ne, Lt as Less, Le as AtMost, Gt, Ge}
 use Rattle.code_core.specs.declared.opcode.Opcode.{Opcode}
@@ -176,11 +176,7 @@ close_sized before after line other = by (nat_eq before after)
 module _ (cs : List Const) (back : Leaving) where
   mutual
     pub stat_sized : (s : Stat) (closing : Bool) (t j pc : ℕ) (reach : Reach) → length (stat_code cs back s closing t j pc reach) ≡ stat_size cs back s closing t j
-    stat_sized (Empty line) closing t j pc reach = refl
     stat_sized (Local line names es) closing t j pc reach = length-append (exps_code cs es (Some (length names)) t j line) (marks_code names t)
-    stat_sized (LocalFunction line name body) closing t j pc reach = refl
-    stat_sized (Assign line targets es) closing t j pc reach = refl
-    stat_sized (CallStat line e) closing t j pc reach = refl
     stat_sized (Do line block) closing t j pc reach = block_sized block closing t t j pc reach
     stat_sized (While line e block) closing t j pc reach =
         let place = pc + length (test_code cs e true 0 t j) in
@@ -218,9 +214,9 @@ module _ (cs : List Const) (back : Leaving) where
         let inner = in_loop reach (pc + stat_size cs back (GenFor line names es block) closing t j) t in
         iterating_sized start (block_code cs back block true (t + 4) (t + 4 + length names) k (pc + length start + 1) inner) t (length names) line _
         (block_sized block true (t + 4) (t + 4 + length names) k (pc + length start + 1) inner)
-    stat_sized (Label line name) closing t j pc reach = refl
     stat_sized (Goto line name) closing t j pc reach = leads_sized (back.closes || closing) (label_in name.text reach.labels) pc line
     stat_sized (Break line) closing t j pc reach = leads_sized (back.closes || closing) reach.exit pc line
+    stat_sized _ closing t j pc reach = refl
 
     pub arms_sized : (arms : Arms) (otherwise : List Coded) (closing : Bool) (t j pc line : ℕ) (reach : Reach)
         → length (arms_code cs back arms otherwise closing t j pc line reach) ≡ arms_size cs back arms (length otherwise) closing t j + length otherwise

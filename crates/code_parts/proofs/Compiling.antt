@@ -1,7 +1,7 @@
 -- What a piece of tree makes is the prototypes of its bodies in front of what follows.
 use Rattle.std.proofs.Common.{arith, ◌≡◌, ℕ, zero, suc, ◌+◌, ◌<◌, List, [], ◌∷◌, ◌++◌, length, map, Option, refl, sym, ap, subst, ◌∙◌}
 use Rattle.std.specs.Prelude.{slice_index_or}
-use Rattle.tree_core.specs.Tree.{Block, Falls, Returns, Body, Stats, EndStats, MoreStats, Stat, Empty, Local, LocalFunction, Assign, CallStat, Do, While, Repeat, If, IfElse, NumFor, NumForStep, GenFor, Label, Goto, Break, Arms, EndArms, MoreArms, Exp, Nil, True, False, Int, Str, Vararg, Var, Function, Index, Call, Method, Unary, Binary, And, Or, Paren, Table, Exps, EndExps, MoreExps, Fields, EndFields, MoreFields, Field, Item, Keyed}
+use Rattle.tree_core.specs.Tree.{Block, Falls, Returns, Body, Stats, EndStats, MoreStats, Stat, Local, Assign, CallStat, Do, While, Repeat, If, IfElse, NumFor, NumForStep, GenFor, Arms, EndArms, MoreArms, Exp, Index, Call, Method, Unary, Binary, And, Or, Paren, Table, Exps, EndExps, MoreExps, Fields, EndFields, MoreFields, Field, Item, Keyed}
 use Rattle.code_core.specs.Prototype.{Prototypes, none, more, prototypes, count}
 use Rattle.code_of.specs.CodeOf.{parts_of, from_exp, from_exps, from_fields, from_field, from_stat, from_arms, from_stats, from_block, from_body, code_of}
 use Rattle.code_parts.specs.Bodies.{exp_bodies, exps_bodies, fields_bodies, field_bodies, stat_bodies, arms_bodies, stats_bodies, block_bodies, compiled}
@@ -16,14 +16,6 @@ module _ (source : Option (List ℕ)) where
 
   mutual
     pub exp_compiled : (e : Exp) (rest : Prototypes) → from_exp source e rest ≡ compiled source (exp_bodies e) rest
-    exp_compiled (Nil line) rest = refl
-    exp_compiled (True line) rest = refl
-    exp_compiled (False line) rest = refl
-    exp_compiled (Int line n) rest = refl
-    exp_compiled (Str line bytes) rest = refl
-    exp_compiled (Vararg line) rest = refl
-    exp_compiled (Function line body) rest = refl
-    exp_compiled (Var line name) rest = refl
     exp_compiled (Index line object key) rest = two (exp_bodies object) (exp_bodies key) rest (exp_compiled key rest) (exp_compiled object _)
     exp_compiled (Call line f es) rest = two (exp_bodies f) (exps_bodies es) rest (exps_compiled es rest) (exp_compiled f _)
     exp_compiled (Method line object name es) rest = two (exp_bodies object) (exps_bodies es) rest (exps_compiled es rest) (exp_compiled object _)
@@ -33,6 +25,7 @@ module _ (source : Option (List ℕ)) where
     exp_compiled (Or line e d) rest = two (exp_bodies e) (exp_bodies d) rest (exp_compiled d rest) (exp_compiled e _)
     exp_compiled (Paren line e) rest = exp_compiled e rest
     exp_compiled (Table line fs) rest = fields_compiled fs rest
+    exp_compiled _ rest = refl
 
     pub exps_compiled : (es : Exps) (rest : Prototypes) → from_exps source es rest ≡ compiled source (exps_bodies es) rest
     exps_compiled EndExps rest = refl
@@ -48,9 +41,7 @@ module _ (source : Option (List ℕ)) where
 
   mutual
     pub stat_compiled : (s : Stat) (rest : Prototypes) → from_stat source s rest ≡ compiled source (stat_bodies s) rest
-    stat_compiled (Empty line) rest = refl
     stat_compiled (Local line names es) rest = exps_compiled es rest
-    stat_compiled (LocalFunction line name body) rest = refl
     stat_compiled (Assign line targets es) rest = two (exps_bodies targets) (exps_bodies es) rest (exps_compiled es rest) (exps_compiled targets _)
     stat_compiled (CallStat line e) rest = exp_compiled e rest
     stat_compiled (Do line block) rest = block_compiled block rest
@@ -66,9 +57,7 @@ module _ (source : Option (List ℕ)) where
         (two (exp_bodies from ++ exp_bodies limit) (exp_bodies step) _ (exp_compiled step _)
         (two (exp_bodies from) (exp_bodies limit) _ (exp_compiled limit _) (exp_compiled from _)))
     stat_compiled (GenFor line names es block) rest = two (exps_bodies es) (block_bodies block) rest (block_compiled block rest) (exps_compiled es _)
-    stat_compiled (Label line name) rest = refl
-    stat_compiled (Goto line name) rest = refl
-    stat_compiled (Break line) rest = refl
+    stat_compiled _ rest = refl
 
     arms_compiled : (as' : Arms) (rest : Prototypes) → from_arms source as' rest ≡ compiled source (arms_bodies as') rest
     arms_compiled EndArms rest = refl

@@ -3,7 +3,7 @@ use Rattle.std.proofs.Common.{arith, ◌≡◌, ℕ, zero, suc, ◌+◌, ◌-◌
 use Rattle.std.specs.Prelude.{slice_index_or, slice_set}
 use Rattle.tree_core.specs.declared.name.Name.{Name}
 use Rattle.tree_core.specs.declared.name.Declared.{Declared}
-use Rattle.tree_core.specs.Tree.{Stats, EndStats, MoreStats, Stat, Empty, Local, LocalFunction, Assign, CallStat, Do, While, Repeat, If, IfElse, NumFor, NumForStep, GenFor, Label, Goto, Break}
+use Rattle.tree_core.specs.Tree.{Stats, EndStats, MoreStats, Stat, Local}
 use Rattle.code_core.specs.declared.proto.Const.{Const}
 use Rattle.code_core.specs.declared.proto.LocVar.{LocVar}
 use Rattle.code_of.specs.declared.leaving.Leaving.{Leaving}
@@ -92,21 +92,7 @@ body_ended params place inner =
 module _ (constants : List Const) (back : Leaving) where
   declared_ended : (s : Stat) (t j pc place : ℕ) → ended_from zero place (begun_by constants back s t j pc) ≡ map over (declared_by constants back s t j pc place)
   declared_ended (Local line names es) t j pc place = locals_ended names (pc + length (exps_code constants es (Some (length names)) t j line)) place
-  declared_ended (LocalFunction line name body) t j pc place = refl
-  declared_ended (Empty line) t j pc place = refl
-  declared_ended (Assign line targets es) t j pc place = refl
-  declared_ended (CallStat line e) t j pc place = refl
-  declared_ended (Do line block) t j pc place = refl
-  declared_ended (While line e block) t j pc place = refl
-  declared_ended (Repeat line block e) t j pc place = refl
-  declared_ended (If line arms) t j pc place = refl
-  declared_ended (IfElse line arms block) t j pc place = refl
-  declared_ended (NumFor line name from limit block) t j pc place = refl
-  declared_ended (NumForStep line name from limit step block) t j pc place = refl
-  declared_ended (GenFor line names es block) t j pc place = refl
-  declared_ended (Label line name) t j pc place = refl
-  declared_ended (Goto line name) t j pc place = refl
-  declared_ended (Break line) t j pc place = refl
+  declared_ended _ t j pc place = refl
 
   pub stats_ended : (ss : Stats) (closing : Bool) (t j pc place : ℕ) → ended_from zero place (begun_in constants back ss closing t j pc) ≡ map over (within_stats constants back ss closing t j pc place)
   stats_ended EndStats closing t j pc place = refl

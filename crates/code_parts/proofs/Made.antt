@@ -1,6 +1,6 @@
 -- A piece of tree makes as many functions as it has bodies.
 use Rattle.std.proofs.Common.{ℕ, ◌+◌, ◌≡◌, List, ◌++◌, length, refl, ap₂, ◌∙◌, length-append}
-use Rattle.tree_core.specs.Tree.{Block, Falls, Returns, Body, Stats, EndStats, MoreStats, Stat, Empty, Local, LocalFunction, Assign, CallStat, Do, While, Repeat, If, IfElse, NumFor, NumForStep, GenFor, Label, Goto, Break, Arms, EndArms, MoreArms, Exp, Nil, True, False, Int, Str, Vararg, Var, Function, Index, Call, Method, Unary, Binary, And, Or, Paren, Table, Exps, EndExps, MoreExps, Fields, EndFields, MoreFields, Field, Item, Keyed}
+use Rattle.tree_core.specs.Tree.{Block, Falls, Returns, Body, Stats, EndStats, MoreStats, Stat, Local, Assign, CallStat, Do, While, Repeat, If, IfElse, NumFor, NumForStep, GenFor, Arms, EndArms, MoreArms, Exp, Index, Call, Method, Unary, Binary, And, Or, Paren, Table, Exps, EndExps, MoreExps, Fields, EndFields, MoreFields, Field, Item, Keyed}
 use Rattle.code_of.specs.Expressions.{made_by, made_in, made_in_fields, made_by_field}
 use Rattle.code_of.specs.Levels.{made_by_stat, made_in_arms, made_in_stats, made_in_block}
 use Rattle.code_parts.specs.Bodies.{exp_bodies, exps_bodies, fields_bodies, field_bodies, stat_bodies, arms_bodies, stats_bodies, block_bodies}
@@ -10,14 +10,6 @@ both xs ys m n e d = length-append xs ys ∙ ap₂ (λ a b. a + b) e d
 
 mutual
   exp_made : (e : Exp) → length (exp_bodies e) ≡ made_by e
-  exp_made (Nil line) = refl
-  exp_made (True line) = refl
-  exp_made (False line) = refl
-  exp_made (Int line n) = refl
-  exp_made (Str line bytes) = refl
-  exp_made (Vararg line) = refl
-  exp_made (Function line body) = refl
-  exp_made (Var line name) = refl
   exp_made (Index line object key) = both (exp_bodies object) (exp_bodies key) _ _ (exp_made object) (exp_made key)
   exp_made (Call line f es) = both (exp_bodies f) (exps_bodies es) _ _ (exp_made f) (exps_made es)
   exp_made (Method line object name es) = both (exp_bodies object) (exps_bodies es) _ _ (exp_made object) (exps_made es)
@@ -27,6 +19,7 @@ mutual
   exp_made (Or line e d) = both (exp_bodies e) (exp_bodies d) _ _ (exp_made e) (exp_made d)
   exp_made (Paren line e) = exp_made e
   exp_made (Table line fs) = fields_made fs
+  exp_made _ = refl
 
   exps_made : (es : Exps) → length (exps_bodies es) ≡ made_in es
   exps_made EndExps = refl
@@ -42,9 +35,7 @@ mutual
 
 mutual
   stat_made : (s : Stat) → length (stat_bodies s) ≡ made_by_stat s
-  stat_made (Empty line) = refl
   stat_made (Local line names es) = exps_made es
-  stat_made (LocalFunction line name body) = refl
   stat_made (Assign line targets es) = both (exps_bodies targets) (exps_bodies es) _ _ (exps_made targets) (exps_made es)
   stat_made (CallStat line e) = exp_made e
   stat_made (Do line block) = block_made block
@@ -55,9 +46,7 @@ mutual
   stat_made (NumFor line name from limit block) = both (exp_bodies from ++ exp_bodies limit) (block_bodies block) _ _ (both (exp_bodies from) (exp_bodies limit) _ _ (exp_made from) (exp_made limit)) (block_made block)
   stat_made (NumForStep line name from limit step block) = both (exp_bodies from ++ exp_bodies limit ++ exp_bodies step) (block_bodies block) _ _ (both (exp_bodies from ++ exp_bodies limit) (exp_bodies step) _ _ (both (exp_bodies from) (exp_bodies limit) _ _ (exp_made from) (exp_made limit)) (exp_made step)) (block_made block)
   stat_made (GenFor line names es block) = both (exps_bodies es) (block_bodies block) _ _ (exps_made es) (block_made block)
-  stat_made (Label line name) = refl
-  stat_made (Goto line name) = refl
-  stat_made (Break line) = refl
+  stat_made _ = refl
 
   arms_made : (arms : Arms) → length (arms_bodies arms) ≡ made_in_arms arms
   arms_made EndArms = refl

@@ -1,7 +1,7 @@
 -- The statements of a block, written one by one.
 use Rattle.std.proofs.Common.{arith, ℕ, ◌+◌, ◌≡◌, Bool, List, [], ◌∷◌, ◌++◌, refl, sym, ap, ap₂, ◌∙◌, append_assoc, length, take, drop, cond, Option, Some, None}
 use Rattle.std.proofs.lemmas.List.{map-append, append-nil}
-use Rattle.tree_core.specs.Tree.{Stats, MoreStats, Stat, Empty, Local, LocalFunction, Assign, CallStat, Do, While, Repeat, If, IfElse, NumFor, NumForStep, GenFor, Label, Goto, Break}
+use Rattle.tree_core.specs.Tree.{Stats, MoreStats, Stat, Empty, Label}
 use Rattle.code_core.specs.declared.proto.Const.{Const}
 use Rattle.code_of.specs.declared.leaving.Leaving.{Leaving}
 use Rattle.code_of.specs.Coded.{Coded}
@@ -66,42 +66,14 @@ module _ (k : List Const) (back : Leaving) where
       (s : Stat) (ss : Stats) (falls closing : Bool) (outer t j pc : ℕ)
       → labels_ahead k back (MoreStats s ss) falls closing outer t j pc
       ≡ ahead_with s pc (level_at ss falls outer t) (labels_ahead k back ss falls (closing_after s closing) outer (level_after s t) (j + made_by_stat s) (pc + stat_size k back s closing t j))
-  ahead_step (Empty line) ss falls closing outer t j pc = refl
-  ahead_step (Local line names es) ss falls closing outer t j pc = refl
-  ahead_step (LocalFunction line name body) ss falls closing outer t j pc = refl
-  ahead_step (Assign line targets es) ss falls closing outer t j pc = refl
-  ahead_step (CallStat line e) ss falls closing outer t j pc = refl
-  ahead_step (Do line block) ss falls closing outer t j pc = refl
-  ahead_step (While line e block) ss falls closing outer t j pc = refl
-  ahead_step (Repeat line block e) ss falls closing outer t j pc = refl
-  ahead_step (If line arms) ss falls closing outer t j pc = refl
-  ahead_step (IfElse line arms block) ss falls closing outer t j pc = refl
-  ahead_step (NumFor line name from limit block) ss falls closing outer t j pc = refl
-  ahead_step (NumForStep line name from limit pace block) ss falls closing outer t j pc = refl
-  ahead_step (GenFor line names es block) ss falls closing outer t j pc = refl
   ahead_step (Label line name) ss falls closing outer t j pc = ap₂ (λ m n. visible name.text pc (level_at ss falls outer t) ∷ labels_ahead k back ss falls closing outer t m n) (sym (no_further j)) (sym (no_further pc))
-  ahead_step (Goto line name) ss falls closing outer t j pc = refl
-  ahead_step (Break line) ss falls closing outer t j pc = refl
+  ahead_step _ ss falls closing outer t j pc = refl
 
   pub same_reach :
       (s : Stat) (closing : Bool) (t j pc place level : ℕ) (ahead passed : List Visible) (reach : Reach)
       → stat_code k back s closing t j pc (within (ahead_with s place level ahead) passed reach) ≡ stat_code k back s closing t j pc (within ahead passed reach)
   same_reach (Empty line) closing t j pc place level ahead passed reach = refl
-  same_reach (Local line names es) closing t j pc place level ahead passed reach = refl
-  same_reach (LocalFunction line name body) closing t j pc place level ahead passed reach = refl
-  same_reach (Assign line targets es) closing t j pc place level ahead passed reach = refl
-  same_reach (CallStat line e) closing t j pc place level ahead passed reach = refl
-  same_reach (Do line block) closing t j pc place level ahead passed reach = refl
-  same_reach (While line e block) closing t j pc place level ahead passed reach = refl
-  same_reach (Repeat line block e) closing t j pc place level ahead passed reach = refl
-  same_reach (If line arms) closing t j pc place level ahead passed reach = refl
-  same_reach (IfElse line arms block) closing t j pc place level ahead passed reach = refl
-  same_reach (NumFor line name from limit block) closing t j pc place level ahead passed reach = refl
-  same_reach (NumForStep line name from limit pace block) closing t j pc place level ahead passed reach = refl
-  same_reach (GenFor line names es block) closing t j pc place level ahead passed reach = refl
-  same_reach (Label line name) closing t j pc place level ahead passed reach = refl
-  same_reach (Goto line name) closing t j pc place level ahead passed reach = refl
-  same_reach (Break line) closing t j pc place level ahead passed reach = refl
+  same_reach _ closing t j pc place level ahead passed reach = refl
 
 -- what hangs on the place behind a statement
 

@@ -5,18 +5,13 @@ use Rattle.std.specs.Option.{option_map}
 use Rattle.tree_core.specs.declared.tree.Stat.{Stat as RustStat}
 use Rattle.tree_core.specs.declared.tree.Exp.{Exp as RustExp}
 use Rattle.tree_core.specs.declared.tree.Block.{Block as RustBlock, out-Block}
-use Rattle.tree_core.specs.Tree.{Block, Falls, Returns, Stats, EndStats, MoreStats, Stat, Empty, Local, LocalFunction, Assign, CallStat, Do, While, Repeat, If, IfElse, NumFor, NumForStep, GenFor, Label, Goto, Break, Arms, EndArms, MoreArms, stats}
+use Rattle.tree_core.specs.Tree.{Block, Falls, Returns, Stats, EndStats, MoreStats, Stat, Do, While, Repeat, If, IfElse, NumFor, NumForStep, GenFor, Arms, EndArms, MoreArms, stats}
 use Rattle.tree_core.specs.Plain.{plain_stat, plain_block}
 use Rattle.code_stat.specs.Forms.{choice}
 use Rattle.tree_core.proofs.Rows.{without_result, with_result}
 
 abbrev mutual
   pub stat_height : Stat → ℕ
-  stat_height (Empty line) = 0
-  stat_height (Local line names es) = 0
-  stat_height (LocalFunction line name body) = 0
-  stat_height (Assign line targets es) = 0
-  stat_height (CallStat line e) = 0
   stat_height (Do line block) = 1 + block_height block
   stat_height (While line e block) = 1 + block_height block
   stat_height (Repeat line block e) = 1 + block_height block
@@ -25,9 +20,7 @@ abbrev mutual
   stat_height (NumFor line name from limit block) = 1 + block_height block
   stat_height (NumForStep line name from limit step block) = 1 + block_height block
   stat_height (GenFor line names es block) = 1 + block_height block
-  stat_height (Label line name) = 0
-  stat_height (Goto line name) = 0
-  stat_height (Break line) = 0
+  stat_height _ = 0
 
   pub arms_height : Arms → ℕ
   arms_height EndArms = 0

@@ -104,21 +104,7 @@ several_follow s r closing xs n t line back n_is e h =
 tail_is : (k : List Const) (e : tree.Exp) (t j line back : ℕ) → is_called e ≡ true → return_code k false (tree.MoreExps e tree.EndExps) t j line back ≡ tail_code k e t j back
 tail_is k (tree.Call l f es) t j line back h = refl
 tail_is k (tree.Method l object name es) t j line back h = refl
-tail_is k (tree.Nil l) t j line back h = absurd (cc)
-tail_is k (tree.True l) t j line back h = absurd (cc)
-tail_is k (tree.False l) t j line back h = absurd (cc)
-tail_is k (tree.Int l n) t j line back h = absurd (cc)
-tail_is k (tree.Str l bytes) t j line back h = absurd (cc)
-tail_is k (tree.Vararg l) t j line back h = absurd (cc)
-tail_is k (tree.Function l body) t j line back h = absurd (cc)
-tail_is k (tree.Var l name) t j line back h = absurd (cc)
-tail_is k (tree.Index l object key) t j line back h = absurd (cc)
-tail_is k (tree.Unary l op e) t j line back h = absurd (cc)
-tail_is k (tree.Binary l op e d) t j line back h = absurd (cc)
-tail_is k (tree.And l e d) t j line back h = absurd (cc)
-tail_is k (tree.Or l e d) t j line back h = absurd (cc)
-tail_is k (tree.Paren l e) t j line back h = absurd (cc)
-tail_is k (tree.Table l fs) t j line back h = absurd (cc)
+tail_is k _ t j line back h = absurd (cc)
 
 pub tail_follows :
     (s r : Listing) (closing : Bool) (all : tree.Exps) (e : tree.Exp) (t line back : ℕ) → closing ≡ false → is_called e ≡ true → all ≡ tree.MoreExps e tree.EndExps
@@ -174,21 +160,7 @@ tail_some k (tree.Method l object name es) t j line back called h =
     let b = length-append whole (values ++ last) in
     let c = length-append values last in
     omega (arith, a, b, c, h)
-tail_some k (tree.Nil l) t j line back called h = absurd (cc)
-tail_some k (tree.True l) t j line back called h = absurd (cc)
-tail_some k (tree.False l) t j line back called h = absurd (cc)
-tail_some k (tree.Int l n) t j line back called h = absurd (cc)
-tail_some k (tree.Str l bytes) t j line back called h = absurd (cc)
-tail_some k (tree.Vararg l) t j line back called h = absurd (cc)
-tail_some k (tree.Function l body) t j line back called h = absurd (cc)
-tail_some k (tree.Var l name) t j line back called h = absurd (cc)
-tail_some k (tree.Index l object key) t j line back called h = absurd (cc)
-tail_some k (tree.Unary l op e) t j line back called h = absurd (cc)
-tail_some k (tree.Binary l op e d) t j line back called h = absurd (cc)
-tail_some k (tree.And l e d) t j line back called h = absurd (cc)
-tail_some k (tree.Or l e d) t j line back called h = absurd (cc)
-tail_some k (tree.Paren l e) t j line back called h = absurd (cc)
-tail_some k (tree.Table l fs) t j line back called h = absurd (cc)
+tail_some k _ t j line back called h = absurd (cc)
 
 pub return_some : (k : List Const) (closing : Bool) (es : tree.Exps) (t j line back : ℕ) → length (return_code k closing es t j line back) ≡ 0 → ⊥
 return_some k true es t j line back h = values_some k es t j line back (ap length (sym (closing_return k true es t j line back refl)) ∙ h)

@@ -4,7 +4,7 @@ use Rattle.std.specs.Prelude.{slice_index_or, ◌||◌}
 use Rattle.std.proofs.lemmas.List.{drop_all, drop_more}
 use Rattle.tree_core.specs.declared.name.Declared.{Declared}
 use Rattle.tree_core.specs.declared.tree.Stat as Rust
-use Rattle.tree_core.specs.Tree.{Stats, MoreStats, Stat, Empty, Local, LocalFunction, Assign, CallStat, Do, While, Repeat, If, IfElse, NumFor, NumForStep, GenFor, Label, Goto, Break, stats}
+use Rattle.tree_core.specs.Tree.{Stats, MoreStats, Stat, Empty, Label, stats}
 use Rattle.tree_core.specs.Plain.{plain_stat}
 use Rattle.tree_terms.specs.Labels.{are_void}
 use Rattle.tree_activation.specs.Statements.{is_closed}
@@ -42,39 +42,13 @@ marked_here items i x all inside is e known =
 
 void_step : (s : Stat) (ss : Stats) → is_void s ≡ true → are_void (MoreStats s ss) ≡ are_void ss
 void_step (Empty line) ss h = refl
-void_step (Local line names es) ss h = absurd (cc)
-void_step (LocalFunction line name body) ss h = absurd (cc)
-void_step (Assign line targets es) ss h = absurd (cc)
-void_step (CallStat line e) ss h = absurd (cc)
-void_step (Do line block) ss h = absurd (cc)
-void_step (While line e block) ss h = absurd (cc)
-void_step (Repeat line block e) ss h = absurd (cc)
-void_step (If line arms) ss h = absurd (cc)
-void_step (IfElse line arms block) ss h = absurd (cc)
-void_step (NumFor line name from limit block) ss h = absurd (cc)
-void_step (NumForStep line name from limit step block) ss h = absurd (cc)
-void_step (GenFor line names es block) ss h = absurd (cc)
 void_step (Label line name) ss h = refl
-void_step (Goto line name) ss h = absurd (cc)
-void_step (Break line) ss h = absurd (cc)
+void_step _ ss h = absurd (cc)
 
 void_stop : (s : Stat) (ss : Stats) → is_void s ≡ false → are_void (MoreStats s ss) ≡ false
 void_stop (Empty line) ss h = absurd (cc)
-void_stop (Local line names es) ss h = refl
-void_stop (LocalFunction line name body) ss h = refl
-void_stop (Assign line targets es) ss h = refl
-void_stop (CallStat line e) ss h = refl
-void_stop (Do line block) ss h = refl
-void_stop (While line e block) ss h = refl
-void_stop (Repeat line block e) ss h = refl
-void_stop (If line arms) ss h = refl
-void_stop (IfElse line arms block) ss h = refl
-void_stop (NumFor line name from limit block) ss h = refl
-void_stop (NumForStep line name from limit step block) ss h = refl
-void_stop (GenFor line names es block) ss h = refl
 void_stop (Label line name) ss h = absurd (cc)
-void_stop (Goto line name) ss h = refl
-void_stop (Break line) ss h = refl
+void_stop _ ss h = refl
 
 -- which statements of a list are void to its end
 

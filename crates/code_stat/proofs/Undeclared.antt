@@ -1,6 +1,6 @@
 -- Statements without code have no variables.
 use Rattle.std.proofs.Common.{arith, ℕ, ◌+◌, ◌≤◌, ◌≡◌, Bool, true, List, [], ◌∷◌, ◌++◌, Some, refl, sym, ap₂, ◌∙◌, length}
-use Rattle.tree_core.specs.Tree.{Block, Falls, Returns, Stats, EndStats, MoreStats, Stat, Empty, Local, LocalFunction, Assign, CallStat, Do, While, Repeat, If, IfElse, NumFor, NumForStep, GenFor, Label, Goto, Break, Arms, EndArms, MoreArms}
+use Rattle.tree_core.specs.Tree.{Block, Falls, Returns, Stats, EndStats, MoreStats, Stat, Local, LocalFunction, Do, While, Repeat, If, IfElse, NumFor, NumForStep, GenFor, Arms, EndArms, MoreArms}
 use Rattle.code_core.specs.declared.proto.Const.{Const}
 use Rattle.code_of.specs.declared.leaving.Leaving.{Leaving}
 use Rattle.code_of.specs.Expressions.{made_by, exps_code}
@@ -22,46 +22,20 @@ first_same s ss t h = let a = level_rises s t in let b = levels_rise ss (level_a
 
 module _ (k : List Const) (back : Leaving) where
   declared_none : (s : Stat) (t j pc end : ℕ) → level_after s t ≡ t → declared_by k back s t j pc end ≡ []
-  declared_none (Empty line) t j pc end h = refl
   declared_none (Local line [] es) t j pc end h = refl
   declared_none (Local line (d ∷ names) es) t j pc end h = absurd (omega (arith, h))
   declared_none (LocalFunction line name body) t j pc end h = absurd (omega (arith, h))
-  declared_none (Assign line targets es) t j pc end h = refl
-  declared_none (CallStat line e) t j pc end h = refl
-  declared_none (Do line block) t j pc end h = refl
-  declared_none (While line e block) t j pc end h = refl
-  declared_none (Repeat line block e) t j pc end h = refl
-  declared_none (If line arms) t j pc end h = refl
-  declared_none (IfElse line arms block) t j pc end h = refl
-  declared_none (NumFor line name from limit block) t j pc end h = refl
-  declared_none (NumForStep line name from limit step block) t j pc end h = refl
-  declared_none (GenFor line names es block) t j pc end h = refl
-  declared_none (Label line name) t j pc end h = refl
-  declared_none (Goto line name) t j pc end h = refl
-  declared_none (Break line) t j pc end h = refl
+  declared_none _ t j pc end h = refl
 
   -- a statement without code declares nothing, since values that are wanted have some
   level_without : (s : Stat) (closing : Bool) (t j : ℕ) → stat_size k back s closing t j ≡ 0 → level_after s t ≡ t
-  level_without (Empty line) closing t j h = refl
-  level_without (Assign line targets es) closing t j h = refl
-  level_without (CallStat line e) closing t j h = refl
-  level_without (Do line block) closing t j h = refl
-  level_without (While line e block) closing t j h = refl
-  level_without (Repeat line block e) closing t j h = refl
-  level_without (If line arms) closing t j h = refl
-  level_without (IfElse line arms block) closing t j h = refl
-  level_without (NumFor line name from limit block) closing t j h = refl
-  level_without (NumForStep line name from limit step block) closing t j h = refl
-  level_without (GenFor line names es block) closing t j h = refl
-  level_without (Label line name) closing t j h = refl
-  level_without (Goto line name) closing t j h = refl
-  level_without (Break line) closing t j h = refl
   level_without (Local line [] es) closing t j h = omega arith
   level_without (Local line (d ∷ names) es) closing t j h =
       let some : 1 ≤ length (exps_code k es (Some (length (d ∷ names))) t j line) = values_some k es (length names) t j line in
       let none : length (exps_code k es (Some (length (d ∷ names))) t j line) + length (marks_code (d ∷ names) t) ≡ 0 = h in
       absurd (omega (arith, some, none))
   level_without (LocalFunction line name body) closing t j h = let some = function_some body t j in absurd (omega (arith, some, h))
+  level_without _ closing t j h = refl
 
   levels_without : (ss : Stats) (closing : Bool) (t j : ℕ) → stats_size k back ss closing t j ≡ 0 → levels_after ss t ≡ t
   levels_without EndStats closing t j h = refl
@@ -71,11 +45,6 @@ module _ (k : List Const) (back : Leaving) where
 
   mutual
     pub stat_without : (s : Stat) (closing : Bool) (t j pc : ℕ) → stat_size k back s closing t j ≡ 0 → within_stat k back s closing t j pc ≡ []
-    stat_without (Empty line) closing t j pc h = refl
-    stat_without (Local line names es) closing t j pc h = refl
-    stat_without (LocalFunction line name body) closing t j pc h = refl
-    stat_without (Assign line targets es) closing t j pc h = refl
-    stat_without (CallStat line e) closing t j pc h = refl
     stat_without (Do line block) closing t j pc h = block_without block closing t j pc h
     stat_without (While line e block) closing t j pc h = absurd (omega (arith, h))
     stat_without (Repeat line block e) closing t j pc h = absurd (omega (arith, h))
@@ -89,9 +58,7 @@ module _ (k : List Const) (back : Leaving) where
     stat_without (NumFor line name from limit block) closing t j pc h = absurd (omega (arith, h))
     stat_without (NumForStep line name from limit step block) closing t j pc h = absurd (omega (arith, h))
     stat_without (GenFor line names es block) closing t j pc h = absurd (omega (arith, h))
-    stat_without (Label line name) closing t j pc h = refl
-    stat_without (Goto line name) closing t j pc h = refl
-    stat_without (Break line) closing t j pc h = refl
+    stat_without _ closing t j pc h = refl
 
     arms_without : (arms : Arms) (rest : ℕ) (closing : Bool) (t j pc : ℕ) → arms_size k back arms rest closing t j ≡ 0 → within_arms k back arms rest closing t j pc ≡ []
     arms_without EndArms rest closing t j pc h = refl

@@ -1,7 +1,7 @@
 -- Arithmetic between two operands: an instruction that does it on integers, and MMBIN behind it that asks.
 use Rattle.std.proofs.Common.{◌≡◌, ℕ, suc, ◌+◌, ◌<◌, ◌^◌, lit<, false, List, [], ◌∷◌, length, Some, None, refl, ap, ap₂, ◌∙◌, arith}
 use borrow.Author.Tests.{lt-ltb}
-use Rattle.int_core.specs.Value.{Value, Shape, is_known, is_object, integer, nil, boolean, string, primitive, nth}
+use Rattle.int_core.specs.Value.{Value, Shape, is_known, primitive, nth}
 use Rattle.int_core.specs.Operations.{Event, of_add, of_sub, of_mul, of_mod, of_idiv, of_band, of_bor, of_bxor, of_shl, of_shr, arithmetic}
 use Rattle.int_core.specs.Ask.{operates, Captured}
 use Rattle.tree_core.specs.declared.operator.BinOp.{BinOp}
@@ -62,12 +62,8 @@ arithmetic_by ShiftRight h = record { opcode = Shr; event = of_shr; number = 17;
 arithmetic_by _ h = absurd h
 
 pub integer_same : (s : Shape) → integer_of_shape s ≡ integer_in s
-integer_same (is_known nil) = refl
-integer_same (is_known (boolean b)) = refl
-integer_same (is_known (integer n)) = refl
-integer_same (is_known (string s)) = refl
 integer_same (is_known (primitive n)) = refl
-integer_same (is_object kind) = refl
+integer_same _ = refl
 
 module _ (p : Prototype) where
   pub front_of : (pc : ℕ) → in_front p (pc + 1) ≡ at p pc

@@ -5,7 +5,7 @@ use Rattle.int_core.specs.Value.{Value, Shape, is_known, nil, known, nth, shape}
 use Rattle.int_core.specs.Operations.{Event, of_add, of_sub, of_mul, of_mod, of_idiv, of_band, of_bor, of_bxor, arithmetic, equal}
 use Rattle.int_core.specs.Ask.{operates, Captured}
 use Rattle.tree_core.specs.declared.operator.BinOp.{BinOp}
-use Rattle.tree_core.specs.declared.operator.BinOp.TheVariants.{Add as Plus, Sub as Minus, Mul as Times, Mod as Modulo, Idiv, Band, Bor, Bxor, Shl as ShiftLeft, Shr as ShiftRight, Concat as Join, Eq as Equal, Ne, Lt as Less, Le as AtMost, Gt, Ge}
+use Rattle.tree_core.specs.declared.operator.BinOp.TheVariants.{Add as Plus, Sub as Minus, Mul as Times, Mod as Modulo, Idiv, Band, Bor, Bxor, Eq as Equal, Ne}
 use Rattle.tree_core.specs.Tree.{Exp}
 use Rattle.tree_activation.specs.Work.{Work}
 use Rattle.tree_activation.specs.Work as tree
@@ -52,13 +52,7 @@ constant_sort Bor d v h = inl (record { opcode = BOrK; event = of_bor; number = 
 constant_sort Bxor d v h = inl (record { opcode = BXorK; event = of_bxor; number = 15; small = lit< tt; emits = λ x n t line. refl; row = λ p pc w. refl; means = λ line v w a k. refl; numbered = refl })
 constant_sort Equal d v h = inr (comparison_by Equal tt)
 constant_sort Ne d v h = inr (comparison_by Ne tt)
-constant_sort ShiftLeft d v h = absurd (cc)
-constant_sort ShiftRight d v h = absurd (cc)
-constant_sort Join d v h = absurd (cc)
-constant_sort Less d v h = absurd (cc)
-constant_sort AtMost d v h = absurd (cc)
-constant_sort Gt d v h = absurd (cc)
-constant_sort Ge d v h = absurd (cc)
+constant_sort _ d v h = absurd (cc)
 
 module _ (p : Prototype) where
   abbrev reads_constant : ℕ → Value → Option Const → List Value

@@ -122,23 +122,10 @@ module _ (S : Setting) (pending : List Pending) where
   GoesBy n e field t env regs pc k = Goes S pending n false t env regs pc k
 
   goes_by : (n : ℕ) (e : Exp) (field t : ℕ) (env regs : List Value) (pc : ℕ) (k : List Work) → (is_open e ≡ true → GoesFilled S pending n field t env regs pc k) → (is_open e ≡ false → Goes S pending n false t env regs pc k) → GoesBy n e field t env regs pc k
-  goes_by n (Nil line) field t env regs pc k many one = one refl
-  goes_by n (True line) field t env regs pc k many one = one refl
-  goes_by n (False line) field t env regs pc k many one = one refl
-  goes_by n (Int line z) field t env regs pc k many one = one refl
-  goes_by n (Str line bytes) field t env regs pc k many one = one refl
   goes_by n (Vararg line) field t env regs pc k many one = many refl
-  goes_by n (Function line body) field t env regs pc k many one = one refl
-  goes_by n (Var line name) field t env regs pc k many one = one refl
-  goes_by n (Index line object key) field t env regs pc k many one = one refl
   goes_by n (Call line f es) field t env regs pc k many one = many refl
   goes_by n (Method line object name es) field t env regs pc k many one = many refl
-  goes_by n (Unary line op e) field t env regs pc k many one = one refl
-  goes_by n (Binary line op e d) field t env regs pc k many one = one refl
-  goes_by n (And line e d) field t env regs pc k many one = one refl
-  goes_by n (Or line e d) field t env regs pc k many one = one refl
-  goes_by n (Paren line e) field t env regs pc k many one = one refl
-  goes_by n (Table line fs) field t env regs pc k many one = one refl
+  goes_by n _ field t env regs pc k many one = one refl
 
   -- one value is wanted
   first_by : (n : ℕ) (e : Exp) (t : ℕ) (env regs : List Value) (pc : ℕ) (k : List Work) → Goes S pending n (is_open e) t env regs pc k → GoesBy n e 2 t env regs pc k

@@ -4,7 +4,7 @@ use Rattle.int_core.specs.Value.{Value, known, integer, nth}
 use Rattle.int_core.specs.Ask.{Captured, goes_on}
 use Rattle.tree_core.specs.declared.name.Place.{Place}
 use Rattle.tree_core.specs.declared.name.Place.TheVariants.{Unset, Upvalue, GlobalIn, GlobalOf, Local as LocalPlace}
-use Rattle.tree_core.specs.Tree.{Exp, Nil, True, False, Int, Str, Vararg, Function, Var, Index, Call, Method, Unary, Binary, And, Or, Paren, Table}
+use Rattle.tree_core.specs.Tree.{Exp, Var, Paren}
 use Rattle.tree_activation.specs.Work.{evaluate, give, Work, Pending, first_only}
 use Rattle.tree_activation.specs.Work as tree
 use Rattle.tree_activation.specs.Activation.{step}
@@ -29,29 +29,12 @@ use Rattle.exp_laws.proofs.Going.{Goes}
 
 name_placed : (S : Setting) (p : Place) (text : List ℕ) (r size : ℕ) → local_at p ≡ Some r → NameIsPlaced S p text size → r < size
 name_placed S (LocalPlace q) text r size e h = let same : q ≡ r = some_is q r e in omega (arith, same, h)
-name_placed S Unset text r size e h = absurd (cc)
-name_placed S (Upvalue u) text r size e h = absurd (cc)
-name_placed S (GlobalIn n) text r size e h = absurd (cc)
-name_placed S (GlobalOf u) text r size e h = absurd (cc)
+name_placed S _ text r size e h = absurd (cc)
 
 pub local_placed : (S : Setting) (e : Exp) (r size j : ℕ) → local_of e ≡ Some r → IsPlaced S e size j → r < size
 local_placed S (Var line name) r size j e h = name_placed S name.place name.text r size e h
 local_placed S (Paren line inner) r size j e h = local_placed S inner r size j e h
-local_placed S (Nil line) r size j e h = absurd (cc)
-local_placed S (True line) r size j e h = absurd (cc)
-local_placed S (False line) r size j e h = absurd (cc)
-local_placed S (Int line z) r size j e h = absurd (cc)
-local_placed S (Str line bytes) r size j e h = absurd (cc)
-local_placed S (Vararg line) r size j e h = absurd (cc)
-local_placed S (Function line body) r size j e h = absurd (cc)
-local_placed S (Index line object key) r size j e h = absurd (cc)
-local_placed S (Call line f es) r size j e h = absurd (cc)
-local_placed S (Method line object name es) r size j e h = absurd (cc)
-local_placed S (Unary line op inner) r size j e h = absurd (cc)
-local_placed S (Binary line op left right) r size j e h = absurd (cc)
-local_placed S (And line left right) r size j e h = absurd (cc)
-local_placed S (Or line left right) r size j e h = absurd (cc)
-local_placed S (Table line fs) r size j e h = absurd (cc)
+local_placed S _ r size j e h = absurd (cc)
 
 module _ (S : Setting) (pending : List Pending) where
   -- what the code of an expression does, of which one value is wanted
@@ -79,21 +62,7 @@ module _ (S : Setting) (pending : List Pending) where
   local_read (Paren line inner) r n env c k t e next =
       go_left S n _ (tree.at (evaluate inner) (of_tree S pending env c) (first_only ∷ k)) t refl
       (local_read inner r n env c (first_only ∷ k) t e (go_left S n _ (tree.at (give (nth env r ∷ [])) (of_tree S pending env c) k) t refl next))
-  local_read (Nil line) r n env c k t e next = absurd (cc)
-  local_read (True line) r n env c k t e next = absurd (cc)
-  local_read (False line) r n env c k t e next = absurd (cc)
-  local_read (Int line z) r n env c k t e next = absurd (cc)
-  local_read (Str line bytes) r n env c k t e next = absurd (cc)
-  local_read (Vararg line) r n env c k t e next = absurd (cc)
-  local_read (Function line body) r n env c k t e next = absurd (cc)
-  local_read (Index line object key) r n env c k t e next = absurd (cc)
-  local_read (Call line f es) r n env c k t e next = absurd (cc)
-  local_read (Method line object name es) r n env c k t e next = absurd (cc)
-  local_read (Unary line op inner) r n env c k t e next = absurd (cc)
-  local_read (Binary line op left right) r n env c k t e next = absurd (cc)
-  local_read (And line left right) r n env c k t e next = absurd (cc)
-  local_read (Or line left right) r n env c k t e next = absurd (cc)
-  local_read (Table line fs) r n env c k t e next = absurd (cc)
+  local_read _ r n env c k t e next = absurd (cc)
 
   pub numeral_read : (d : Exp) (m most n : ℕ) (f : IsNumeral d m most) (env : List Value) (c : Captured) (k : List Work) (t : code.State)
       → Agree S n (tree.at (give (known (integer (pos m)) ∷ [])) (of_tree S pending env c) k) t → Agree S n (tree.at (evaluate d) (of_tree S pending env c) k) t

@@ -6,7 +6,7 @@ use Rattle.int_core.specs.Ask.{operates, Reply, values, faulted, left, Captured,
 use Rattle.tree_core.specs.declared.operator.UnOp.{UnOp}
 use Rattle.tree_core.specs.declared.operator.UnOp.TheVariants.{Neg, BitNot, Not as Negation, Len as Length}
 use Rattle.tree_core.specs.declared.operator.BinOp.{BinOp}
-use Rattle.tree_core.specs.declared.operator.BinOp.TheVariants.{Add as Plus, Sub as Minus, Mul as Times, Mod as Modulo, Idiv, Band, Bor, Bxor, Shl as ShiftLeft, Shr as ShiftRight, Concat as Join, Eq as Equal, Ne, Lt as Less, Le as AtMost, Gt, Ge}
+use Rattle.tree_core.specs.declared.operator.BinOp.TheVariants.{Concat as Join, Eq as Equal, Ne, Lt as Less, Le as AtMost, Gt, Ge}
 use Rattle.tree_core.specs.Tree.{Exp}
 use Rattle.tree_activation.specs.Work.{give, Work, Pending, operand_of, left_of}
 use Rattle.tree_activation.specs.Work as tree
@@ -47,16 +47,6 @@ told_concat (left e) = refl
 
 -- an operator that computes a value is one of arithmetic
 pub computes_arithmetic : (op : BinOp) → computes op ≡ true → IsArithmetic op
-computes_arithmetic Plus e = tt
-computes_arithmetic Minus e = tt
-computes_arithmetic Times e = tt
-computes_arithmetic Modulo e = tt
-computes_arithmetic Idiv e = tt
-computes_arithmetic Band e = tt
-computes_arithmetic Bor e = tt
-computes_arithmetic Bxor e = tt
-computes_arithmetic ShiftLeft e = tt
-computes_arithmetic ShiftRight e = tt
 computes_arithmetic Join e = absurd (cc)
 computes_arithmetic Equal e = absurd (cc)
 computes_arithmetic Ne e = absurd (cc)
@@ -64,18 +54,9 @@ computes_arithmetic Less e = absurd (cc)
 computes_arithmetic AtMost e = absurd (cc)
 computes_arithmetic Gt e = absurd (cc)
 computes_arithmetic Ge e = absurd (cc)
+computes_arithmetic _ e = tt
 
 sort_of : (op : BinOp) → IsArithmetic op ⊎ (IsComparison op ⊎ (op ≡ Join))
-sort_of Plus = inl tt
-sort_of Minus = inl tt
-sort_of Times = inl tt
-sort_of Modulo = inl tt
-sort_of Idiv = inl tt
-sort_of Band = inl tt
-sort_of Bor = inl tt
-sort_of Bxor = inl tt
-sort_of ShiftLeft = inl tt
-sort_of ShiftRight = inl tt
 sort_of Join = inr (inr refl)
 sort_of Equal = inr (inl tt)
 sort_of Ne = inr (inl tt)
@@ -83,6 +64,7 @@ sort_of Less = inr (inl tt)
 sort_of AtMost = inr (inl tt)
 sort_of Gt = inr (inl tt)
 sort_of Ge = inr (inl tt)
+sort_of _ = inl tt
 
 module _ (S : Setting) (pending : List Pending) where
   prefix_into : (op : UnOp) (g : Prefix op) (n : ℕ) (many : Bool) (line x t f pc opened : ℕ) (vs env regs : List Value) (c : Captured) (k : List Work)

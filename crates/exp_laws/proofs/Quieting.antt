@@ -4,8 +4,8 @@ use Rattle.int_core.specs.Value.{Value, known, nil, boolean, integer, shape, hol
 use Rattle.int_core.specs.Ask.{reads_upvalue, Captured, goes_on}
 use Rattle.tree_core.specs.declared.name.Place.{Place}
 use Rattle.tree_core.specs.declared.name.Place.TheVariants.{Unset, Upvalue, GlobalIn, GlobalOf, Local as LocalPlace}
-use Rattle.tree_core.specs.declared.operator.UnOp.TheVariants.{BitNot, Len as Length, Neg, Not as Negation}
-use Rattle.tree_core.specs.Tree.{Exp, Nil, True, False, Int, Str, Vararg, Function, Var, Index, Call, Method, Unary, Binary, And, Or, Paren, Table}
+use Rattle.tree_core.specs.declared.operator.UnOp.TheVariants.{Not as Negation}
+use Rattle.tree_core.specs.Tree.{Exp, Nil, True, False, Int, Str, Function, Var, Unary, Paren}
 use Rattle.tree_terms.specs.Bodies.{line_of_body, upvalues_of}
 use Rattle.tree_activation.specs.Work.{capture, evaluate, first_only, operand_of, give, make, Work, Pending}
 use Rattle.tree_activation.specs.Work as tree
@@ -182,14 +182,4 @@ module _ (S : Setting) (pending : List Pending) where
       (quiet_same e q t j n pc opened env regs c (first_only ∷ k) bound has ok inside le room rel
       (λ v env1 regs1 c1 o1 af st eq. go_left S n _ (tree.at (give (v ∷ [])) (of_tree S pending env1 c1) k) _ refl (goes v env1 regs1 c1 o1 af st eq)))
   quiet_same (Unary line Negation e) q t j n pc opened env regs c k bound has ok inside le room rel goes = not_still line e (quiet_same e q) t j n pc opened env regs c k bound has ok inside le room rel goes
-  quiet_same (Unary line Neg e) q t j n pc opened env regs c k bound has ok inside le room rel goes = absurd (cc)
-  quiet_same (Unary line BitNot e) q t j n pc opened env regs c k bound has ok inside le room rel goes = absurd (cc)
-  quiet_same (Unary line Length e) q t j n pc opened env regs c k bound has ok inside le room rel goes = absurd (cc)
-  quiet_same (Vararg line) q t j n pc opened env regs c k bound has ok inside le room rel goes = absurd (cc)
-  quiet_same (Index line o key) q t j n pc opened env regs c k bound has ok inside le room rel goes = absurd (cc)
-  quiet_same (Call line f es) q t j n pc opened env regs c k bound has ok inside le room rel goes = absurd (cc)
-  quiet_same (Method line o name es) q t j n pc opened env regs c k bound has ok inside le room rel goes = absurd (cc)
-  quiet_same (Binary line op e d) q t j n pc opened env regs c k bound has ok inside le room rel goes = absurd (cc)
-  quiet_same (And line e d) q t j n pc opened env regs c k bound has ok inside le room rel goes = absurd (cc)
-  quiet_same (Or line e d) q t j n pc opened env regs c k bound has ok inside le room rel goes = absurd (cc)
-  quiet_same (Table line fs) q t j n pc opened env regs c k bound has ok inside le room rel goes = absurd (cc)
+  quiet_same _ q t j n pc opened env regs c k bound has ok inside le room rel goes = absurd (cc)

@@ -1,6 +1,6 @@
 -- Each expression names a register.
 use Rattle.std.proofs.Common.{ℕ, ◌≤◌, List, arith}
-use Rattle.tree_core.specs.Tree.{Exp, Nil, True, False, Int, Str, Vararg, Function, Var, Index, Call, Method, Unary, Binary, And, Or, Paren, Table}
+use Rattle.tree_core.specs.Tree.{Exp, Var, Index, Call, Method, Unary, Binary, And, Or, Paren}
 use Rattle.code_core.specs.declared.proto.Const.{Const}
 use Rattle.code_of.specs.Stores.{name_in}
 use Rattle.code_of.specs.Operations.{constant_in}
@@ -10,13 +10,6 @@ use Rattle.code_of.proofs.FieldReads.{some_read}
 use Rattle.code_of.proofs.Rooms.{name_room}
 
 pub room_some : (cs : List Const) (e : Exp) → 1 ≤ room_of cs e 2
-room_some cs (Nil line) = omega arith
-room_some cs (True line) = omega arith
-room_some cs (False line) = omega arith
-room_some cs (Int line z) = omega arith
-room_some cs (Str line bytes) = omega arith
-room_some cs (Vararg line) = omega arith
-room_some cs (Function line body) = omega arith
 room_some cs (Var line name) = name_room cs name.place name.text
 room_some cs (Index line object key) = some_read (name_in cs key) object key (room_of cs object 2) (room_of cs key 2) (room_some cs object)
 room_some cs (Call line f es) = let h = room_some cs f in omega (arith, h)
@@ -26,4 +19,4 @@ room_some cs (Binary line op e d) = some_operation (constant_in cs op d) op e d 
 room_some cs (And line e d) = let h = room_some cs d in omega (arith, h)
 room_some cs (Or line e d) = let h = room_some cs d in omega (arith, h)
 room_some cs (Paren line e) = room_some cs e
-room_some cs (Table line fs) = omega arith
+room_some cs _ = omega arith

@@ -8,7 +8,7 @@ use Rattle.int_core.specs.Arithmetic.{wrapped}
 use Rattle.int_core.specs.Operations.{Event, of_add, of_sub, of_shl, of_shr, arithmetic}
 use Rattle.int_core.specs.Ask.{operates, Captured}
 use Rattle.tree_core.specs.declared.operator.BinOp.{BinOp}
-use Rattle.tree_core.specs.declared.operator.BinOp.TheVariants.{Add as Plus, Sub as Minus, Mul as Times, Mod as Modulo, Idiv, Band, Bor, Bxor, Shl as ShiftLeft, Shr as ShiftRight, Concat as Join, Eq as Equal, Ne, Lt as Less, Le as AtMost, Gt, Ge}
+use Rattle.tree_core.specs.declared.operator.BinOp.TheVariants.{Add as Plus, Sub as Minus, Shl as ShiftLeft, Shr as ShiftRight, Eq as Equal, Ne, Lt as Less, Le as AtMost, Gt, Ge}
 use Rattle.tree_core.specs.Tree.{Exp}
 use Rattle.tree_activation.specs.Work.{Work}
 use Rattle.tree_activation.specs.Work as tree
@@ -156,13 +156,7 @@ number_form Less d n e = compares_number Less d n (comparison_by Less tt) e
 number_form AtMost d n e = compares_number AtMost d n (comparison_by AtMost tt) e
 number_form Gt d n e = compares_number Gt d n (comparison_by Gt tt) e
 number_form Ge d n e = compares_number Ge d n (comparison_by Ge tt) e
-number_form Times d n e = absurd (numeral_none d n e)
-number_form Modulo d n e = absurd (numeral_none d n e)
-number_form Idiv d n e = absurd (numeral_none d n e)
-number_form Band d n e = absurd (numeral_none d n e)
-number_form Bor d n e = absurd (numeral_none d n e)
-number_form Bxor d n e = absurd (numeral_none d n e)
-number_form Join d n e = absurd (numeral_none d n e)
+number_form _ d n e = absurd (numeral_none d n e)
 
 module _ (p : Prototype) where
   -- the instruction has read its operand

@@ -6,7 +6,7 @@ use Rattle.int_core.specs.Ask.{operates, Captured}
 use Rattle.tree_core.specs.declared.operator.UnOp.{UnOp}
 use Rattle.tree_core.specs.declared.operator.UnOp.TheVariants.{Neg, BitNot, Not as Negation, Len as Length}
 use Rattle.tree_core.specs.declared.operator.BinOp.{BinOp}
-use Rattle.tree_core.specs.declared.operator.BinOp.TheVariants.{Add as Plus, Sub as Minus, Mul as Times, Mod as Modulo, Idiv, Band, Bor, Bxor, Shl as ShiftLeft, Shr as ShiftRight, Concat as Join, Eq as Equal, Ne, Lt as Less, Le as AtMost, Gt, Ge}
+use Rattle.tree_core.specs.declared.operator.BinOp.TheVariants.{Eq as Equal, Ne, Lt as Less, Le as AtMost, Gt, Ge}
 use Rattle.tree_core.specs.Tree.{Exp, True, Unary, Binary, And, Or, Paren}
 use Rattle.tree_activation.specs.Work.{give, evaluate, Work, Pending, operand_of, right_of, left_of, and_right, or_right, first_only}
 use Rattle.tree_activation.specs.Work as tree
@@ -56,17 +56,7 @@ sort Less = inl (comparison_by Less tt)
 sort AtMost = inl (comparison_by AtMost tt)
 sort Gt = inl (comparison_by Gt tt)
 sort Ge = inl (comparison_by Ge tt)
-sort Plus = inr (record { tests = λ o b. refl; compares_not = refl })
-sort Minus = inr (record { tests = λ o b. refl; compares_not = refl })
-sort Times = inr (record { tests = λ o b. refl; compares_not = refl })
-sort Modulo = inr (record { tests = λ o b. refl; compares_not = refl })
-sort Idiv = inr (record { tests = λ o b. refl; compares_not = refl })
-sort Band = inr (record { tests = λ o b. refl; compares_not = refl })
-sort Bor = inr (record { tests = λ o b. refl; compares_not = refl })
-sort Bxor = inr (record { tests = λ o b. refl; compares_not = refl })
-sort ShiftLeft = inr (record { tests = λ o b. refl; compares_not = refl })
-sort ShiftRight = inr (record { tests = λ o b. refl; compares_not = refl })
-sort Join = inr (record { tests = λ o b. refl; compares_not = refl })
+sort _ = inr (record { tests = λ o b. refl; compares_not = refl })
 
 -- the field k of the instruction is right
 

@@ -3,9 +3,9 @@ use Rattle.std.proofs.Common.{◌≡◌, ℕ, suc, ◌+◌, ◌<◌, ◌≤◌, 
 use Rattle.int_core.specs.Value.{Value, known, nil, boolean, integer, string, shape, holds, nth, write}
 use Rattle.int_core.specs.Ask.{Captured, goes_on}
 use Rattle.tree_core.specs.declared.name.Place.{Place}
-use Rattle.tree_core.specs.declared.name.Place.TheVariants.{Unset, Upvalue, GlobalIn, GlobalOf, Local as LocalPlace}
-use Rattle.tree_core.specs.declared.operator.UnOp.TheVariants.{BitNot, Len as Length, Neg, Not as Negation}
-use Rattle.tree_core.specs.Tree.{Exp, Nil, True, False, Int, Str, Vararg, Function, Var, Index, Call, Method, Unary, Binary, And, Or, Paren, Table, Fields, MoreFields, Item}
+use Rattle.tree_core.specs.declared.name.Place.TheVariants.{Local as LocalPlace}
+use Rattle.tree_core.specs.declared.operator.UnOp.TheVariants.{Not as Negation}
+use Rattle.tree_core.specs.Tree.{Exp, Nil, True, False, Int, Str, Var, Unary, Paren, Fields, MoreFields, Item}
 use Rattle.tree_activation.specs.Work.{evaluate, first_only, operand_of, give, Work, Pending}
 use Rattle.tree_activation.specs.Work as tree
 use Rattle.tree_activation.specs.Activation.{step}
@@ -119,10 +119,7 @@ module _ (S : Setting) (pending : List Pending) where
   name_evaluated : (place : Place) (text : List ℕ) (line n : ℕ) (s : tree.State) (env : List Value) (c : Captured) (k : List Work) (t : code.State) → is_own place ≡ true → step s ≡ reads_variable line text place (of_tree S pending env c) k
       → Agree S n (tree.at (give (worth_at place env ∷ [])) (of_tree S pending env c) k) t → Agree S n s t
   name_evaluated (LocalPlace r) text line n s env c k t w e h = go_left S n s (tree.at (give (nth env r ∷ [])) (of_tree S pending env c) k) t e h
-  name_evaluated Unset text line n s env c k t w e h = absurd (cc)
-  name_evaluated (Upvalue u) text line n s env c k t w e h = absurd (cc)
-  name_evaluated (GlobalIn r) text line n s env c k t w e h = absurd (cc)
-  name_evaluated (GlobalOf u) text line n s env c k t w e h = absurd (cc)
+  name_evaluated _ text line n s env c k t w e h = absurd (cc)
 
   pub evaluated : (e : Exp) → waits e ≡ true → (n : ℕ) (env : List Value) (c : Captured) (k : List Work) (t : code.State)
       → Agree S n (tree.at (give (worth e env ∷ [])) (of_tree S pending env c) k) t → Agree S n (tree.at (evaluate e) (of_tree S pending env c) k) t
@@ -139,18 +136,7 @@ module _ (S : Setting) (pending : List Pending) where
   evaluated (Paren line e) w n env c k t h =
       go_left S n _ (tree.at (evaluate e) (of_tree S pending env c) (first_only ∷ k)) t refl
       (evaluated e w n env c (first_only ∷ k) t (go_left S n _ (tree.at (give (worth e env ∷ [])) (of_tree S pending env c) k) t refl h))
-  evaluated (Unary line Neg e) w n env c k t h = absurd (cc)
-  evaluated (Unary line BitNot e) w n env c k t h = absurd (cc)
-  evaluated (Unary line Length e) w n env c k t h = absurd (cc)
-  evaluated (Vararg line) w n env c k t h = absurd (cc)
-  evaluated (Function line body) w n env c k t h = absurd (cc)
-  evaluated (Index line o key) w n env c k t h = absurd (cc)
-  evaluated (Call line f es) w n env c k t h = absurd (cc)
-  evaluated (Method line o name es) w n env c k t h = absurd (cc)
-  evaluated (Binary line op e d) w n env c k t h = absurd (cc)
-  evaluated (And line e d) w n env c k t h = absurd (cc)
-  evaluated (Or line e d) w n env c k t h = absurd (cc)
-  evaluated (Table line fs) w n env c k t h = absurd (cc)
+  evaluated _ w n env c k t h = absurd (cc)
 
   -- the code comes to it in register t, wherever the tree is
 
@@ -200,10 +186,7 @@ module _ (S : Setting) (pending : List Pending) where
       (move_step S.code (of_code S pending pc regs opened) c there.0 there.1 t m has.0 (omega (arith, room, S.small)) (omega (arith, ok, le, room, S.small)) (omega (arith, ok, rel.fits, rel.room)) (omega (arith, room, rel.room))
       ∙ ap (λ v. goes_on (before (of_code S pending (pc + 1) (write t v regs) opened) c)) (sym (rel.agree m ok)))
       (put_held n t (pc + 1) opened s (nth env m) env regs c le rel goes)
-  name_held Unset text n t line pc opened s env regs c w has ok inside le room rel goes = absurd (cc)
-  name_held (Upvalue u) text n t line pc opened s env regs c w has ok inside le room rel goes = absurd (cc)
-  name_held (GlobalIn m) text n t line pc opened s env regs c w has ok inside le room rel goes = absurd (cc)
-  name_held (GlobalOf u) text n t line pc opened s env regs c w has ok inside le room rel goes = absurd (cc)
+  name_held _ text n t line pc opened s env regs c w has ok inside le room rel goes = absurd (cc)
 
   abbrev pub HeldSame : Exp → Type 0
   HeldSame e =
@@ -258,15 +241,4 @@ module _ (S : Setting) (pending : List Pending) where
   held_same (Var line name) w t j n pc opened s env regs c has ok inside le room rel goes = name_held name.place name.text n t line pc opened s env regs c w has ok inside le room rel goes
   held_same (Paren line e) w t j n pc opened s env regs c has ok inside le room rel goes = held_same e w t j n pc opened s env regs c has ok inside le room rel goes
   held_same (Unary line Negation e) w t j n pc opened s env regs c has ok inside le room rel goes = not_held line e (held_same e w) t j n pc opened s env regs c has ok inside le room rel goes
-  held_same (Unary line Neg e) w t j n pc opened s env regs c has ok inside le room rel goes = absurd (cc)
-  held_same (Unary line BitNot e) w t j n pc opened s env regs c has ok inside le room rel goes = absurd (cc)
-  held_same (Unary line Length e) w t j n pc opened s env regs c has ok inside le room rel goes = absurd (cc)
-  held_same (Vararg line) w t j n pc opened s env regs c has ok inside le room rel goes = absurd (cc)
-  held_same (Function line body) w t j n pc opened s env regs c has ok inside le room rel goes = absurd (cc)
-  held_same (Index line o key) w t j n pc opened s env regs c has ok inside le room rel goes = absurd (cc)
-  held_same (Call line f es) w t j n pc opened s env regs c has ok inside le room rel goes = absurd (cc)
-  held_same (Method line o name es) w t j n pc opened s env regs c has ok inside le room rel goes = absurd (cc)
-  held_same (Binary line op e d) w t j n pc opened s env regs c has ok inside le room rel goes = absurd (cc)
-  held_same (And line e d) w t j n pc opened s env regs c has ok inside le room rel goes = absurd (cc)
-  held_same (Or line e d) w t j n pc opened s env regs c has ok inside le room rel goes = absurd (cc)
-  held_same (Table line fs) w t j n pc opened s env regs c has ok inside le room rel goes = absurd (cc)
+  held_same _ w t j n pc opened s env regs c has ok inside le room rel goes = absurd (cc)

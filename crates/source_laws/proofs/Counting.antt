@@ -3,7 +3,7 @@ use Rattle.std.proofs.Common.{◌≡◌, ℕ, zero, suc, ◌+◌, ◌<◌, ◌�
 use Rattle.tree_core.specs.declared.name.Name.{Name}
 use Rattle.tree_core.specs.declared.name.Declared.{Declared}
 use Rattle.tree_core.specs.declared.name.UpName.{UpName}
-use Rattle.tree_core.specs.Tree.{Block, Falls, Returns, BodyOf, Stats, EndStats, MoreStats, Stat, Empty, Local, LocalFunction, Assign, CallStat, Do, While, Repeat, If, IfElse, NumFor, NumForStep, GenFor, Label, Goto, Break, Arms, EndArms, MoreArms, Exp, Nil, True, False, Int, Str, Vararg, Function, Var, Index, Call, Method, Unary, Binary, And, Or, Paren, Table, Exps, EndExps, MoreExps}
+use Rattle.tree_core.specs.Tree.{Block, Falls, Returns, BodyOf, Stats, EndStats, MoreStats, Stat, Local, Do, While, Repeat, If, IfElse, NumFor, NumForStep, GenFor, Arms, EndArms, MoreArms, Exp, Nil, True, False, Int, Str, Vararg, Function, Var, Index, Call, Method, Unary, Binary, And, Or, Paren, Table, Exps, EndExps, MoreExps}
 use Rattle.code_core.specs.declared.proto.Const.{Const}
 use Rattle.code_of.specs.declared.leaving.Leaving.{Leaving}
 use Rattle.code_of.specs.Constants.{of_block}
@@ -67,14 +67,10 @@ module _ (cs : List Const) (back : Leaving) where
 
   mutual
     stat_few : (s : Stat) (closing : Bool) (t j pc end : ℕ) → length (declared_by cs back s t j pc end) + length (within_stat cs back s closing t j pc) ≤ weight_of_stat s
-    stat_few (Empty line) closing t j pc end = omega arith
     stat_few (Local line names es) closing t j pc end =
         let a = length_variables (names_of names) (pc + length (exps_code cs es (Some (length names)) t j line)) end in
         let b = length_names names in
         omega (arith, a, b)
-    stat_few (LocalFunction line name body) closing t j pc end = omega arith
-    stat_few (Assign line targets es) closing t j pc end = omega arith
-    stat_few (CallStat line e) closing t j pc end = omega arith
     stat_few (Do line block) closing t j pc end = let h = block_few block closing t t j pc in omega (arith, h)
     stat_few (While line e block) closing t j pc end = let h = block_few block closing t t (j + made_by e) (pc + length (test_code cs e true 0 t j)) in omega (arith, h)
     stat_few (Repeat line block e) closing t j pc end = let h = open_few block closing t j pc (pc + stat_size cs back (Repeat line block e) closing t j) in omega (arith, h)
@@ -114,9 +110,7 @@ module _ (cs : List Const) (back : Leaving) where
         let b = block_few block true (t + 4) (t + 4 + length names) k (place + 1) in
         let c = length-append (looped cs back 4 names place size last) (within_block cs back block true (t + 4) (t + 4 + length names) k (place + 1)) in
         omega (arith, a, b, c)
-    stat_few (Label line name) closing t j pc end = omega arith
-    stat_few (Goto line name) closing t j pc end = omega arith
-    stat_few (Break line) closing t j pc end = omega arith
+    stat_few _ closing t j pc end = omega arith
 
     arms_few : (arms : Arms) (rest : ℕ) (closing : Bool) (t j pc : ℕ) → length (within_arms cs back arms rest closing t j pc) ≤ weight_of_arms arms
     arms_few EndArms rest closing t j pc = omega arith

@@ -1,6 +1,6 @@
 -- The functions in the code of a body are nested as deep as those in the body.
 use Rattle.std.proofs.Common.{◌≡◌, ℕ, max, List, Option, arith}
-use Rattle.tree_core.specs.Tree.{Block, Falls, Returns, Body, BodyOf, Stats, EndStats, MoreStats, Stat, Empty, Local, LocalFunction, Assign, CallStat, Do, While, Repeat, If, IfElse, NumFor, NumForStep, GenFor, Label, Goto, Break, Arms, EndArms, MoreArms, Exp, Nil, True, False, Int, Str, Vararg, Function, Var, Index, Call, Method, Unary, Binary, And, Or, Paren, Table, Exps, EndExps, MoreExps, Fields, EndFields, MoreFields, Field, Item, Keyed}
+use Rattle.tree_core.specs.Tree.{Block, Falls, Returns, Body, BodyOf, Stats, EndStats, MoreStats, Stat, Local, LocalFunction, Assign, CallStat, Do, While, Repeat, If, IfElse, NumFor, NumForStep, GenFor, Arms, EndArms, MoreArms, Exp, Function, Index, Call, Method, Unary, Binary, And, Or, Paren, Table, Exps, EndExps, MoreExps, Fields, EndFields, MoreFields, Field, Item, Keyed}
 use Rattle.code_core.specs.Prototype.{Prototypes, none}
 use Rattle.code_core.specs.Writable.{depth}
 use Rattle.code_of.specs.CodeOf.{from_exp, from_exps, from_fields, from_field, from_stat, from_arms, from_stats, from_block, from_body}
@@ -9,14 +9,7 @@ use Rattle.grammar_laws.proofs.Nesting.{nesting, nesting_in_exps, nesting_in_fie
 module _ (source : Option (List ℕ)) where
   mutual
     deep_exp : (x : Exp) (rest : Prototypes) → depth (from_exp source x rest) ≡ max (nesting x) (depth rest)
-    deep_exp (Nil line) rest = omega arith
-    deep_exp (True line) rest = omega arith
-    deep_exp (False line) rest = omega arith
-    deep_exp (Int line z) rest = omega arith
-    deep_exp (Str line bytes) rest = omega arith
-    deep_exp (Vararg line) rest = omega arith
     deep_exp (Function line body) rest = let inner = deep_body body in omega (arith, inner)
-    deep_exp (Var line name) rest = omega arith
     deep_exp (Index line o k) rest = let h0 = deep_exp o (from_exp source k rest) in let h1 = deep_exp k rest in omega (arith, h0, h1)
     deep_exp (Call line f es) rest = let h0 = deep_exp f (from_exps source es rest) in let h1 = deep_exps es rest in omega (arith, h0, h1)
     deep_exp (Method line o name es) rest = let h0 = deep_exp o (from_exps source es rest) in let h1 = deep_exps es rest in omega (arith, h0, h1)
@@ -26,6 +19,7 @@ module _ (source : Option (List ℕ)) where
     deep_exp (Or line e d) rest = let h0 = deep_exp e (from_exp source d rest) in let h1 = deep_exp d rest in omega (arith, h0, h1)
     deep_exp (Paren line e) rest = deep_exp e rest
     deep_exp (Table line fs) rest = deep_fields fs rest
+    deep_exp _ rest = omega arith
 
     deep_exps : (x : Exps) (rest : Prototypes) → depth (from_exps source x rest) ≡ max (nesting_in_exps x) (depth rest)
     deep_exps EndExps rest = omega arith
@@ -40,7 +34,6 @@ module _ (source : Option (List ℕ)) where
     deep_field (Keyed line e d) rest = let h0 = deep_exp e (from_exp source d rest) in let h1 = deep_exp d rest in omega (arith, h0, h1)
 
     deep_stat : (x : Stat) (rest : Prototypes) → depth (from_stat source x rest) ≡ max (nesting_in_stat x) (depth rest)
-    deep_stat (Empty line) rest = omega arith
     deep_stat (Local line names es) rest = deep_exps es rest
     deep_stat (LocalFunction line name body) rest = let inner = deep_body body in omega (arith, inner)
     deep_stat (Assign line ts es) rest = let h0 = deep_exps ts (from_exps source es rest) in let h1 = deep_exps es rest in omega (arith, h0, h1)
@@ -53,9 +46,7 @@ module _ (source : Option (List ℕ)) where
     deep_stat (NumFor line name e d b) rest = let h0 = deep_exp e (from_exp source d (from_block source b rest)) in let h1 = deep_exp d (from_block source b rest) in let h2 = deep_block b rest in omega (arith, h0, h1, h2)
     deep_stat (NumForStep line name e d s b) rest = let h0 = deep_exp e (from_exp source d (from_exp source s (from_block source b rest))) in let h1 = deep_exp d (from_exp source s (from_block source b rest)) in let h2 = deep_exp s (from_block source b rest) in let h3 = deep_block b rest in omega (arith, h0, h1, h2, h3)
     deep_stat (GenFor line names es b) rest = let h0 = deep_exps es (from_block source b rest) in let h1 = deep_block b rest in omega (arith, h0, h1)
-    deep_stat (Label line name) rest = omega arith
-    deep_stat (Goto line name) rest = omega arith
-    deep_stat (Break line) rest = omega arith
+    deep_stat _ rest = omega arith
 
     deep_arms : (x : Arms) (rest : Prototypes) → depth (from_arms source x rest) ≡ max (nesting_in_arms x) (depth rest)
     deep_arms EndArms rest = omega arith

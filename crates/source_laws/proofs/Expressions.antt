@@ -3,7 +3,7 @@ use Rattle.std.proofs.Common.{◌≡◌, ℕ, ◌+◌, ◌<◌, ◌≤◌, Bool,
 use Rattle.tree_core.specs.declared.name.Place.{Place}
 use Rattle.tree_core.specs.declared.name.Place.TheVariants.{Unset, Upvalue, GlobalIn, GlobalOf, Local as LocalPlace}
 use Rattle.tree_core.specs.declared.name.UpName.{UpName}
-use Rattle.tree_core.specs.Tree.{Body, BodyOf, Exp, Nil, True, False, Int, Str, Vararg, Function, Var, Index, Call, Method, Unary, Binary, And, Or, Paren, Table, Exps, EndExps, MoreExps, Fields, EndFields, MoreFields, Item, Keyed}
+use Rattle.tree_core.specs.Tree.{Body, BodyOf, Exp, Int, Str, Function, Var, Index, Call, Method, Unary, Binary, And, Or, Paren, Table, Exps, EndExps, MoreExps, Fields, EndFields, MoreFields, Item, Keyed}
 use Rattle.tree_terms.specs.Bodies.{upvalues_of}
 use Rattle.code_core.specs.declared.proto.Const.{Const}
 use Rattle.code_core.specs.declared.proto.Const.TheVariants.{Int as IntConst, Str as StrConst}
@@ -24,23 +24,9 @@ use Rattle.stat_laws.proofs.Raised.{upvalues_same}
 
 -- every expression weighs something
 some_weight : (e : Exp) → 1 ≤ weight e
-some_weight (Nil line) = omega arith
-some_weight (True line) = omega arith
-some_weight (False line) = omega arith
-some_weight (Int line z) = omega arith
-some_weight (Str line bytes) = omega arith
-some_weight (Vararg line) = omega arith
 some_weight (Function line (BodyOf params vararg inner ups at)) = omega arith
-some_weight (Var line name) = omega arith
-some_weight (Index line object key) = omega arith
 some_weight (Call line f es) = let some = some_weight f in omega (arith, some)
-some_weight (Method line object name es) = omega arith
-some_weight (Unary line op e) = omega arith
-some_weight (Binary line op e d) = omega arith
-some_weight (And line e d) = omega arith
-some_weight (Or line e d) = omega arith
-some_weight (Paren line e) = omega arith
-some_weight (Table line fs) = omega arith
+some_weight _ = omega arith
 
 module _ (x : Around) where
   pub constant_found : (c : Const) → Has (constants_of x) c → Found (constants_of x) c
@@ -73,12 +59,8 @@ module _ (x : Around) where
 
   mutual
     pub exp_placed : (e : Exp) (t j : ℕ) → ExpFinds e x.hidden t x.ups → ExpHas (constants_of x) e → ExpMakes x.source (functions_of x) e j → j + made_by e ≤ x.most → weight e ≤ x.heavy → IsPlaced x.setting e t j
-    exp_placed (Nil line) t j f h m b w = tt
-    exp_placed (True line) t j f h m b w = tt
-    exp_placed (False line) t j f h m b w = tt
     exp_placed (Int line z) t j f h m b w = λ great. constant_found (IntConst z) (h great)
     exp_placed (Str line bytes) t j f h m b w = constant_found (StrConst bytes) h
-    exp_placed (Vararg line) t j f h m b w = tt
     exp_placed (Function line body) t j f h m b w = (inner_placed body j m b, captures_placed (upvalues_of body) t f.1)
     exp_placed (Var line name) t j f h m b w = name_placed name.place name.text t f h
     exp_placed (Index line object key) t j f h m b w =
@@ -100,6 +82,7 @@ module _ (x : Around) where
         (exp_placed e t j f.0 h.0 m.0 (omega (arith, b)) (omega (arith, w)), exp_placed d t (j + made_by e) f.1 h.1 m.1 (omega (arith, b)) (omega (arith, w)))
     exp_placed (Paren line e) t j f h m b w = exp_placed e t j f h m b (omega (arith, w))
     exp_placed (Table line fs) t j f h m b w = fields_placed fs 0 t j f h m b (omega (arith, w))
+    exp_placed _ t j f h m b w = tt
 
     pub exps_placed : (es : Exps) (t j : ℕ) → ExpsFind es x.hidden t x.ups → ExpsHave (constants_of x) es → ExpsMake x.source (functions_of x) es j → j + made_in es ≤ x.most → weight_of_exps es ≤ x.heavy → ArePlaced x.setting es t j
     exps_placed EndExps t j f h m b w = tt

@@ -2,7 +2,7 @@
 use Rattle.std.proofs.Common.{◌≡◌, ℕ, ◌≤◌, Bool, List, [], length, arith}
 use Rattle.tree_core.specs.declared.name.Name.{Name}
 use Rattle.tree_core.specs.declared.name.UpName.{UpName}
-use Rattle.tree_core.specs.Tree.{Block, Falls, Returns, Body, BodyOf, Stats, EndStats, MoreStats, Stat, Empty, Local, LocalFunction, Assign, CallStat, Do, While, Repeat, If, IfElse, NumFor, NumForStep, GenFor, Label, Goto, Break, Arms, EndArms, MoreArms, Exp, Nil, True, False, Int, Str, Vararg, Var, Function, Index, Call, Method, Unary, Binary, And, Or, Paren, Table, Exps, EndExps, MoreExps, Fields, EndFields, MoreFields, Field, Item, Keyed}
+use Rattle.tree_core.specs.Tree.{Block, Falls, Returns, Body, BodyOf, Stats, EndStats, MoreStats, Stat, Local, LocalFunction, Assign, CallStat, Do, While, Repeat, If, IfElse, NumFor, NumForStep, GenFor, Arms, EndArms, MoreArms, Exp, Function, Index, Call, Method, Unary, Binary, And, Or, Paren, Table, Exps, EndExps, MoreExps, Fields, EndFields, MoreFields, Field, Item, Keyed}
 use Rattle.scope_core.specs.Rules.{tokens_of, violations}
 use Rattle.tree_terms.specs.Weight.{weight, weight_of_exps, weight_of_fields, weight_of_field, weight_of_stat, weight_of_arms, weight_of_stats, weight_of_block, weight_of_body}
 use Rattle.tree_terms.specs.FunctionCount.{functions, functions_in_exps, functions_in_fields, functions_in_field, functions_in_stat, functions_in_arms, functions_in_stats, functions_in_block, functions_in_body}
@@ -39,14 +39,7 @@ small params vararg inner ups line w f = record {
 
 mutual
   exp_fits : (e : Exp) → weight e ≤ 1048579 → functions e ≤ 131072 → ExpIsCounted e → InExp Nothing IsShort e → InExp FunctionFits LoopFits e
-  exp_fits (Nil line) w m c r = tt
-  exp_fits (True line) w m c r = tt
-  exp_fits (False line) w m c r = tt
-  exp_fits (Int line n) w m c r = tt
-  exp_fits (Str line bytes) w m c r = tt
-  exp_fits (Vararg line) w m c r = tt
   exp_fits (Function line body) w m c r = body_fits body (omega (arith, w)) (omega (arith, m)) c r
-  exp_fits (Var line name) w m c r = tt
   exp_fits (Index line object key) w m c r = (exp_fits object (omega (arith, w)) (omega (arith, m)) c.0 r.0, exp_fits key (omega (arith, w)) (omega (arith, m)) c.1 r.1)
   exp_fits (Call line f es) w m c r = (exp_fits f (omega (arith, w, arguments_weigh es)) (omega (arith, m)) c.0 r.0, exps_fits es (omega (arith, w, arguments_weigh es)) (omega (arith, m)) c.1 r.1)
   exp_fits (Method line object name es) w m c r = (exp_fits object (omega (arith, w, arguments_weigh es)) (omega (arith, m)) c.0 r.0, exps_fits es (omega (arith, w, arguments_weigh es)) (omega (arith, m)) c.1 r.1)
@@ -56,6 +49,7 @@ mutual
   exp_fits (Or line e d) w m c r = (exp_fits e (omega (arith, w)) (omega (arith, m)) c.0 r.0, exp_fits d (omega (arith, w)) (omega (arith, m)) c.1 r.1)
   exp_fits (Paren line e) w m c r = exp_fits e (omega (arith, w)) (omega (arith, m)) c r
   exp_fits (Table line fs) w m c r = fields_fits fs (omega (arith, w)) (omega (arith, m)) c r
+  exp_fits _ w m c r = tt
 
   exps_fits : (es : Exps) → weight_of_exps es ≤ 1048579 → functions_in_exps es ≤ 131072 → ExpsAreCounted es → InExps Nothing IsShort es → InExps FunctionFits LoopFits es
   exps_fits EndExps w m c r = tt
@@ -70,7 +64,6 @@ mutual
   field_fits (Keyed line e d) w m c r = (exp_fits e (omega (arith, w)) (omega (arith, m)) c.0 r.0, exp_fits d (omega (arith, w)) (omega (arith, m)) c.1 r.1)
 
   stat_fits : (s : Stat) → weight_of_stat s ≤ 1048579 → functions_in_stat s ≤ 131072 → StatIsCounted s → InStat Nothing IsShort s → InStat FunctionFits LoopFits s
-  stat_fits (Empty line) w m c r = tt
   stat_fits (Local line names es) w m c r = exps_fits es (omega (arith, w)) (omega (arith, m)) c r
   stat_fits (LocalFunction line name body) w m c r = body_fits body (omega (arith, w)) (omega (arith, m)) c r
   stat_fits (Assign line targets es) w m c r = (exps_fits targets (omega (arith, w)) (omega (arith, m)) c.0 r.0, exps_fits es (omega (arith, w)) (omega (arith, m)) c.1 r.1)
@@ -90,9 +83,7 @@ mutual
     block_fits block (omega (arith, w)) (omega (arith, m)) c.3 r.4,
   )
   stat_fits (GenFor line names es block) w m c r = (exps_fits es (omega (arith, w)) (omega (arith, m)) c.0 r.0, near block c.1 r.1, block_fits block (omega (arith, w)) (omega (arith, m)) c.1 r.2)
-  stat_fits (Label line name) w m c r = tt
-  stat_fits (Goto line name) w m c r = tt
-  stat_fits (Break line) w m c r = tt
+  stat_fits _ w m c r = tt
 
   arms_fits : (arms : Arms) → weight_of_arms arms ≤ 1048579 → functions_in_arms arms ≤ 131072 → ArmsAreCounted arms → InArms Nothing IsShort arms → InArms FunctionFits LoopFits arms
   arms_fits EndArms w m c r = tt

@@ -1,6 +1,6 @@
 -- A body fits, with the functions that are defined in it.
 use Rattle.std.proofs.Common.{ℕ, ◌+◌, ◌≤◌, ◌^◌, Bool, true, false, List, [], ◌++◌, length, Option, arith}
-use Rattle.tree_core.specs.Tree.{Block, Falls, Returns, Body, BodyOf, Stats, EndStats, MoreStats, Stat, Empty, Local, LocalFunction, Assign, CallStat, Do, While, Repeat, If, IfElse, NumFor, NumForStep, GenFor, Label, Goto, Break, Arms, EndArms, MoreArms, Exp, Nil, True, False, Int, Str, Vararg, Function, Var, Index, Call, Method, Unary, Binary, And, Or, Paren, Table, Exps, EndExps, MoreExps, Fields, EndFields, MoreFields, Field, Item, Keyed}
+use Rattle.tree_core.specs.Tree.{Block, Falls, Returns, Body, BodyOf, Stats, EndStats, MoreStats, Stat, Local, LocalFunction, Assign, CallStat, Do, While, Repeat, If, IfElse, NumFor, NumForStep, GenFor, Arms, EndArms, MoreArms, Exp, Function, Index, Call, Method, Unary, Binary, And, Or, Paren, Table, Exps, EndExps, MoreExps, Fields, EndFields, MoreFields, Field, Item, Keyed}
 use Rattle.code_core.specs.Prototype.{Prototype, list_of}
 use Rattle.code_of.specs.Expressions.{made_by, made_in, made_by_field}
 use Rattle.code_of.specs.Levels.{made_by_stat, made_in_arms, made_in_stats, made_in_block}
@@ -30,14 +30,7 @@ module _ (source : Option (List ℕ)) where
 
     in_exp : (p : Prototype) (vararg : Bool) (ups : ℕ) (e : Exp) (hidden : List ℕ) (t j : ℕ) → ExpKeeps e vararg → ExpFinds e hidden t ups → ExpIsFormed e → ExpIsCounted e →
         ExpMakes source (list_of p.inner) e j → weight e ≤ 2 ^ 21 → functions e ≤ 2 ^ 17 → InExp source p e j
-    in_exp p vararg ups (Nil line) hidden t j k f o c m w b = tt
-    in_exp p vararg ups (True line) hidden t j k f o c m w b = tt
-    in_exp p vararg ups (False line) hidden t j k f o c m w b = tt
-    in_exp p vararg ups (Int line z) hidden t j k f o c m w b = tt
-    in_exp p vararg ups (Str line bytes) hidden t j k f o c m w b = tt
-    in_exp p vararg ups (Vararg line) hidden t j k f o c m w b = tt
     in_exp p vararg ups (Function line body) hidden t j k f o c m w b = (m, body_fits body k f.0 o c w (omega (arith, b)))
-    in_exp p vararg ups (Var line name) hidden t j k f o c m w b = tt
     in_exp p vararg ups (Index line object key) hidden t j k f o c m w b = (
       in_exp p vararg ups object hidden t j k.0 f.0 o.0 c.0 m.0 (omega (arith, w)) (omega (arith, b)),
       in_exp p vararg ups key hidden t (j + made_by object) k.1 f.1 o.1 c.1 m.1 (omega (arith, w)) (omega (arith, b)),
@@ -67,6 +60,7 @@ module _ (source : Option (List ℕ)) where
     )
     in_exp p vararg ups (Paren line e) hidden t j k f o c m w b = in_exp p vararg ups e hidden t j k f o c m (omega (arith, w)) b
     in_exp p vararg ups (Table line fs) hidden t j k f o c m w b = in_fields p vararg ups fs hidden t j k f o c m (omega (arith, w)) b
+    in_exp p vararg ups _ hidden t j k f o c m w b = tt
 
     in_exps : (p : Prototype) (vararg : Bool) (ups : ℕ) (es : Exps) (hidden : List ℕ) (t j : ℕ) → ExpsKeep es vararg → ExpsFind es hidden t ups → ExpsAreFormed es → ExpsAreCounted es →
         ExpsMake source (list_of p.inner) es j → weight_of_exps es ≤ 2 ^ 21 → functions_in_exps es ≤ 2 ^ 17 → InExps source p es j
@@ -94,7 +88,6 @@ module _ (source : Option (List ℕ)) where
 
     in_stat : (p : Prototype) (vararg : Bool) (ups : ℕ) (s : Stat) (hidden : List ℕ) (t j : ℕ) (named : List Named) (loops : Bool) → StatKeeps s vararg t named loops → StatFinds s hidden t ups →
         StatIsFormed s → StatIsCounted s → StatMakes source (list_of p.inner) s j → weight_of_stat s ≤ 2 ^ 21 → functions_in_stat s ≤ 2 ^ 17 → InStat source p s j
-    in_stat p vararg ups (Empty line) hidden t j named loops k f o c m w b = tt
     in_stat p vararg ups (Local line names es) hidden t j named loops k f o c m w b = in_exps p vararg ups es hidden t j k.0 f o c m (omega (arith, w)) b
     in_stat p vararg ups (LocalFunction line name body) hidden t j named loops k f o c m w b = (m, body_fits body k.0 f.0 o c (omega (arith, w)) (omega (arith, b)))
     in_stat p vararg ups (Assign line targets es) hidden t j named loops k f o c m w b = (
@@ -137,9 +130,7 @@ module _ (source : Option (List ℕ)) where
       in_exps p vararg ups es hidden t j k.0 f.0 o.1.0 c.0 m.0 (omega (arith, w)) (omega (arith, b)),
       in_block p vararg ups block true (four_hidden t hidden) (t + 4 + length names) (j + made_in es) named true k.1.1.1 f.1 o.1.1 c.1 m.1 (omega (arith, w)) (omega (arith, b)),
     )
-    in_stat p vararg ups (Label line name) hidden t j named loops k f o c m w b = tt
-    in_stat p vararg ups (Goto line name) hidden t j named loops k f o c m w b = tt
-    in_stat p vararg ups (Break line) hidden t j named loops k f o c m w b = tt
+    in_stat p vararg ups _ hidden t j named loops k f o c m w b = tt
 
     in_arms : (p : Prototype) (vararg : Bool) (ups : ℕ) (arms : Arms) (hidden : List ℕ) (t j : ℕ) (named : List Named) (loops : Bool) → ArmsKeep arms vararg t named loops → ArmsFind arms hidden t ups →
         ArmsAreFormed arms → ArmsAreCounted arms → ArmsMake source (list_of p.inner) arms j → weight_of_arms arms ≤ 2 ^ 21 → functions_in_arms arms ≤ 2 ^ 17 → InArms source p arms j

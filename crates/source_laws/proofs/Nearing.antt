@@ -3,7 +3,7 @@ use Rattle.std.proofs.Common.{◌≡◌, ℕ, suc, ◌+◌, ◌*◌, ◌%◌, �
 use Rattle.tree_core.specs.declared.name.Place.{Place}
 use Rattle.tree_core.specs.declared.name.Place.TheVariants.{Unset, Upvalue, GlobalIn, GlobalOf, Local as LocalPlace}
 use Rattle.tree_core.specs.declared.name.UpName.{UpName}
-use Rattle.tree_core.specs.Tree.{Block, Falls, Returns, Body, BodyOf, Stats, EndStats, MoreStats, Stat, Empty, Local, LocalFunction, Assign, CallStat, Do, While, Repeat, If, IfElse, NumFor, NumForStep, GenFor, Label, Goto, Break, Arms, EndArms, MoreArms, Exp, Nil, True, False, Int, Str, Vararg, Function, Var, Index, Call, Method, Unary, Binary, And, Or, Paren, Table, Exps, EndExps, MoreExps, Fields, EndFields, MoreFields, Item, Keyed}
+use Rattle.tree_core.specs.Tree.{Block, Falls, Returns, Body, BodyOf, Stats, EndStats, MoreStats, Stat, Local, LocalFunction, Assign, CallStat, Do, While, Repeat, If, IfElse, NumFor, NumForStep, GenFor, Arms, EndArms, MoreArms, Exp, Vararg, Function, Var, Index, Call, Method, Unary, Binary, And, Or, Paren, Table, Exps, EndExps, MoreExps, Fields, EndFields, MoreFields, Item, Keyed}
 use Rattle.tree_terms.specs.Bodies.{upvalues_of}
 use Rattle.code_core.specs.Prototype.{Prototype}
 use Rattle.code_of.specs.CodeOf.{upvalue, back_field, code_of}
@@ -69,11 +69,6 @@ module _ (source : Option (List ℕ)) where
   mutual
     near_exp : (x : Around) (e : Exp) (hidden : List ℕ) (size t j : ℕ) → size ≤ 250 → t + held e ≤ 250 → ExpKeeps e x.vararg → ExpFinds e hidden size x.ups → ExpIsFormed e → ExpFits source x.code e j → ExpHas FunctionFits LoopFits e → weight e ≤ 2 ^ 21
         → ExpIsNear source x.code e size t
-    near_exp x (Nil line) hidden size t j le room k n f i s w = (omega (arith, room), tt)
-    near_exp x (True line) hidden size t j le room k n f i s w = (omega (arith, room), tt)
-    near_exp x (False line) hidden size t j le room k n f i s w = (omega (arith, room), tt)
-    near_exp x (Int line z) hidden size t j le room k n f i s w = (omega (arith, room), tt)
-    near_exp x (Str line bytes) hidden size t j le room k n f i s w = (omega (arith, room), tt)
     near_exp x (Vararg line) hidden size t j le room k n f i s w = (omega (arith, room), x.varargs ∙ k)
     near_exp x (Function line body) hidden size t j le room k n f i s w = (omega (arith, room), (known_captures x hidden size (upvalues_of body) n.1, near_body body k n.0 f i.1 s w))
     near_exp x (Var line name) hidden size t j le room k n f i s w = (let some = some_held (Var line name) in omega (arith, room, some), known_place x hidden size name.place le n)
@@ -92,6 +87,7 @@ module _ (source : Option (List ℕ)) where
     near_exp x (Or line e d) hidden size t j le room k n f i s w = (let some = some_held e in omega (arith, room, some), (near_exp x e hidden size t j le (omega (arith, room)) k.0 n.0 f.0 i.0 s.0 (omega (arith, w)), near_exp x d hidden size t (j + made_by e) le (omega (arith, room)) k.1 n.1 f.1 i.1 s.1 (omega (arith, w))))
     near_exp x (Paren line e) hidden size t j le room k n f i s w = (let some = some_held e in omega (arith, room, some), near_exp x e hidden size t j le (omega (arith, room)) k n f i s (omega (arith, w)))
     near_exp x (Table line fs) hidden size t j le room k n f i s w = (omega (arith, room), near_fields x fs hidden size t 0 j le (omega (arith, room)) k n f i s (omega (arith, w)))
+    near_exp x _ hidden size t j le room k n f i s w = (omega (arith, room), tt)
 
     -- `before` registers above a base
     near_exps : (x : Around) (es : Exps) (hidden : List ℕ) (size base before r j : ℕ) → size ≤ 250 → base + before ≡ r → base + held_behind before es ≤ 250 → ExpsKeep es x.vararg → ExpsFind es hidden size x.ups → ExpsAreFormed es → ExpsFit source x.code es j
@@ -137,10 +133,6 @@ module _ (source : Option (List ℕ)) where
 
     near_stat : (x : Around) (s : Stat) (hidden : List ℕ) (named : List Named) (loops closing : Bool) (t j : ℕ) → t ≤ 200 → t + held_stat s ≤ 250 → StatKeeps s x.vararg t named loops → StatFinds s hidden t x.ups → StatIsFormed s → StatFits source x.code s j
         → StatHas FunctionFits LoopFits s → weight_of_stat s ≤ 2 ^ 21 → StatIsNear source x.code s closing t j
-    near_stat x (Empty line) hidden named loops closing t j le room k n f i s w = tt
-    near_stat x (Label line name) hidden named loops closing t j le room k n f i s w = tt
-    near_stat x (Goto line name) hidden named loops closing t j le room k n f i s w = tt
-    near_stat x (Break line) hidden named loops closing t j le room k n f i s w = tt
     near_stat x (Local line names es) hidden named loops closing t j le room k n f i s w = (let few = k.1 in omega (arith, few), near_exps x es hidden t t 0 t j (omega (arith, le)) (omega arith) (omega (arith, room)) k.0 n f i s (omega (arith, w)))
     near_stat x (LocalFunction line name body) hidden named loops closing t j le room k n f i s w = (let few = k.1 in omega (arith, few), (known_captures x hidden (t + 1) (upvalues_of body) n.1, near_body body k.0 n.0 f i.1 s (omega (arith, w))))
     near_stat x (Assign line targets es) hidden named loops closing t j le room k n f i s w =
@@ -164,6 +156,7 @@ module _ (source : Option (List ℕ)) where
     near_stat x (GenFor line names es block) hidden named loops closing t j le room k n f i s w =
         let few = k.1.0 in
         (omega (arith, few), (near_exps x es hidden t t 0 t j (omega (arith, le)) (omega arith) (omega (arith, room)) k.0 n.0 f.1.0 i.0 s.0 (omega (arith, w)), ((λ closes. s.1 x.code.own.constants (record { back = back_field x.code.own.vararg x.code.own.params; closes = closes }) true (t + 4) (t + 4 + length names) (j + made_in es)), near_block x block true (four_hidden t hidden) named true true (t + 4 + length names) (j + made_in es) few k.1.1.1 n.1 f.1.1 i.1 s.2 (omega (arith, w)))))
+    near_stat x _ hidden named loops closing t j le room k n f i s w = tt
 
     near_arms : (x : Around) (arms : Arms) (hidden : List ℕ) (named : List Named) (loops closing : Bool) (t j : ℕ) → t ≤ 200 → t + held_tests arms ≤ 250 → ArmsKeep arms x.vararg t named loops → ArmsFind arms hidden t x.ups → ArmsAreFormed arms → ArmsFit source x.code arms j
         → ArmsHave FunctionFits LoopFits arms → weight_of_arms arms ≤ 2 ^ 21 → ArmsAreNear source x.code arms closing t j

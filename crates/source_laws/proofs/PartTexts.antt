@@ -3,7 +3,7 @@ use Rattle.std.proofs.Common.{Bool, true, false, List, [], ◌∷◌, ◌++◌}
 use Rattle.std.specs.Prelude.{map}
 use Rattle.tree_core.specs.declared.name.Name.{Name}
 use Rattle.tree_core.specs.declared.name.Declared.{Declared}
-use Rattle.tree_core.specs.Tree.{Block, Falls, Returns, Body, BodyOf, Stats, EndStats, MoreStats, Stat, Empty, Local, LocalFunction, Assign, CallStat, Do, While, Repeat, If, IfElse, NumFor, NumForStep, GenFor, Label, Goto, Break, Arms, EndArms, MoreArms, Exp, Nil, True, False, Int, Str, Vararg, Var, Function, Index, Call, Method, Unary, Binary, And, Or, Paren, Table, Exps, EndExps, MoreExps, Fields, EndFields, MoreFields, Field, Item, Keyed}
+use Rattle.tree_core.specs.Tree.{Block, Falls, Returns, Body, BodyOf, Stats, EndStats, MoreStats, Stat, Local, LocalFunction, Assign, CallStat, Do, While, Repeat, If, IfElse, NumFor, NumForStep, GenFor, Arms, EndArms, MoreArms, Exp, Vararg, Var, Function, Index, Call, Method, Unary, Binary, And, Or, Paren, Table, Exps, EndExps, MoreExps, Fields, EndFields, MoreFields, Field, Item, Keyed}
 use Rattle.scope_core.specs.Scopes.{Scope, declared_by, declared_variable, plain_variable, numeric_hidden, generic_hidden}
 use Rattle.scope_core.specs.Parts.{Part, Naming, Located, with_variables, with_block, in_loop_of, inside, scope_behind, declarations, name_declarations, loop_scope, exp_parts, exps_parts, fields_parts, field_parts, body_parts, stats_parts, block_parts, stat_parts, arms_parts}
 use Rattle.code_checked.specs.Written.{TextFits}
@@ -31,11 +31,6 @@ name_parts s (x ∷ names) = also tt (name_parts (with_variables s (plain_variab
 
 mutual
   exp_named : (s : Scope) (e : Exp) → ExpTextsFit e → PartsFit (exp_parts s e)
-  exp_named s (Nil line) h = none
-  exp_named s (True line) h = none
-  exp_named s (False line) h = none
-  exp_named s (Int line n) h = none
-  exp_named s (Str line bytes) h = none
   exp_named s (Vararg line) h = also tt none
   exp_named s (Function line body) h = body_named s body h
   exp_named s (Var line name) h = also h none
@@ -48,6 +43,7 @@ mutual
   exp_named s (Or line e d) h = both (exp_named s e h.0) (exp_named s d h.1)
   exp_named s (Paren line e) h = exp_named s e h
   exp_named s (Table line fs) h = fields_named s fs h
+  exp_named s _ h = none
 
   exps_named : (s : Scope) (es : Exps) → ExpsTextsFit es → PartsFit (exps_parts s es)
   exps_named s EndExps h = none
@@ -78,7 +74,6 @@ mutual
       both (stats_named s [] false ss h.0) (also tt (exps_named (scope_behind s (Falls ss tokens line)) es h.1))
 
   stat_named : (s : Scope) (stat : Stat) → StatTextsFit stat → PartsFit (stat_parts s stat)
-  stat_named s (Empty line) h = none
   stat_named s (Local line names es) h = both (exps_named s es h.1) (declared_parts s names)
   stat_named s (LocalFunction line name body) h = both (name_parts s (name ∷ [])) (body_named (with_variables s (plain_variable name ∷ [])) body h.1)
   stat_named s (Assign line targets es) h = both (exps_named s targets h.0) (exps_named s es h.1)
@@ -99,9 +94,7 @@ mutual
   stat_named s (GenFor line names es block) h =
       let hidden : Scope = loop_scope s generic_hidden in
       both (both (exps_named s es h.1.0) (also tt (name_parts hidden names))) (block_named (with_variables hidden (map plain_variable names)) true block h.1.1)
-  stat_named s (Label line name) h = none
-  stat_named s (Goto line name) h = none
-  stat_named s (Break line) h = none
+  stat_named s _ h = none
 
   arms_named : (s : Scope) (arms : Arms) → ArmsTextsFit arms → PartsFit (arms_parts s arms)
   arms_named s EndArms h = none

@@ -7,7 +7,7 @@ use Rattle.std.specs.Str.{bytes_eq}
 use Rattle.tree_core.specs.declared.name.Name.{Name}
 use Rattle.tree_core.specs.declared.name.Declared.{Declared}
 use Rattle.tree_core.specs.declared.name.UpName.{UpName}
-use Rattle.tree_core.specs.Tree.{Block, Falls, Returns, Body, BodyOf, Stats, EndStats, MoreStats, Stat, Empty, Local, LocalFunction, Assign, CallStat, Do, While, Repeat, If, IfElse, NumFor, NumForStep, GenFor, Label, Goto, Break, Arms, EndArms, MoreArms, Exp, Nil, True, False, Int, Str, Vararg, Var, Function, Index, Call, Method, Unary, Binary, And, Or, Paren, Table, Exps, EndExps, MoreExps, Fields, EndFields, MoreFields, Field, Item, Keyed}
+use Rattle.tree_core.specs.Tree.{Block, Falls, Returns, Body, BodyOf, Stats, EndStats, MoreStats, Stat, Local, LocalFunction, Assign, CallStat, Do, While, Repeat, If, IfElse, NumFor, NumForStep, GenFor, Arms, EndArms, MoreArms, Exp, Function, Index, Call, Method, Unary, Binary, And, Or, Paren, Table, Exps, EndExps, MoreExps, Fields, EndFields, MoreFields, Field, Item, Keyed}
 use Rattle.scope_core.specs.Scopes.{Scope, Frame, bare, declare, declare_all, declared_by, declared_variable, plain_variable, behind, behind_stats, numeric_hidden, generic_hidden, register_of, environment, is_local, is_variable}
 use Rattle.scope_core.specs.Parts.{Part, Naming, Located, body_parts}
 use Rattle.scope_core.specs.Places.{as_byte, upvalue_number, up_name, outside_name, outside_all, firsts, upvalues_of, placed_names, placed_declared, placed_exp, placed_exps, placed_fields, placed_field, placed_body, placed_block, placed_stats, placed_stat, placed_arms, placed}
@@ -82,14 +82,7 @@ declared_fit fs (d ∷ names) h = (h.0, declared_fit (declare fs (declared_varia
 
 mutual
   exp_fits : (fs : List Frame) (e : Exp) → ExpTextsFit e → ExpTextsFit (placed_exp fs e)
-  exp_fits fs (Nil line) h = h
-  exp_fits fs (True line) h = h
-  exp_fits fs (False line) h = h
-  exp_fits fs (Int line n) h = h
-  exp_fits fs (Str line bytes) h = h
-  exp_fits fs (Vararg line) h = h
   exp_fits fs (Function line body) h = body_fits fs body h
-  exp_fits fs (Var line name) h = h
   exp_fits fs (Index line object key) h = (exp_fits fs object h.0, exp_fits fs key h.1)
   exp_fits fs (Call line f es) h = (exp_fits fs f h.0, exps_fit fs es h.1)
   exp_fits fs (Method line object name es) h = (exp_fits fs object h.0, (h.1.0, exps_fit fs es h.1.1))
@@ -99,6 +92,7 @@ mutual
   exp_fits fs (Or line e d) h = (exp_fits fs e h.0, exp_fits fs d h.1)
   exp_fits fs (Paren line e) h = exp_fits fs e h
   exp_fits fs (Table line inner) h = fields_fit fs inner h
+  exp_fits fs _ h = h
 
   exps_fit : (fs : List Frame) (es : Exps) → ExpsTextsFit es → ExpsTextsFit (placed_exps fs es)
   exps_fit fs EndExps h = tt
@@ -113,7 +107,6 @@ mutual
   field_fits fs (Keyed line e d) h = (exp_fits fs e h.0, exp_fits fs d h.1)
 
   stat_fits : (fs : List Frame) (s : Stat) → StatTextsFit s → StatTextsFit (placed_stat fs s)
-  stat_fits fs (Empty line) h = h
   stat_fits fs (Local line names es) h = (declared_fit fs names h.0, exps_fit fs es h.1)
   stat_fits fs (LocalFunction line name body) h = (h.0, body_fits (declare fs (plain_variable name)) body h.1)
   stat_fits fs (Assign line targets es) h = (exps_fit fs targets h.0, exps_fit fs es h.1)
@@ -129,9 +122,7 @@ mutual
       (h.0, (exp_fits fs from h.1.0, (exp_fits fs limit h.1.1.0, (exp_fits fs step h.1.1.1.0, block_fits (declare (declare_all fs numeric_hidden) (plain_variable name)) block h.1.1.1.1))))
   stat_fits fs (GenFor line names es block) h =
       (names_fit (declare_all fs generic_hidden) names h.0, (exps_fit fs es h.1.0, block_fits (declare_all (declare_all fs generic_hidden) (map plain_variable names)) block h.1.1))
-  stat_fits fs (Label line name) h = h
-  stat_fits fs (Goto line name) h = h
-  stat_fits fs (Break line) h = h
+  stat_fits fs _ h = h
 
   arms_fit : (fs : List Frame) (arms : Arms) → ArmsTextsFit arms → ArmsTextsFit (placed_arms fs arms)
   arms_fit fs EndArms h = tt

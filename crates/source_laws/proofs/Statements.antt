@@ -1,8 +1,8 @@
 -- A statement is placed where its names are found, its constants and functions have their numbers, its registers are there and the limits are kept.
 use Rattle.std.proofs.Common.{◌≡◌, ℕ, ◌+◌, ◌≤◌, Bool, true, false, List, [], ◌++◌, length, Option, Some, None, refl, subst, arith}
 use Rattle.tree_core.specs.declared.name.Place.{Place}
-use Rattle.tree_core.specs.declared.name.Place.TheVariants.{Unset, Upvalue, GlobalIn, GlobalOf, Local as LocalPlace}
-use Rattle.tree_core.specs.Tree.{Block, Falls, Returns, Stats, EndStats, MoreStats, Stat, Empty, Local, LocalFunction, Assign, CallStat, Do, While, Repeat, If, IfElse, NumFor, NumForStep, GenFor, Label, Goto, Break, Arms, EndArms, MoreArms, Exp, Nil, True, False, Int, Str, Vararg, Function, Var, Index, Call, Method, Unary, Binary, And, Or, Paren, Table, Exps, EndExps, MoreExps}
+use Rattle.tree_core.specs.declared.name.Place.TheVariants.{Local as LocalPlace}
+use Rattle.tree_core.specs.Tree.{Block, Falls, Returns, Stats, EndStats, MoreStats, Stat, Empty, Local, LocalFunction, Assign, CallStat, Do, While, Repeat, If, IfElse, NumFor, NumForStep, GenFor, Label, Goto, Break, Arms, EndArms, MoreArms, Exp, Vararg, Var, Index, Call, Method, Exps, EndExps, MoreExps}
 use Rattle.tree_terms.specs.Bodies.{upvalues_of}
 use Rattle.code_core.specs.declared.proto.Const.TheVariants.{Str as StrConst}
 use Rattle.code_of.specs.Expressions.{made_by, made_in, is_open}
@@ -37,20 +37,7 @@ call_open : (e : Exp) → IsCall e → is_open e ≡ true
 call_open (Call line f es) o = refl
 call_open (Method line object name es) o = refl
 call_open (Vararg line) o = refl
-call_open (Nil line) o = absurd o
-call_open (True line) o = absurd o
-call_open (False line) o = absurd o
-call_open (Int line z) o = absurd o
-call_open (Str line bytes) o = absurd o
-call_open (Function line body) o = absurd o
-call_open (Var line name) o = absurd o
-call_open (Index line object key) o = absurd o
-call_open (Unary line op e) o = absurd o
-call_open (Binary line op e d) o = absurd o
-call_open (And line e d) o = absurd o
-call_open (Or line e d) o = absurd o
-call_open (Paren line e) o = absurd o
-call_open (Table line fs) o = absurd o
+call_open _ o = absurd o
 
 module _ (x : Around) where
   -- a block of 16000 tokens has fewer than 2 ^ 17 instructions
@@ -63,11 +50,8 @@ module _ (x : Around) where
   -- what is assigned
 
   place_may : (p : Place) (t : ℕ) → PlaceIsThere x.hidden t x.ups p → MayAssign x.setting.hidden p
-  place_may Unset t f = tt
   place_may (LocalPlace n) t f = x.sees n f.1
-  place_may (Upvalue u) t f = tt
-  place_may (GlobalIn n) t f = tt
-  place_may (GlobalOf u) t f = tt
+  place_may _ t f = tt
 
   targets_placed :
       (es : Exps) (r t j : ℕ) → AreTargets es → ExpsFind es x.hidden t x.ups → ExpsHave (constants_of x) es → ExpsMake x.source (functions_of x) es j

@@ -3,7 +3,7 @@ use Rattle.std.proofs.Common.{◌≡◌, ℕ, ◌+◌, ◌<◌, ◌≤◌, Bool,
 use Rattle.int_core.specs.Value.{Value}
 use Rattle.int_core.specs.Ask.{Captured}
 use Rattle.tree_core.specs.declared.name.Declared.{Declared}
-use Rattle.tree_core.specs.Tree.{Stats, EndStats, MoreStats, Stat, Empty, Local, LocalFunction, Assign, CallStat, Do, While, Repeat, If, IfElse, NumFor, NumForStep, GenFor, Label, Goto, Break}
+use Rattle.tree_core.specs.Tree.{Stats, EndStats, MoreStats, Stat, Empty, Local, LocalFunction, Label}
 use Rattle.tree_activation.specs.Work.{complete, run, leave_scope, Work, Pending, Passed, Point, End, falls_off, in_block, State}
 use Rattle.tree_activation.specs.Work as tree
 use Rattle.tree_activation.specs.Activation.{step}
@@ -68,40 +68,13 @@ pub added_none : (t : ℕ) (closed : List ℕ) → Added t closed closed
 added_none t closed = record { more = []; whole = sym (append_nil closed); from = tt }
 
 pub added_by : (s : Stat) (t : ℕ) (closed : List ℕ) → Added t closed (closed_after s t closed)
-added_by (Empty l) t closed = added_none t closed
 added_by (Local l names' es) t closed = record { more = closed_numbers names' t; whole = refl; from = numbers_from names' t }
-added_by (LocalFunction l name body) t closed = added_none t closed
-added_by (Assign l targets es) t closed = added_none t closed
-added_by (CallStat l e) t closed = added_none t closed
-added_by (Do l block) t closed = added_none t closed
-added_by (While l e block) t closed = added_none t closed
-added_by (Repeat l block e) t closed = added_none t closed
-added_by (If l arms) t closed = added_none t closed
-added_by (IfElse l arms block) t closed = added_none t closed
-added_by (NumFor l name from' limit block) t closed = added_none t closed
-added_by (NumForStep l name from' limit step' block) t closed = added_none t closed
-added_by (GenFor l names' es block) t closed = added_none t closed
-added_by (Goto l name) t closed = added_none t closed
-added_by (Break l) t closed = added_none t closed
-added_by (Label l name) t closed = added_none t closed
+added_by _ t closed = added_none t closed
 
 pub under_after : (s : Stat) (t : ℕ) (closed : List ℕ) → AllBelow closed t → AllBelow (closed_after s t closed) (level_after s t)
-under_after (Empty l) t closed h = h
 under_after (Local l names' es) t closed h = below_more closed (closed_numbers names' t) (t + length names') (below_higher t (t + length names') closed (omega arith) h) (numbers_below names' t)
 under_after (LocalFunction l name body) t closed h = below_higher t (t + 1) closed (omega arith) h
-under_after (Assign l targets es) t closed h = h
-under_after (CallStat l e) t closed h = h
-under_after (Do l block) t closed h = h
-under_after (While l e block) t closed h = h
-under_after (Repeat l block e) t closed h = h
-under_after (If l arms) t closed h = h
-under_after (IfElse l arms block) t closed h = h
-under_after (NumFor l name from' limit block) t closed h = h
-under_after (NumForStep l name from' limit step' block) t closed h = h
-under_after (GenFor l names' es block) t closed h = h
-under_after (Goto l name) t closed h = h
-under_after (Break l) t closed h = h
-under_after (Label l name) t closed h = h
+under_after _ t closed h = h
 
 added_then : (t u : ℕ) (a b c : List ℕ) → t ≤ u → Added t a b → Added u b c → Added t a c
 added_then t u a b c le h g = record {
@@ -136,22 +109,8 @@ some_both (x ∷ xs) ys = refl
 
 -- `closing` says whether a variable to be closed is in scope, and so whether a call behind `return` is in the function's place
 pub known_after : (s : Stat) (t : ℕ) (closing : Bool) (closed : List ℕ) → closing ≡ has_some closed → closing_after s closing ≡ has_some (closed_after s t closed)
-known_after (Empty l) t closing closed h = h
 known_after (Local l names' es) t closing closed h = ap (λ b. b || has_closed names') h ∙ ap (λ b. has_some closed || b) (some_numbers names' t) ∙ sym (some_both closed (closed_numbers names' t))
-known_after (LocalFunction l name body) t closing closed h = h
-known_after (Assign l targets es) t closing closed h = h
-known_after (CallStat l e) t closing closed h = h
-known_after (Do l block) t closing closed h = h
-known_after (While l e block) t closing closed h = h
-known_after (Repeat l block e) t closing closed h = h
-known_after (If l arms) t closing closed h = h
-known_after (IfElse l arms block) t closing closed h = h
-known_after (NumFor l name from' limit block) t closing closed h = h
-known_after (NumForStep l name from' limit step' block) t closing closed h = h
-known_after (GenFor l names' es block) t closing closed h = h
-known_after (Goto l name) t closing closed h = h
-known_after (Break l) t closing closed h = h
-known_after (Label l name) t closing closed h = h
+known_after _ t closing closed h = h
 
 module _ (S : Setting) (back : ℕ) where
   -- the code of a statement talks as the statement does
@@ -237,20 +196,7 @@ module _ (S : Setting) (back : ℕ) where
         let passed = passed_by name (length env) ss ∷ labels in
         go_left S m _ (tree.at (run (at_point ss passed)) (of_tree S ps env c) k) _ refl
         (void_goes n ss (j + 0) t pc closing passed is (λ more. goes_from S n outer base (run (at_point EndStats more)) k (pc + (0 + size)) (pc + size) there (low more)) m le ps env regs c opened st)
-    void_goes n (MoreStats (Local l names' es) ss) j t pc closing labels is low = absurd (cc)
-    void_goes n (MoreStats (LocalFunction l name body) ss) j t pc closing labels is low = absurd (cc)
-    void_goes n (MoreStats (Assign l targets es) ss) j t pc closing labels is low = absurd (cc)
-    void_goes n (MoreStats (CallStat l e) ss) j t pc closing labels is low = absurd (cc)
-    void_goes n (MoreStats (Do l block) ss) j t pc closing labels is low = absurd (cc)
-    void_goes n (MoreStats (While l e block) ss) j t pc closing labels is low = absurd (cc)
-    void_goes n (MoreStats (Repeat l block e) ss) j t pc closing labels is low = absurd (cc)
-    void_goes n (MoreStats (If l arms) ss) j t pc closing labels is low = absurd (cc)
-    void_goes n (MoreStats (IfElse l arms block) ss) j t pc closing labels is low = absurd (cc)
-    void_goes n (MoreStats (NumFor l name from' limit block) ss) j t pc closing labels is low = absurd (cc)
-    void_goes n (MoreStats (NumForStep l name from' limit step' block) ss) j t pc closing labels is low = absurd (cc)
-    void_goes n (MoreStats (GenFor l names' es block) ss) j t pc closing labels is low = absurd (cc)
-    void_goes n (MoreStats (Goto l name) ss) j t pc closing labels is low = absurd (cc)
-    void_goes n (MoreStats (Break l) ss) j t pc closing labels is low = absurd (cc)
+    void_goes n _ j t pc closing labels is low = absurd (cc)
 
     -- a label: what stands behind it is gone on with again after fewer asks
     pub label_goes : (l : ℕ) (name : _) (ss : Stats) → StatsLaw ss → StatsLaw (MoreStats (Label l name) ss)

@@ -1,7 +1,7 @@
 -- What the machine does at the instructions of a numeric `for`, as one equation each.
 use Rattle.std.proofs.Common.{◌≡◌, ℕ, ◌+◌, ◌<◌, ◌^◌, ℤ, pos, negsuc, [], ◌∷◌, ◌++◌, List, length, Option, Some, refl, ap₂, ◌∙◌, arith}
 use borrow.Author.Tests.{lt-ltb}
-use Rattle.int_core.specs.Value.{Value, known, object, nil, boolean, integer, string, primitive, nth, shape, write}
+use Rattle.int_core.specs.Value.{Value, known, integer, primitive, nth, shape, write}
 use Rattle.int_core.specs.Ask.{Captured, goes_on}
 use Rattle.tree_activation.specs.Expressions.{integer_in}
 use Rattle.tree_activation.specs.Statements.{goes_on_from}
@@ -20,19 +20,11 @@ use Rattle.exp_laws.proofs.Steps.{row_step, own_step, go_step}
 
 pub integer_is : (v : Value) (z : ℤ) → integer_in (shape v) ≡ Some z → v ≡ known (integer z)
 integer_is (known (integer y)) z e = cc
-integer_is (known nil) z e = absurd (cc)
-integer_is (known (boolean b)) z e = absurd (cc)
-integer_is (known (string s)) z e = absurd (cc)
-integer_is (known (primitive n)) z e = absurd (cc)
-integer_is (object kind n) z e = absurd (cc)
+integer_is _ z e = absurd (cc)
 
 pub same_shape : (v : Value) → integer_of_shape (shape v) ≡ integer_in (shape v)
-same_shape (known (integer y)) = refl
-same_shape (known nil) = refl
-same_shape (known (boolean b)) = refl
-same_shape (known (string s)) = refl
 same_shape (known (primitive n)) = refl
-same_shape (object kind n) = refl
+same_shape _ = refl
 
 pub runs_same : (from limit step : ℤ) → runs from limit step ≡ goes_on_from from limit step
 runs_same from limit (pos step) = refl

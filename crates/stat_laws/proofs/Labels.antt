@@ -45,77 +45,22 @@ IsNoLabel (Label line name) = ⊥
 IsNoLabel _ = Unit {0}
 
 pub level_still : (s : Stat) (t : ℕ) (closed : List ℕ) → level_after s t ≤ t → closed_after s t closed ≡ closed
-level_still (Empty line) t closed le = refl
 level_still (Local line [] es) t closed le = append_nil closed
 level_still (Local line (d ∷ names) es) t closed le = absurd (omega arith)
 level_still (LocalFunction line name' body) t closed le = absurd (omega arith)
-level_still (Assign line targets es) t closed le = refl
-level_still (CallStat line e) t closed le = refl
-level_still (Do line block) t closed le = refl
-level_still (While line e block) t closed le = refl
-level_still (Repeat line block e) t closed le = refl
-level_still (If line arms) t closed le = refl
-level_still (IfElse line arms block) t closed le = refl
-level_still (NumFor line name' from limit block) t closed le = refl
-level_still (NumForStep line name' from limit step block) t closed le = refl
-level_still (GenFor line names es block) t closed le = refl
-level_still (Goto line name') t closed le = refl
-level_still (Break line) t closed le = refl
-level_still (Label line name') t closed le = refl
+level_still _ t closed le = refl
 
 pub runs_stat : (s : Stat) (ss : Stats) (p : Point) (a : tree.Activation) (k : List Work) → IsNoLabel s → runs_on (MoreStats s ss) p a k ≡ executes s a (in_block (length a.locals) (record p { rest = ss }) ∷ k)
-runs_stat (Empty line) ss p a k is = refl
-runs_stat (Local line names es) ss p a k is = refl
-runs_stat (LocalFunction line name' body) ss p a k is = refl
-runs_stat (Assign line targets es) ss p a k is = refl
-runs_stat (CallStat line e) ss p a k is = refl
-runs_stat (Do line block) ss p a k is = refl
-runs_stat (While line e block) ss p a k is = refl
-runs_stat (Repeat line block e) ss p a k is = refl
-runs_stat (If line arms) ss p a k is = refl
-runs_stat (IfElse line arms block) ss p a k is = refl
-runs_stat (NumFor line name' from limit block) ss p a k is = refl
-runs_stat (NumForStep line name' from limit step block) ss p a k is = refl
-runs_stat (GenFor line names es block) ss p a k is = refl
-runs_stat (Goto line name') ss p a k is = refl
-runs_stat (Break line) ss p a k is = refl
 runs_stat (Label line name') ss p a k is = absurd is
+runs_stat _ ss p a k is = refl
 
 pub passed_other : (s : Stat) (t pc : ℕ) (passed : List Visible) → IsNoLabel s → passed_after s t pc passed ≡ passed
-passed_other (Empty line) t pc passed is = refl
-passed_other (Local line names es) t pc passed is = refl
-passed_other (LocalFunction line name' body) t pc passed is = refl
-passed_other (Assign line targets es) t pc passed is = refl
-passed_other (CallStat line e) t pc passed is = refl
-passed_other (Do line block) t pc passed is = refl
-passed_other (While line e block) t pc passed is = refl
-passed_other (Repeat line block e) t pc passed is = refl
-passed_other (If line arms) t pc passed is = refl
-passed_other (IfElse line arms block) t pc passed is = refl
-passed_other (NumFor line name' from limit block) t pc passed is = refl
-passed_other (NumForStep line name' from limit step block) t pc passed is = refl
-passed_other (GenFor line names es block) t pc passed is = refl
-passed_other (Goto line name') t pc passed is = refl
-passed_other (Break line) t pc passed is = refl
 passed_other (Label line name') t pc passed is = absurd is
+passed_other _ t pc passed is = refl
 
 pub named_other : (s : Stat) (named : List Named) → IsNoLabel s → names_passed s named ≡ named
-named_other (Empty line) named is = refl
-named_other (Local line names es) named is = refl
-named_other (LocalFunction line name' body) named is = refl
-named_other (Assign line targets es) named is = refl
-named_other (CallStat line e) named is = refl
-named_other (Do line block) named is = refl
-named_other (While line e block) named is = refl
-named_other (Repeat line block e) named is = refl
-named_other (If line arms) named is = refl
-named_other (IfElse line arms block) named is = refl
-named_other (NumFor line name' from limit block) named is = refl
-named_other (NumForStep line name' from limit step block) named is = refl
-named_other (GenFor line names es block) named is = refl
-named_other (Goto line name') named is = refl
-named_other (Break line) named is = refl
 named_other (Label line name') named is = absurd is
+named_other _ named is = refl
 
 module _ (S : Setting) (back : ℕ) where
   -- jumps out of code between two places, where at least t locals are in scope
@@ -163,22 +108,8 @@ module _ (S : Setting) (back : ℕ) where
 
     pub all_other : (s : Stat) (n : ℕ) (ss : Stats) (closing : Bool) (closed : List ℕ) (level j pc : ℕ) (labels : List Passed) → IsNoLabel s → AllAhead n (MoreStats s ss) closing closed level j pc labels
         ≡ AllAhead n ss (closing_after s closing) (closed_after s level closed) (level_after s level) (j + made_by_stat s) (pc + stat_size S.code.own.constants (way S back) s closing level j) labels
-    all_other (Empty line) n ss closing closed level j pc labels is = refl
-    all_other (Local line names es) n ss closing closed level j pc labels is = refl
-    all_other (LocalFunction line name' body) n ss closing closed level j pc labels is = refl
-    all_other (Assign line targets es) n ss closing closed level j pc labels is = refl
-    all_other (CallStat line e) n ss closing closed level j pc labels is = refl
-    all_other (Do line block) n ss closing closed level j pc labels is = refl
-    all_other (While line e block) n ss closing closed level j pc labels is = refl
-    all_other (Repeat line block e) n ss closing closed level j pc labels is = refl
-    all_other (If line arms) n ss closing closed level j pc labels is = refl
-    all_other (IfElse line arms block) n ss closing closed level j pc labels is = refl
-    all_other (NumFor line name' from limit block) n ss closing closed level j pc labels is = refl
-    all_other (NumForStep line name' from limit step block) n ss closing closed level j pc labels is = refl
-    all_other (GenFor line names es block) n ss closing closed level j pc labels is = refl
-    all_other (Goto line name') n ss closing closed level j pc labels is = refl
-    all_other (Break line) n ss closing closed level j pc labels is = refl
     all_other (Label line name') n ss closing closed level j pc labels is = absurd is
+    all_other _ n ss closing closed level j pc labels is = refl
 
     -- a label that was passed
     pub record OnePassed (n hi t : ℕ) (closed : List ℕ) (x : Passed) (xs : List Passed) (e : Visible) (d : Named) : Type 0 where

@@ -2,7 +2,7 @@
 use Rattle.std.proofs.Common.{◌≡◌, ℕ, ◌+◌, ◌<◌, ◌≤◌, ◌^◌, Bool, true, false, List, [], ◌∷◌, ◌++◌, length, map, Option, Some, None, refl, subst, arith}
 use Rattle.std.specs.Prelude.{slice_get}
 use Rattle.int_core.specs.Value.{Value}
-use Rattle.tree_core.specs.Tree.{Block, Falls, Returns, Body, BodyOf, Stats, EndStats, MoreStats, Stat, Empty, Local, LocalFunction, Assign, CallStat, Do, While, Repeat, If, IfElse, NumFor, NumForStep, GenFor, Label, Goto, Break, Arms, EndArms, MoreArms, Exp, Nil, True, False, Int, Str, Vararg, Function, Var, Index, Call, Method, Unary, Binary, And, Or, Paren, Table, Exps, EndExps, MoreExps, Fields, EndFields, MoreFields, Item, Keyed}
+use Rattle.tree_core.specs.Tree.{Block, Falls, Returns, Body, BodyOf, Stats, EndStats, MoreStats, Stat, Local, LocalFunction, Assign, CallStat, Do, While, Repeat, If, IfElse, NumFor, NumForStep, GenFor, Arms, EndArms, MoreArms, Exp, Nil, True, False, Int, Str, Vararg, Function, Var, Index, Call, Method, Unary, Binary, And, Or, Paren, Table, Exps, EndExps, MoreExps, Fields, EndFields, MoreFields, Item, Keyed}
 use Rattle.tree_terms.specs.Bodies.{upvalues_of}
 use Rattle.code_core.specs.Prototype.{Prototype, list_of}
 use Rattle.code_of.specs.CodeOf.{code_of, upvalue}
@@ -35,13 +35,6 @@ module _ (source : Option (List ℕ)) (p : Prototype) (bound : ℕ) (varargs : L
 
   mutual
     exp_up : (hs : Hidden) (e : Exp) (t j : ℕ) → IsPlaced (low hs) e t j → InExp source p e j → IsPlaced (high hs) e t j
-    exp_up hs (Nil l) t j h g = h
-    exp_up hs (True l) t j h g = h
-    exp_up hs (False l) t j h g = h
-    exp_up hs (Int l z) t j h g = h
-    exp_up hs (Str l bytes) t j h g = h
-    exp_up hs (Vararg l) t j h g = h
-    exp_up hs (Var l name) t j h g = h
     exp_up hs (Function l body) t j h g = (inner_up hs j body h.0 g.0 g.1, h.1)
     exp_up hs (Index l o key) t j h g = (exp_up hs o t j h.0 g.0, exp_up hs key t (j + made_by o) h.1 g.1)
     exp_up hs (Call l f es) t j h g = (exp_up hs f t j h.0 g.0, exps_up hs es t (j + made_by f) h.1 g.1)
@@ -52,6 +45,7 @@ module _ (source : Option (List ℕ)) (p : Prototype) (bound : ℕ) (varargs : L
     exp_up hs (Or l e d) t j h g = (exp_up hs e t j h.0 g.0, exp_up hs d t (j + made_by e) h.1 g.1)
     exp_up hs (Paren l e) t j h g = exp_up hs e t j h g
     exp_up hs (Table l fs) t j h g = fields_up hs fs 0 t j h g
+    exp_up hs _ t j h g = h
 
     exps_up : (hs : Hidden) (es : Exps) (t j : ℕ) → ArePlaced (low hs) es t j → InExps source p es j → ArePlaced (high hs) es t j
     exps_up hs EndExps t j h g = tt
@@ -130,7 +124,6 @@ module _ (source : Option (List ℕ)) (p : Prototype) (bound : ℕ) (varargs : L
 
   mutual
     stat_up : (hs : Hidden) (s : Stat) (closing : Bool) (t j : ℕ) (named : List Named) (loops : Bool) → StatIsPlaced (low hs) s closing t j named loops → InStat source p s j → StatIsPlaced (high hs) s closing t j named loops
-    stat_up hs (Empty l) closing t j named loops h g = h
     stat_up hs (Local l names es) closing t j named loops h g = (exps_up hs es t j h.0 g, h.1)
     stat_up hs (CallStat l e) closing t j named loops h g = (h.0, (exp_up hs e t j h.1.0 g, h.1.1))
     stat_up hs (Do l block) closing t j named loops h g = block_up hs block closing t j named loops h g
@@ -138,9 +131,6 @@ module _ (source : Option (List ℕ)) (p : Prototype) (bound : ℕ) (varargs : L
     stat_up hs (Repeat l block e) closing t j named loops h g = (open_up hs block closing t j named true h.0 g.0, (exp_up hs e (levels_in block t) (j + made_in_block block) h.1.0 g.1, h.1.1))
     stat_up hs (If l arms) closing t j named loops h g = arms_up hs arms closing t j named loops h g
     stat_up hs (IfElse l arms block) closing t j named loops h g = (arms_up hs arms closing t j named loops h.0 g.0, block_up hs block closing t (j + made_in_arms arms) named loops h.1 g.1)
-    stat_up hs (Label l name) closing t j named loops h g = h
-    stat_up hs (Goto l name) closing t j named loops h g = h
-    stat_up hs (Break l) closing t j named loops h g = h
     stat_up hs (LocalFunction l name body) closing t j named loops h g = (inner_up hs j body h.0 g.0 g.1, h.1)
     stat_up hs (Assign l targets es) closing t j named loops h g = assign_up hs (assigned targets es) targets es t j h g.0 g.1
     stat_up hs (NumFor l name from limit block) closing t j named loops h g = (
@@ -156,6 +146,7 @@ module _ (source : Option (List ℕ)) (p : Prototype) (bound : ℕ) (varargs : L
     )
     stat_up hs (GenFor l names es block) closing t j named loops h g =
         (exps_up hs es t j h.0 g.0, (h.1.0, (h.1.1.0, (h.1.1.1.0, (h.1.1.1.1.0, (h.1.1.1.1.1.0, block_up hs block true (t + 4 + length names) (j + made_in es) named true h.1.1.1.1.1.1 g.1))))))
+    stat_up hs _ closing t j named loops h g = h
 
     arms_up : (hs : Hidden) (arms : Arms) (closing : Bool) (t j : ℕ) (named : List Named) (loops : Bool) → ArmsArePlaced (low hs) arms closing t j named loops → InArms source p arms j → ArmsArePlaced (high hs) arms closing t j named loops
     arms_up hs EndArms closing t j named loops h g = tt

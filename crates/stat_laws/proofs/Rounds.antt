@@ -1,7 +1,7 @@
 -- What the machine does at the instructions of a generic `for`, as one equation each.
 use Rattle.std.proofs.Common.{◌≡◌, ℕ, suc, ◌+◌, ◌<◌, ◌≤◌, ◌^◌, lit<, pos, Bool, false, cond, [], ◌∷◌, length, Some, None, refl, ap, ap₂, ◌∙◌, arith}
 use borrow.Author.Tests.{lt-ltb, le-leb}
-use Rattle.int_core.specs.Value.{Value, Shape, known, object, is_known, is_object, nil, boolean, integer, string, primitive, is_nil, same_plain, nth, range, shape, holds}
+use Rattle.int_core.specs.Value.{Value, Shape, known, is_known, is_object, nil, primitive, is_nil, same_plain, nth, range, shape, holds}
 use Rattle.int_core.specs.Ask.{calls, Reply, values, faulted, left, Captured}
 use Rattle.code_core.specs.declared.opcode.Opcode.TheVariants.{TForPrep, TForCall, TForLoop}
 use Rattle.code_core.specs.Instruction.{abc, abx, opcode_of}
@@ -30,12 +30,8 @@ round_text t bx ended = cond ended next (quick pay (λ _. again_text t bx))
 
 round_so : (t bx : ℕ) (v : Value)
     → elim (shape v) as (λ _. Text) [ is_known k ↦ cond (same_plain k nil) next (quick pay (λ _. again_text t bx)) | is_object kind ↦ quick pay (λ _. again_text t bx) ] ≡ round_text t bx (is_nil v)
-round_so t bx (known nil) = refl
-round_so t bx (known (boolean b)) = refl
-round_so t bx (known (integer z)) = refl
-round_so t bx (known (string s)) = refl
 round_so t bx (known (primitive n)) = refl
-round_so t bx (object kind n) = refl
+round_so t bx _ = refl
 
 -- the text of TFORPREP once the value to be closed is known
 abbrev pub preparing : (p : Prototype) → (pc r bx : ℕ) → Bool → Text

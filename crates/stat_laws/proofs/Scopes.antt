@@ -2,7 +2,7 @@
 use Rattle.std.proofs.Common.{◌≡◌, ℕ, ◌+◌, ◌<◌, ◌≤◌, Bool, true, false, cond, List, [], ◌∷◌, ◌++◌, length, Option, Some, None, refl, sym, ap, subst, ◌∙◌, arith, length-append, append_assoc}
 use Rattle.std.proofs.lemmas.List.{length-map}
 use Rattle.tree_core.specs.declared.name.Name.{Name}
-use Rattle.tree_core.specs.Tree.{Block, Falls, Returns, BodyOf, Stats, EndStats, MoreStats, Stat, Empty, Local, LocalFunction, Assign, CallStat, Do, While, Repeat, If, IfElse, NumFor, NumForStep, GenFor, Label, Goto, Break, Arms, EndArms, MoreArms}
+use Rattle.tree_core.specs.Tree.{Block, Falls, Returns, BodyOf, Stats, EndStats, MoreStats, Stat, Local, LocalFunction, Do, While, Repeat, If, IfElse, NumFor, NumForStep, GenFor, Arms, EndArms, MoreArms}
 use Rattle.code_core.specs.declared.proto.Const.{Const}
 use Rattle.code_core.specs.declared.proto.LocVar.{LocVar}
 use Rattle.code_core.specs.Prototype.{Prototype}
@@ -31,20 +31,7 @@ module _ (cs : List Const) (back : Leaving) where
   declared_ended : (s : Stat) (t j pc end : ℕ) → Ended (declared_by cs back s t j pc end) end
   declared_ended (Local l names es) t j pc end = variables_ended (names_of names) (pc + length (exps_code cs es (Some (length names)) t j l)) end end (omega arith)
   declared_ended (LocalFunction l name body) t j pc end = (omega arith, tt)
-  declared_ended (Empty l) t j pc end = tt
-  declared_ended (Assign l targets es) t j pc end = tt
-  declared_ended (CallStat l e) t j pc end = tt
-  declared_ended (Do l block) t j pc end = tt
-  declared_ended (While l e block) t j pc end = tt
-  declared_ended (Repeat l block e) t j pc end = tt
-  declared_ended (If l arms) t j pc end = tt
-  declared_ended (IfElse l arms block) t j pc end = tt
-  declared_ended (NumFor l name from limit block) t j pc end = tt
-  declared_ended (NumForStep l name from limit step block) t j pc end = tt
-  declared_ended (GenFor l names es block) t j pc end = tt
-  declared_ended (Label l name) t j pc end = tt
-  declared_ended (Goto l name) t j pc end = tt
-  declared_ended (Break l) t j pc end = tt
+  declared_ended _ t j pc end = tt
 
   looped_ended : (k : ℕ) (names : List Name) (place size end : ℕ) → place + 1 + size ≤ end → Ended (looped cs back k names place size end) end
   looped_ended k names place size end le =
@@ -52,11 +39,6 @@ module _ (cs : List Const) (back : Leaving) where
 
   mutual
     stat_ended : (s : Stat) (closing : Bool) (t j pc : ℕ) → Ended (within_stat cs back s closing t j pc) (pc + stat_size cs back s closing t j)
-    stat_ended (Empty l) closing t j pc = tt
-    stat_ended (Local l names es) closing t j pc = tt
-    stat_ended (LocalFunction l name body) closing t j pc = tt
-    stat_ended (Assign l targets es) closing t j pc = tt
-    stat_ended (CallStat l e) closing t j pc = tt
     stat_ended (Do l block) closing t j pc = block_ended block closing t t j pc
     stat_ended (While l e block) closing t j pc =
         let place = pc + length (test_code cs e true 0 t j) in
@@ -90,9 +72,7 @@ module _ (cs : List Const) (back : Leaving) where
         let end = pc + stat_size cs back (GenFor l names es block) closing t j in
         ended_both (looped cs back 4 names place size end) (within_block cs back block true (t + 4) (t + 4 + length names) k (place + 1)) end (looped_ended 4 names place size end (omega arith))
         (ended_by (within_block cs back block true (t + 4) (t + 4 + length names) k (place + 1)) (place + 1 + size) end (omega arith) (block_ended block true (t + 4) (t + 4 + length names) k (place + 1)))
-    stat_ended (Label l name) closing t j pc = tt
-    stat_ended (Goto l name) closing t j pc = tt
-    stat_ended (Break l) closing t j pc = tt
+    stat_ended _ closing t j pc = tt
 
     arms_ended : (arms : Arms) (rest : ℕ) (closing : Bool) (t j pc : ℕ) → Ended (within_arms cs back arms rest closing t j pc) (pc + arms_size cs back arms rest closing t j)
     arms_ended EndArms rest closing t j pc = tt
@@ -131,20 +111,7 @@ module _ (cs : List Const) (back : Leaving) where
       let same = length-map names (λ d. d.name) in
       omega (arith, count, same)
   declared_alive (LocalFunction l name body) closing t j pc end q le lt = let some = function_some body t j in let count = variables_alive (name ∷ []) (pc + 1) end q (omega (arith, some)) lt in omega (arith, count)
-  declared_alive (Empty l) closing t j pc end q le lt = omega arith
-  declared_alive (Assign l targets es) closing t j pc end q le lt = omega arith
-  declared_alive (CallStat l e) closing t j pc end q le lt = omega arith
-  declared_alive (Do l block) closing t j pc end q le lt = omega arith
-  declared_alive (While l e block) closing t j pc end q le lt = omega arith
-  declared_alive (Repeat l block e) closing t j pc end q le lt = omega arith
-  declared_alive (If l arms) closing t j pc end q le lt = omega arith
-  declared_alive (IfElse l arms block) closing t j pc end q le lt = omega arith
-  declared_alive (NumFor l name from limit block) closing t j pc end q le lt = omega arith
-  declared_alive (NumForStep l name from limit step block) closing t j pc end q le lt = omega arith
-  declared_alive (GenFor l names es block) closing t j pc end q le lt = omega arith
-  declared_alive (Label l name) closing t j pc end q le lt = omega arith
-  declared_alive (Goto l name) closing t j pc end q le lt = omega arith
-  declared_alive (Break l) closing t j pc end q le lt = omega arith
+  declared_alive _ closing t j pc end q le lt = omega arith
 
   looped_alive : (k : ℕ) (names : List Name) (place size end q : ℕ) → place + 1 ≤ q → q < place + 1 + size → place + 1 + size ≤ end → alive q (looped cs back k names place size end) ≡ k + length names
   looped_alive k names place size end q le lt fits =
@@ -168,13 +135,6 @@ module _ (lines : Bool) (p : Prototype) (back : Leaving) where
   mutual
     stat_named : (s : Stat) (closing : Bool) (t j pc end : ℕ) (front after : List LocVar) → pc + stat_size p.own.constants back s closing t j ≤ end
         → Around lines p front (declared_by p.own.constants back s t j pc end ++ within_stat p.own.constants back s closing t j pc) after t pc end → StatIsNamed lines p back s closing t j pc
-    stat_named (Empty l) closing t j pc end front after le h = tt
-    stat_named (LocalFunction l name body) closing t j pc end front after le h = tt
-    stat_named (Assign l targets es) closing t j pc end front after le h = tt
-    stat_named (CallStat l e) closing t j pc end front after le h = tt
-    stat_named (Label l name) closing t j pc end front after le h = tt
-    stat_named (Goto l name) closing t j pc end front after le h = tt
-    stat_named (Break l) closing t j pc end front after le h = tt
     stat_named (Local l names es) closing t j pc end front after le h =
         let from = pc + length (exps_code p.own.constants es (Some (length names)) t j l) in
         declared_named lines p names t from from end front [] after (omega arith) (omega arith)
@@ -228,6 +188,7 @@ module _ (lines : Bool) (p : Prototype) (back : Leaving) where
               (subst (λ u. Around lines p (front ++ looped p.own.constants back 4 names place size close) inner after u (place + 1) (place + 1 + size)) all
               (for_scope 4 names t place size close pc end front inner after (omega arith) le (omega arith) h)),
         )
+    stat_named _ closing t j pc end front after le h = tt
 
     arms_named : (arms : Arms) (rest : ℕ) (closing : Bool) (t j pc : ℕ) (front after : List LocVar)
         → Around lines p front (within_arms p.own.constants back arms rest closing t j pc) after t pc (pc + arms_size p.own.constants back arms rest closing t j) → ArmsAreNamed lines p back arms rest closing t j pc

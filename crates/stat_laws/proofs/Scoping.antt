@@ -2,7 +2,7 @@
 use Rattle.std.proofs.Common.{lt-ltb, ◌≡◌, ℕ, zero, suc, ◌+◌, Bool, true, false, cond, ◌||◌, List, [], ◌∷◌, ◌++◌, length, Option, Some, None, refl, sym, ap, ◌∙◌, arith}
 use Rattle.std.specs.Prelude.{nat_lt}
 use Rattle.tree_core.specs.declared.name.UpName.{UpName}
-use Rattle.tree_core.specs.Tree.{Block, Falls, Returns, Body, Stats, EndStats, MoreStats, Stat, Empty, Local, LocalFunction, Assign, CallStat, Do, While, Repeat, If, IfElse, NumFor, NumForStep, GenFor, Label, Goto, Break, Arms, EndArms, MoreArms, Exp, Nil, True, False, Int, Str, Vararg, Function, Var, Index, Call, Method, Unary, Binary, And, Or, Paren, Table, Exps, EndExps, MoreExps, Fields, EndFields, MoreFields, Item, Keyed}
+use Rattle.tree_core.specs.Tree.{Block, Falls, Returns, Body, Stats, EndStats, MoreStats, Stat, Local, LocalFunction, Assign, CallStat, Do, While, Repeat, If, IfElse, NumFor, NumForStep, GenFor, Arms, EndArms, MoreArms, Exp, Nil, True, False, Int, Str, Vararg, Function, Var, Index, Call, Method, Unary, Binary, And, Or, Paren, Table, Exps, EndExps, MoreExps, Fields, EndFields, MoreFields, Item, Keyed}
 use Rattle.tree_terms.specs.Bodies.{upvalues_of}
 use Rattle.code_of.specs.Operands.{assigned, second_assigned}
 use Rattle.code_of.specs.Coded.{Coded}
@@ -47,22 +47,8 @@ not_yet false ss e = refl
 not_yet true ss e = let all = all_closing ss in absurd (cc)
 
 unmarked : (s : Stat) (t : ℕ) (closed : List ℕ) → closing_after s false ≡ false → closed_after s t closed ≡ closed
-unmarked (Empty l) t closed h = refl
 unmarked (Local l names es) t closed h = ap (λ ms. closed ++ ms) (no_some (closed_numbers names t) (sym (some_numbers names t) ∙ h)) ∙ append_nil closed
-unmarked (LocalFunction l name body) t closed h = refl
-unmarked (Assign l targets es) t closed h = refl
-unmarked (CallStat l e) t closed h = refl
-unmarked (Do l block) t closed h = refl
-unmarked (While l e block) t closed h = refl
-unmarked (Repeat l block e) t closed h = refl
-unmarked (If l arms) t closed h = refl
-unmarked (IfElse l arms block) t closed h = refl
-unmarked (NumFor l name from limit block) t closed h = refl
-unmarked (NumForStep l name from limit step block) t closed h = refl
-unmarked (GenFor l names es block) t closed h = refl
-unmarked (Label l name) t closed h = refl
-unmarked (Goto l name) t closed h = refl
-unmarked (Break l) t closed h = refl
+unmarked _ t closed h = refl
 
 pub unmarked_after : (ss : Stats) (t : ℕ) (closed : List ℕ) → closings_after ss false ≡ false → closeds_after ss t closed ≡ closed
 unmarked_after EndStats t closed e = refl
@@ -96,13 +82,6 @@ module _ (captures : Bool) (level : ℕ) (whole : Bool) where
 
   mutual
     pub exp_scoped : (S : Setting) (e : Exp) (t j : ℕ) → IsPlaced S e t j → Free (made_by e) → IsPlaced (inside S captures level whole) e t j
-    exp_scoped S (Nil l) t j h g = h
-    exp_scoped S (True l) t j h g = h
-    exp_scoped S (False l) t j h g = h
-    exp_scoped S (Int l z) t j h g = h
-    exp_scoped S (Str l bytes) t j h g = h
-    exp_scoped S (Vararg l) t j h g = h
-    exp_scoped S (Var l name) t j h g = h
     exp_scoped S (Function l body) t j h g = (inner_scoped S j body h.0, captures_scoped S (upvalues_of body) t (λ is. absurd (omega (arith, g is))) h.1)
     exp_scoped S (Index l o key) t j h g = (exp_scoped S o t j h.0 (λ is. omega (arith, g is)), exp_scoped S key t (j + made_by o) h.1 (λ is. omega (arith, g is)))
     exp_scoped S (Call l f es) t j h g = (exp_scoped S f t j h.0 (λ is. omega (arith, g is)), exps_scoped S es t (j + made_by f) h.1 (λ is. omega (arith, g is)))
@@ -113,6 +92,7 @@ module _ (captures : Bool) (level : ℕ) (whole : Bool) where
     exp_scoped S (Or l e d) t j h g = (exp_scoped S e t j h.0 (λ is. omega (arith, g is)), exp_scoped S d t (j + made_by e) h.1 (λ is. omega (arith, g is)))
     exp_scoped S (Paren l e) t j h g = exp_scoped S e t j h g
     exp_scoped S (Table l fs) t j h g = fields_scoped S fs 0 t j h g
+    exp_scoped S _ t j h g = h
 
     exps_scoped : (S : Setting) (es : Exps) (t j : ℕ) → ArePlaced S es t j → Free (made_in es) → ArePlaced (inside S captures level whole) es t j
     exps_scoped S EndExps t j h g = tt
@@ -191,7 +171,6 @@ module _ (captures : Bool) (level : ℕ) (whole : Bool) where
 
   mutual
     stat_scoped : (S : Setting) (s : Stat) (closing : Bool) (t j : ℕ) (named : List Named) (loops : Bool) → StatIsPlaced S s closing t j named loops → Free (made_by_stat s) → StatIsPlaced (inside S captures level whole) s closing t j named loops
-    stat_scoped S (Empty l) closing t j named loops h g = h
     stat_scoped S (Local l names es) closing t j named loops h g = (exps_scoped S es t j h.0 g, h.1)
     stat_scoped S (CallStat l e) closing t j named loops h g = (h.0, (exp_scoped S e t j h.1.0 g, h.1.1))
     stat_scoped S (Do l block) closing t j named loops h g = block_scoped S block closing t j named loops h g
@@ -199,9 +178,6 @@ module _ (captures : Bool) (level : ℕ) (whole : Bool) where
     stat_scoped S (Repeat l block e) closing t j named loops h g = (open_scoped S block closing t j named true h.0 (λ is. omega (arith, g is)), (exp_scoped S e (levels_in block t) (j + made_in_block block) h.1.0 (λ is. omega (arith, g is)), h.1.1))
     stat_scoped S (If l arms) closing t j named loops h g = arms_scoped S arms closing t j named loops h g
     stat_scoped S (IfElse l arms block) closing t j named loops h g = (arms_scoped S arms closing t j named loops h.0 (λ is. omega (arith, g is)), block_scoped S block closing t (j + made_in_arms arms) named loops h.1 (λ is. omega (arith, g is)))
-    stat_scoped S (Label l name) closing t j named loops h g = h
-    stat_scoped S (Goto l name) closing t j named loops h g = h
-    stat_scoped S (Break l) closing t j named loops h g = h
     stat_scoped S (LocalFunction l name body) closing t j named loops h g = (inner_scoped S j body h.0, (captures_scoped S (upvalues_of body) (t + 1) (λ is. absurd (omega (arith, g is))) h.1.0, h.1.1))
     stat_scoped S (Assign l targets es) closing t j named loops h g = assign_scoped S (assigned targets es) targets es t j h g
     stat_scoped S (NumFor l name from limit block) closing t j named loops h g = (
@@ -217,6 +193,7 @@ module _ (captures : Bool) (level : ℕ) (whole : Bool) where
     )
     stat_scoped S (GenFor l names es block) closing t j named loops h g =
         (exps_scoped S es t j h.0 (λ is. omega (arith, g is)), (h.1.0, (h.1.1.0, (h.1.1.1.0, (h.1.1.1.1.0, (h.1.1.1.1.1.0, block_scoped S block true (t + 4 + length names) (j + made_in es) named true h.1.1.1.1.1.1 (λ is. omega (arith, g is))))))))
+    stat_scoped S _ closing t j named loops h g = h
 
     arms_scoped : (S : Setting) (arms : Arms) (closing : Bool) (t j : ℕ) (named : List Named) (loops : Bool) → ArmsArePlaced S arms closing t j named loops → Free (made_in_arms arms) → ArmsArePlaced (inside S captures level whole) arms closing t j named loops
     arms_scoped S EndArms closing t j named loops h g = tt
