@@ -372,20 +372,20 @@ module _ (cs : List Const) where
   closure_lines true t j line h = (h, (h, tt))
   closure_lines false t j line h = (h, tt)
 
-  waiting_lines : (s : FieldKey) (code : List Coded) → LinesFit code → LinesFit (key_code s code)
-  waiting_lines evaluated code h = h
-  waiting_lines (a_name number) code h = tt
-  waiting_lines (an_index n) code h = tt
-  waiting_lines (a_register r) code h = tt
+  key_code_lines : (s : FieldKey) (code : List Coded) → LinesFit code → LinesFit (key_code s code)
+  key_code_lines evaluated code h = h
+  key_code_lines (a_name number) code h = tt
+  key_code_lines (an_index n) code h = tt
+  key_code_lines (a_register r) code h = tt
 
   target_lines : (e : Exp) (r j : ℕ) → ExpIsWritten e → LinesFit (target_code cs e r j)
   target_lines (Var line name) r j w = by name.place
     where
       by : (place : Place) → LinesFit (name_target cs place name.text r line)
-      by (GlobalIn n) = (w.0, waiting_lines (text_key cs name.text) _ (loads_lines cs (StrConst name.text) (r + 1) line w.0))
-      by (GlobalOf u) = (w.0, waiting_lines (text_key cs name.text) _ (loads_lines cs (StrConst name.text) (r + 1) line w.0))
+      by (GlobalIn n) = (w.0, key_code_lines (text_key cs name.text) _ (loads_lines cs (StrConst name.text) (r + 1) line w.0))
+      by (GlobalOf u) = (w.0, key_code_lines (text_key cs name.text) _ (loads_lines cs (StrConst name.text) (r + 1) line w.0))
       by _ = tt
-  target_lines (Index line o k) r j w = lines_both (exp_code cs o r j 2) _ (exp_lines o r j 2 w.1.0) (waiting_lines (waiting_key cs k) _ (exp_lines k (r + 1) (j + made_by o) 2 w.1.1))
+  target_lines (Index line o k) r j w = lines_both (exp_code cs o r j 2) _ (exp_lines o r j 2 w.1.0) (key_code_lines (waiting_key cs k) _ (exp_lines k (r + 1) (j + made_by o) 2 w.1.1))
   target_lines _ r j w = tt
 
   targets_lines : (es : Exps) (r j : ℕ) → ExpsAreWritten es → LinesFit (targets_code cs es r j)

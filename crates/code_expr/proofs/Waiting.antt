@@ -1,5 +1,5 @@
 -- Items of a constructor: what is written of one that waits and of one that does not.
-use Rattle.std.proofs.Common.{arith, ℕ, zero, suc, ◌+◌, ◌≡◌, Bool, true, false, cond, List, [], ◌++◌, refl, sym, ap, ap₂, ◌∙◌, append-nil}
+use Rattle.std.proofs.Common.{arith, ℕ, zero, suc, ◌+◌, ◌≡◌, Bool, true, false, cond, List, [], ◌++◌, refl, sym, ap, subst, ap₂, ◌∙◌, append-nil}
 use Rattle.tree_core.specs.Tree.{Exp, Vararg, Call, Method}
 use Rattle.code_core.specs.declared.proto.Const.{Const}
 use Rattle.code_of.specs.Coded.{Coded}
@@ -25,10 +25,10 @@ some_wait s q stored (suc more) t line some written = written
 -- so many items as are stored at once, or fewer
 
 module _ (s : Listing) (stored waiting t line : ℕ) where
-  either_stored : Bool → List Coded
+  abbrev either_stored : Bool → List Coded
   either_stored full = cond full (set_list t waiting stored line) []
 
-  either_behind : Bool → Items
+  abbrev either_behind : Bool → Items
   either_behind full = cond full (so_many (stored + waiting) 0) (so_many stored waiting)
 
   pub few_stored : is_full (stored + waiting) ≡ false → s ≡ listed s (cond (is_full (stored + waiting)) (set_list t waiting stored line) [])
@@ -87,14 +87,26 @@ held_is true code stored waiting b t line = refl
 held_is false code stored waiting b t line = append-nil code
 
 module _ (k : List Const) (e : Exp) (whole : Bool) (n : Items) (t j line : ℕ) where
-  by_waiting : Bool → List Coded
+  abbrev by_waiting : Bool → List Coded
   by_waiting wait = item_code wait (is_full (n.stored + n.waiting + 1)) (exp_code k e (item_register wait t n.waiting) j (cond whole 0 2)) n.stored n.waiting (cond whole 0 1) t line
 
-  pub one_waits : waits e ≡ true → held_code (is_full (n.stored + n.waiting + 1)) (exp_code k e (t + 1 + n.waiting) j 2) n.stored n.waiting t line ≡ one_item k e whole n t j line
+  one_waits : waits e ≡ true → held_code (is_full (n.stored + n.waiting + 1)) (exp_code k e (t + 1 + n.waiting) j 2) n.stored n.waiting t line ≡ one_item k e whole n t j line
   one_waits w =
       ap (λ code. held_code (is_full (n.stored + n.waiting + 1)) code n.stored n.waiting t line) (sym (of_no_account k e (t + 1 + n.waiting) j (cond whole 0 2) w))
       ∙ held_is (is_full (n.stored + n.waiting + 1)) (exp_code k e (t + 1 + n.waiting) j (cond whole 0 2)) n.stored n.waiting (cond whole 0 1) t line
       ∙ ap by_waiting (sym w)
 
-  pub one_alone : waits e ≡ false → alone_code (exp_code k e (t + 1) j (cond whole 0 2)) n.stored n.waiting (cond whole 0 1) t line ≡ one_item k e whole n t j line
+  one_alone : waits e ≡ false → alone_code (exp_code k e (t + 1) j (cond whole 0 2)) n.stored n.waiting (cond whole 0 1) t line ≡ one_item k e whole n t j line
   one_alone w = ap by_waiting (sym w)
+
+-- and the code of an item goes behind what is listed
+
+pub item_held : (s q : Listing) (e : Exp) (whole : Bool) (n : Items) (t line : ℕ) → waits e ≡ true
+    → q ≡ followed s (held_code (is_full (n.stored + n.waiting + 1)) (exp_code s.constants e (t + 1 + n.waiting) s.made 2) n.stored n.waiting t line) (made_by e)
+    → q ≡ followed s (one_item s.constants e whole n t s.made line) (made_by e)
+item_held s q e whole n t line w h = subst (λ code. q ≡ followed s code (made_by e)) (one_waits s.constants e whole n t s.made line w) h
+
+pub item_alone : (s q : Listing) (e : Exp) (whole : Bool) (n : Items) (t line : ℕ) → waits e ≡ false
+    → q ≡ followed s (alone_code (exp_code s.constants e (t + 1) s.made (cond whole 0 2)) n.stored n.waiting (cond whole 0 1) t line) (made_by e)
+    → q ≡ followed s (one_item s.constants e whole n t s.made line) (made_by e)
+item_alone s q e whole n t line w h = subst (λ code. q ≡ followed s code (made_by e)) (one_alone s.constants e whole n t s.made line w) h

@@ -127,8 +127,41 @@ module _ (S : Setting) where
 
   -- where a variable is to be closed, no call behind `return` is in the function's place
   no_tail_call : (es : Exps) (line : ℕ) (p : Pending) (ps : List Pending) (env : List Value) (c : Captured) (k : List Work) → begins_return line es (of_tree S (p ∷ ps) env c) k ≡ goes_on (tree.at (collect (for_return line) [] es) (of_tree S (p ∷ ps) env c) k)
+  no_tail_call EndExps line p ps env c k = refl
+  no_tail_call (MoreExps (Nil l) EndExps) line p ps env c k = refl
+  no_tail_call (MoreExps (True l) EndExps) line p ps env c k = refl
+  no_tail_call (MoreExps (False l) EndExps) line p ps env c k = refl
+  no_tail_call (MoreExps (Int l z) EndExps) line p ps env c k = refl
+  no_tail_call (MoreExps (Str l bytes) EndExps) line p ps env c k = refl
+  no_tail_call (MoreExps (Vararg l) EndExps) line p ps env c k = refl
+  no_tail_call (MoreExps (Function l body) EndExps) line p ps env c k = refl
+  no_tail_call (MoreExps (Var l name) EndExps) line p ps env c k = refl
+  no_tail_call (MoreExps (Index l o key) EndExps) line p ps env c k = refl
+  no_tail_call (MoreExps (Call l f args) EndExps) line p ps env c k = refl
+  no_tail_call (MoreExps (Method l o name args) EndExps) line p ps env c k = refl
+  no_tail_call (MoreExps (Unary l op x) EndExps) line p ps env c k = refl
+  no_tail_call (MoreExps (Binary l op x y) EndExps) line p ps env c k = refl
+  no_tail_call (MoreExps (And l x y) EndExps) line p ps env c k = refl
+  no_tail_call (MoreExps (Or l x y) EndExps) line p ps env c k = refl
+  no_tail_call (MoreExps (Paren l x) EndExps) line p ps env c k = refl
+  no_tail_call (MoreExps (Table l fs) EndExps) line p ps env c k = refl
+  no_tail_call (MoreExps (Nil l) (MoreExps d es)) line p ps env c k = refl
+  no_tail_call (MoreExps (True l) (MoreExps d es)) line p ps env c k = refl
+  no_tail_call (MoreExps (False l) (MoreExps d es)) line p ps env c k = refl
+  no_tail_call (MoreExps (Int l z) (MoreExps d es)) line p ps env c k = refl
+  no_tail_call (MoreExps (Str l bytes) (MoreExps d es)) line p ps env c k = refl
+  no_tail_call (MoreExps (Vararg l) (MoreExps d es)) line p ps env c k = refl
+  no_tail_call (MoreExps (Function l body) (MoreExps d es)) line p ps env c k = refl
+  no_tail_call (MoreExps (Var l name) (MoreExps d es)) line p ps env c k = refl
+  no_tail_call (MoreExps (Index l o key) (MoreExps d es)) line p ps env c k = refl
+  no_tail_call (MoreExps (Call l f args) (MoreExps d es)) line p ps env c k = refl
+  no_tail_call (MoreExps (Method l o name args) (MoreExps d es)) line p ps env c k = refl
+  no_tail_call (MoreExps (Unary l op x) (MoreExps d es)) line p ps env c k = refl
+  no_tail_call (MoreExps (Binary l op x y) (MoreExps d es)) line p ps env c k = refl
+  no_tail_call (MoreExps (And l x y) (MoreExps d es)) line p ps env c k = refl
+  no_tail_call (MoreExps (Or l x y) (MoreExps d es)) line p ps env c k = refl
+  no_tail_call (MoreExps (Paren l x) (MoreExps d es)) line p ps env c k = refl
   no_tail_call (MoreExps (Table l fs) (MoreExps d es)) line p ps env c k = refl
-  no_tail_call _ line p ps env c k = refl
 
   module _ (back : ℕ) where
     -- the values of a list

@@ -25,7 +25,7 @@ use Rattle.code_emitter.specs.Listing.{listed, followed}
 use Rattle.code_emitter.proofs.Joining.{then_made, then_listed, listed_then}
 use Rattle.code_expr.specs.Parts.{so_many, item_behind, keyed_code}
 use Rattle.code_expr.proofs.Going.{fields_from, next_exp, next_field, all_fields, table_written}
-use Rattle.code_expr.proofs.Waiting.{held_written, held_behind, alone_written, one_waits, one_alone}
+use Rattle.code_expr.proofs.Waiting.{held_written, held_behind, alone_written, item_held, item_alone}
 use Rattle.code_expr.proofs.Links.{whole_written, chain_is_binary, link_written, link_counted, last_written, last_counted, apart_ends, joined_written}
 use Rattle.std.proofs.lemmas.Result.{on_ok_weaker, IfOk-weaker}
 use Rattle.std.proofs.Common.{ap₂}
@@ -280,8 +280,7 @@ pub items::item-returns-then-waits-clause-code : goal.items::item-returns-then-w
 items::item-returns-then-waits-clause-code t c =
     let e = plain_exp c.args.value.now in
     let w : waits e ≡ true = sym c.waits.ensures ∙ c.if-waits.true in
-    on_ok_weaker c.waiting_item.result
-    (λ h. h ∙ ap (λ code. followed c.args.emitter.now code (made_by e)) (one_waits c.args.emitter.now.constants e c.args.whole c.args.items c.args.target c.args.emitter.now.made c.args.line w)) c.waiting_item.ensures.code
+    on_ok_weaker c.waiting_item.result (item_held c.args.emitter.now c.waiting_item.new.emitter e c.args.whole c.args.items c.args.target c.args.line w) c.waiting_item.ensures.code
 
 pub items::item-returns-then-waits-clause-items : goal.items::item-returns-then-waits-clause-items
 items::item-returns-then-waits-clause-items t c =
@@ -293,8 +292,7 @@ pub items::item-returns-clause-code : goal.items::item-returns-clause-code
 items::item-returns-clause-code t c =
     let e = plain_exp c.args.value.now in
     let w : waits e ≡ false = sym c.waits.ensures ∙ c.if-waits.false in
-    on_ok_weaker c.lone_item.result
-    (λ h. h ∙ ap (λ code. followed c.args.emitter.now code (made_by e)) (one_alone c.args.emitter.now.constants e c.args.whole c.args.items c.args.target c.args.emitter.now.made c.args.line w)) c.lone_item.ensures.code
+    on_ok_weaker c.lone_item.result (item_alone c.args.emitter.now c.lone_item.new.emitter e c.args.whole c.args.items c.args.target c.args.line w) c.lone_item.ensures.code
 
 pub items::item-returns-clause-items : goal.items::item-returns-clause-items
 items::item-returns-clause-items t c =
