@@ -4,4 +4,4 @@
 
 mod frame;
 
-pub use frame::{Exit, Out, run_frame};
+pub use frame::run_frame;

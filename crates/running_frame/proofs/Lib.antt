@@ -11,6 +11,7 @@ mod Closed
 mod Calls
 mod Called
 mod Listed
+mod Passed
 mod Stored
 mod Takers
 mod Returned

@@ -1,6 +1,7 @@
 pub mod Here
 pub mod Standing
 pub mod Taking
+pub mod Closing
 pub mod Upvalues
 pub mod Inheriting
 pub mod Calling

@@ -4,6 +4,7 @@
 
 mod ahead;
 mod calling;
+mod closing;
 mod frames;
 mod inherited;
 mod listing;

@@ -7,6 +7,7 @@ ghost use Rattle.machine_loop.specs.Running.{ClosesNothing, Running};
 ghost use Rattle.running_frame.specs.Inheriting.{GoesWith, RunsWith, metatable_number};
 ghost use Rattle.running_frame.specs.Standing.{IsAboveLast, IsClosedFrom, IsHereIn, MayRun, RunsAt, standing};
 
+use crate::closing::pass_close;
 use crate::inherited::read_inherited;
 use crate::place::{Here, here_at, is_none};
 use crate::upvalues::read_open;
@@ -107,8 +108,8 @@ fn run_on_top(
     here_at(closure.words, pc, true)
 }
 
-/// Runs it from the place `start` on, and tells where it stops. The loop over instructions has the frame's own registers alone and follows no handlers, so what
-/// stands in a register of a frame below, and fields that handlers lead to, are read between two rounds of it.
+/// Runs it from the place `start` on, and tells where it stops. The loop over instructions has the frame's own registers alone, follows no handlers and closes
+/// nothing, so what stands in a register of a frame below, and fields that handlers lead to, are read between two rounds of it, and a CLOSE is passed there.
 fn run_rounds(
     stack: &mut Stack,
     closure: Closure,
@@ -133,14 +134,51 @@ fn run_rounds(
 {
     let mut pc = start;
     for _ in 0..u64::MAX {
-        let at = run_round(stack, closure, strings, tables, cells, budget, closed, pc);
-        let Some(next) = read_between(stack, closure, strings, tables, cells, co, string_meta, at)
-        else {
+        let at = run_round(stack, closure, strings, tables, cells, budget, pc);
+        let Some(next) = pass_between(
+            stack,
+            closure,
+            strings,
+            tables,
+            cells,
+            co,
+            string_meta,
+            closed,
+            at,
+        ) else {
             return at;
         };
         pc = next;
     }
     pc
+}
+
+/// Does an instruction that reads what the loop does not, or a CLOSE that has nothing to do, and tells where the frame goes on. `None`, with all as before, at any
+/// other instruction.
+#[inline(always)]
+fn pass_between(
+    stack: &mut Stack,
+    closure: Closure,
+    strings: &Strings,
+    tables: &Pool<Table>,
+    cells: &Pool<Cell>,
+    co: CoroId,
+    string_meta: Option<TableId>,
+    closed: Option<usize>,
+    pc: usize,
+) -> Option<usize>
+    ghost g: { Running }
+    requires runs { RunsWith g (code closure strings.now) stack.old tables.now.objects cells.now.objects pc }
+    requires closed { IfSome closed (λ register. ClosesNothing g.around cells.now.objects register) }
+    requires own { co.0 ≡ g.around.context.coroutine }
+    requires meta { metatable_number string_meta ≡ g.string_metatable }
+    ensures goes { IfSome result (λ to. GoesWith g (code closure.entry strings.now) stack.old stack.new tables.now.objects cells.now.objects pc to) }
+    ensures kept { IfNone result (stack.new ≡ stack.old) }
+{
+    match read_between(stack, closure, strings, tables, cells, co, string_meta, pc) {
+        Some(to) => Some(to),
+        None => pass_close(stack, closure, cells, closed, pc),
+    }
 }
 
 /// Does an instruction that reads what the loop does not, and tells where the frame goes on. `None`, with all as before, at any other instruction.
@@ -176,31 +214,19 @@ fn run_round(
     tables: &mut Pool<Table>,
     cells: &mut Pool<Cell>,
     budget: &mut u64,
-    closed: Option<usize>,
     start: usize,
 ) -> usize
     ghost g: { Running }
-    requires runs { RunsAt g (code closure strings.now) stack.old tables.old.objects cells.old.objects budget.old start }
-    requires closed { IfSome closed (λ register. ClosesNothing g.around cells.old.objects register) }
+    requires { RunsAt g (code closure strings.now) stack.old tables.old.objects cells.old.objects budget.old start }
     ensures reaches { Reaches g.around.rows (standing g stack.old tables.old.objects cells.old.objects budget.old) (standing g stack.new tables.new.objects cells.new.objects budget.new) }
     ensures runs { RunsAt g (code closure.entry strings.now) stack.new tables.new.objects cells.new.objects budget.new result }
     ensures opened { AreOpenAlike cells.old.objects cells.new.objects }
     ensures listed { stack.new.open_cells ≡ stack.old.open_cells }
 {
     let registers = stack.registers_mut();
-    let exit = run_frame(
-        closure,
-        strings,
-        tables,
-        cells,
-        registers,
-        start,
-        budget,
-        u64::MAX,
-        closed,
-    );
-    stack.set_pc(exit.pc);
-    exit.pc
+    let pc = run_frame(closure, strings, tables, cells, registers, start, budget);
+    stack.set_pc(pc);
+    pc
 }
 
 /// From which register on no cell of the frame on top is open. None is said where a variable there is still to be closed.

@@ -1,10 +1,9 @@
 use Rattle.std.proofs.Common.{◌∙◌}
 use Rattle.machine_arms_tables.specs.Frame.{moment}
-use Rattle.machine_loop.proofs.Alike.{closes_nothing_still}
 use Rattle.machine_loop.proofs.frame.run_frame.Goals as goal
 
 pub step_frame-requires : goal.step_frame-requires
-step_frame-requires g c = (c.loop.invariant.ready, closes_nothing_still g.g.around c.args.cells.now.objects c.loop.cells.objects c.loop.invariant.opened c.args.closed_from c.requires.1)
+step_frame-requires g c = c.loop.invariant.ready
 
 pub loop-preserved : goal.loop-preserved
 loop-preserved g c =

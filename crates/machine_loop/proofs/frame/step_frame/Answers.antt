@@ -1,35 +1,18 @@
 use Rattle.std.proofs.Common.{sym}
 use Rattle.machine_arms_tables.proofs.Steps.{place_there, at_opcode}
 use Rattle.machine_arms_tables.specs.Frame.{code, moment}
-use Rattle.machine_loop.proofs.Closing.{close_so, next_is_there}
 use Rattle.machine_loop.proofs.Stepping.{step_so}
 use Rattle.machine_loop.proofs.frame.step_frame.Goals as goal
 
 pub fetch-i-requires : goal.fetch-i-requires
-fetch-i-requires g c = place_there g.g.around g.g.string_metatable (code c.args.closure c.args.strings.now) (moment c.args.tables.now.objects c.args.cells.now.objects c.args.registers.now c.args.pc c.args.fuel.now) c.requires.0
-
-pub pass_close-requires : goal.pass_close-requires
-pass_close-requires g c =
-    next_is_there g.g (code c.args.closure c.args.strings.now) (moment c.args.tables.now.objects c.args.cells.now.objects c.args.registers.now c.args.pc c.args.fuel.now) c.requires.0 c.fetch-i.result c.in-Close.is c.fetch-i.ensures
-    c.in_ok-op.ensures
-
-pub returns-in-Close-clause-steps : goal.returns-in-Close-clause-steps
-returns-in-Close-clause-steps g c =
-    close_so g.g (code c.args.closure c.args.strings.now) (moment c.args.tables.now.objects c.args.cells.now.objects c.args.registers.now c.args.pc c.args.fuel.now) c.requires.0 c.fetch-i.result c.in-Close.is c.fetch-i.ensures
-    c.in_ok-op.ensures c.args.closed_from c.requires.1 c.pass_close.result c.pass_close.ensures
+fetch-i-requires g c = place_there g.g.around g.g.string_metatable (code c.args.closure c.args.strings.now) (moment c.args.tables.now.objects c.args.cells.now.objects c.args.registers.now c.args.pc c.args.fuel.now) c.requires
 
 pub run_instruction-requires : goal.run_instruction-requires
 run_instruction-requires g c =
-    at_opcode g.g.around g.g.string_metatable (code c.args.closure c.args.strings.now) (moment c.args.tables.now.objects c.args.cells.now.objects c.args.registers.now c.args.pc c.args.fuel.now) c.requires.0
+    at_opcode g.g.around g.g.string_metatable (code c.args.closure c.args.strings.now) (moment c.args.tables.now.objects c.args.cells.now.objects c.args.registers.now c.args.pc c.args.fuel.now) c.requires
     c.fetch-i.result c.in_ok-op.op c.fetch-i.ensures (sym c.in_ok-op.ensures)
 
-pub returns-in_default : goal.returns-in_default
-returns-in_default g c = record {
-  steps =
-      step_so g.g (code c.args.closure c.args.strings.now) (moment c.args.tables.now.objects c.args.cells.now.objects c.args.registers.now c.args.pc c.args.fuel.now) c.requires.0
-      c.fetch-i.result c.in_ok-op.op _ _ _ _ _ c.fetch-i.ensures c.in_ok-op.ensures c.run_instruction.ensures.goes;
-  tables = c.run_instruction.ensures.tables;
-  cells = c.run_instruction.ensures.cells;
-  registers = c.run_instruction.ensures.registers;
-  unpaid = c.run_instruction.ensures.unpaid;
-}
+pub returns-clause-steps : goal.returns-clause-steps
+returns-clause-steps g c =
+    step_so g.g (code c.args.closure c.args.strings.now) (moment c.args.tables.now.objects c.args.cells.now.objects c.args.registers.now c.args.pc c.args.fuel.now) c.requires
+    c.fetch-i.result c.in_ok-op.op _ _ _ _ _ c.fetch-i.ensures c.in_ok-op.ensures c.run_instruction.ensures.goes

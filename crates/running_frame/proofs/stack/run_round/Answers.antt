@@ -4,46 +4,46 @@ use Rattle.lua_stack.specs.Frames.{with_registers}
 use Rattle.running_frame.proofs.OnStack.{loop_ready, loop_reaches, rewritten, runs_at, stays_on_top}
 use Rattle.running_frame.proofs.stack.run_round.Goals as goal
 
-pub run_frame-exit-requires : goal.run_frame-exit-requires
-run_frame-exit-requires g c =
-    let x = c.requires.0 in
+pub run_frame-pc-requires : goal.run_frame-pc-requires
+run_frame-pc-requires g c =
+    let x = c.requires in
     let m = x.may in
     let v = value g.g.around.texts in
     let below = g.g.around.context.below in
-    (loop_ready g.g _ _ _ _ _ m c.registers_mut-registers.result.now c.args.start x.runs (sym x.at_pc) (c.registers_mut-registers.ensures.registers v below m.top m.is), c.requires.1)
+    loop_ready g.g _ _ _ _ _ m c.registers_mut-registers.result.now c.args.start x.runs (sym x.at_pc) (c.registers_mut-registers.ensures.registers v below m.top m.is)
 
 pub set_pc-requires : goal.set_pc-requires
 set_pc-requires g c =
-    let x = c.requires.0 in
+    let x = c.requires in
     let m = x.may in
     let v = value g.g.around.texts in
     let below = g.g.around.context.below in
     stays_on_top g.g _ _ _ _ _ m c.registers_mut-registers.result.now c.args.start x.runs (sym x.at_pc) (c.registers_mut-registers.ensures.registers v below m.top m.is)
-    c.run_frame-exit.new.registers c.registers_mut-registers.ensures.registers c.run_frame-exit.auto.registers
+    c.run_frame-pc.new.registers c.registers_mut-registers.ensures.registers c.run_frame-pc.auto.registers
 
 pub returns-clause-reaches : goal.returns-clause-reaches
 returns-clause-reaches g c =
-    let x = c.requires.0 in
+    let x = c.requires in
     let m = x.may in
     let v = value g.g.around.texts in
     let below = g.g.around.context.below in
-    let w = c.run_frame-exit.new.registers in
+    let w = c.run_frame-pc.new.registers in
     let frames_are =
     rewritten g.g _ _ _ _ _ m c.registers_mut-registers.result.now c.args.start x.runs (sym x.at_pc) (c.registers_mut-registers.ensures.registers v below m.top m.is)
-    w c.registers_mut-registers.ensures.registers c.run_frame-exit.auto.registers in
+    w c.registers_mut-registers.ensures.registers c.run_frame-pc.auto.registers in
     loop_reaches g.g _ _ _ _ _ m c.registers_mut-registers.result.now c.args.start x.runs (sym x.at_pc) (c.registers_mut-registers.ensures.registers v below m.top m.is)
-    c.set_pc.new.self c.run_frame-exit.new.tables.objects c.run_frame-exit.new.cells.objects w c.run_frame-exit.result.pc c.run_frame-exit.new.fuel c.run_frame-exit.ensures.runs (c.set_pc.ensures.top v refl below (with_registers (map v w) m.top) frames_are)
+    c.set_pc.new.self c.run_frame-pc.new.tables.objects c.run_frame-pc.new.cells.objects w c.run_frame-pc.result c.run_frame-pc.new.fuel c.run_frame-pc.ensures.runs (c.set_pc.ensures.top v refl below (with_registers (map v w) m.top) frames_are)
 
 pub returns-clause-runs : goal.returns-clause-runs
 returns-clause-runs g c =
-    let x = c.requires.0 in
+    let x = c.requires in
     let m = x.may in
     let v = value g.g.around.texts in
     let below = g.g.around.context.below in
-    let w = c.run_frame-exit.new.registers in
+    let w = c.run_frame-pc.new.registers in
     let frames_are =
     rewritten g.g _ _ _ _ _ m c.registers_mut-registers.result.now c.args.start x.runs (sym x.at_pc) (c.registers_mut-registers.ensures.registers v below m.top m.is)
-    w c.registers_mut-registers.ensures.registers c.run_frame-exit.auto.registers in
+    w c.registers_mut-registers.ensures.registers c.run_frame-pc.auto.registers in
     runs_at g.g _ _ _ _ _ m c.registers_mut-registers.result.now c.args.start x.runs (sym x.at_pc) (c.registers_mut-registers.ensures.registers v below m.top m.is)
-    c.set_pc.new.self c.run_frame-exit.new.tables.objects c.run_frame-exit.new.cells.objects w c.run_frame-exit.result.pc c.run_frame-exit.new.fuel c.run_frame-exit.ensures.ready (c.set_pc.ensures.top v refl below (with_registers (map v w) m.top) frames_are)
-    c.set_pc.ensures.cells c.run_frame-exit.ensures.opened
+    c.set_pc.new.self c.run_frame-pc.new.tables.objects c.run_frame-pc.new.cells.objects w c.run_frame-pc.result c.run_frame-pc.new.fuel c.run_frame-pc.ensures.ready (c.set_pc.ensures.top v refl below (with_registers (map v w) m.top) frames_are)
+    c.set_pc.ensures.cells c.run_frame-pc.ensures.opened

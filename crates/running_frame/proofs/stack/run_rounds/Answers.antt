@@ -7,14 +7,18 @@ use Rattle.running_frame.proofs.Chained.{reaches_then}
 use Rattle.running_frame.proofs.stack.run_rounds.Goals as goal
 
 pub run_round-at-requires : goal.run_round-at-requires
-run_round-at-requires g c = (c.loop.invariant.runs, closes_nothing_still g.g.around c.args.cells.now.objects c.loop.cells.objects c.loop.invariant.opened c.args.closed c.requires.1.0)
+run_round-at-requires g c = c.loop.invariant.runs
 
-pub read_between-requires : goal.read_between-requires
-read_between-requires g c = (record { fuel = c.run_round-at.new.budget; runs = c.run_round-at.ensures.runs }, c.requires.1.1)
+pub pass_between-requires : goal.pass_between-requires
+pass_between-requires g c =
+    let opened = c.loop.invariant.opened ∙ c.run_round-at.ensures.opened in (
+      record { fuel = c.run_round-at.new.budget; runs = c.run_round-at.ensures.runs },
+      (closes_nothing_still g.g.around c.args.cells.now.objects c.run_round-at.new.cells.objects opened c.args.closed c.requires.1.0, c.requires.1.1),
+    )
 
 pub returns-in_default-clause-reaches : goal.returns-in_default-clause-reaches
 returns-in_default-clause-reaches g c =
-    let kept : c.read_between.new.stack ≡ c.run_round-at.new.stack = search rules in
+    let kept : c.pass_between.new.stack ≡ c.run_round-at.new.stack = search rules in
     subst (λ (s : KeptStack). Reaches g.g.around.rows (standing g.g c.args.stack.now c.args.tables.now.objects c.args.cells.now.objects c.args.budget.now) (standing g.g s c.run_round-at.new.tables.objects c.run_round-at.new.cells.objects c.run_round-at.new.budget))
     (sym kept) (reaches_then g.g.around.rows c.loop.invariant.reaches c.run_round-at.ensures.reaches)
 

@@ -7,8 +7,8 @@ use Rattle.running_frame.proofs.stack.run_rounds.Given as goal
 abbrev pub ghost-run_round : goal.ghost-run_round
 ghost-run_round g a = g.g
 
-abbrev pub ghost-read_between : goal.ghost-read_between
-ghost-read_between g a = g.g
+abbrev pub ghost-pass_between : goal.ghost-pass_between
+ghost-pass_between g a = g.g
 
 abbrev pub invariant-loop : goal.invariant-loop
 invariant-loop g l = record {
