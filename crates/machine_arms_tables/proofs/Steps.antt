@@ -37,19 +37,20 @@ module _ (g : Around) (meta : Option ℕ) (k : Code) (m : Moment) (here : IsRead
   is_of : IsOf g k
   is_of = record { code = here.ready.code; upvalues_are = here.upvalues_are; texts_are = here.texts_are }
 
-  stepped : (n : Moment) (op : Opcode) (w : Instruction) → IsAt op w k.words k.constants m.registers m.pc → Leads op w k m n → step g.rows go (world_at g meta m) ≡ ends go (world_at g meta n)
-  stepped n op w a d =
+  -- it calls no primitive, so it is one with any rows of these
+  pub stepped_by : (rows : ℕ → Row) (n : Moment) (op : Opcode) (w : Instruction) → IsAt op w k.words k.constants m.registers m.pc → Leads op w k m n → step rows go (world_at g meta m) ≡ ends go (world_at g meta n)
+  stepped_by rows n op w a d =
       let p = g.context.closure.code in
       let at_pc : at p m.pc ≡ Some w = ap (λ ws. slice_get ws m.pc) here.ready.code.code.words_are ∙ a.at_pc in
       let text_is : text_at p m.pc ≡ row_of p m.pc op w = ap (λ (o : Option Instruction). elim o [ None ↦ trap | Some w ↦ text_by p m.pc w (opcode_of w) ]) at_pc ∙ ap (text_by p m.pc w) a.is_opcode in
-      step_is g.context here.ready.frame.stands (held_at g meta m) g.rows
+      step_is g.context here.ready.frame.stands (held_at g meta m) rows
       ∙ ap (λ t. from_world (world_at g meta m) (run (expand t) [] (world_at g meta m))) text_is
       ∙ ap (from_world (world_at g meta m)) (d.runs g meta is_of here.ready.frame.stands)
 
   pub steps_on : (n : Moment) (op : Opcode) (w : Instruction) → IsAt op w k.words k.constants m.registers m.pc → Leads op w k m n → StepsOn g meta k m n
   steps_on n op w a d =
       let f = here.ready.frame in
-      let q = stepped n op w a d in
+      let q = stepped_by g.rows n op w a d in
       record {
         ready = record {
           ready = record {

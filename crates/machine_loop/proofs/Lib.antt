@@ -1,3 +1,4 @@
 mod Stepping
 pub mod Alike
 pub mod Closing
+mod Nearer

@@ -1,16 +1,23 @@
--- What the loop over one frame's instructions does not change, and where a CLOSE there is nothing but a place that is passed.
+-- What the loop over one frame's instructions does not change, what one of them is, and where a CLOSE is nothing but a place that is passed.
 use Rattle.std.specs.Prelude.{◌≡◌, ◌<◌, ◌≤◌, ◌+◌, ℕ, List, length, Option, Some, None, slice_get}
 use Rattle.code_core.specs.declared.instruction.Instruction.{Instruction}
 use Rattle.code_core.specs.Instruction.{a_of}
 use Rattle.lua_heap.specs.declared.world.Cell.{Cell}
 use Rattle.lua_heap.specs.declared.world.Cell.TheVariants.{Open}
+use Rattle.machine_core.specs.MachineStep.{step}
+use Rattle.machine_core.specs.Moves.{Row, ends, go}
 use Rattle.machine_core.specs.Text.{last_pending}
+use Rattle.machine_arms_tables.specs.Frame.{Moment, world_at}
 use Rattle.machine_view.specs.View.{Around}
 use Rattle.table_core.specs.declared.value.CoroId.{CoroId}
 
 pub record Running : Type 0 where
   pub around : Around
   pub string_metatable : Option ℕ
+
+-- one step of the machine leads from one moment to another, whatever the rows of the primitives are
+pub record IsStep (g : Running) (m n : Moment) : Type 0 where
+  pub is : (rows : ℕ → Row) → step rows go (world_at g.around g.string_metatable m) ≡ ends go (world_at g.around g.string_metatable n)
 
 -- no cell is open at this register of the frame that runs or above, and none of its variables there is still to be closed
 pub record ClosesNothing (g : Around) (cells : List Cell) (register : ℕ) : Type 0 where

@@ -1,11 +1,12 @@
 // The loop over the instructions of the frame that runs.
 ghost use Rattle.std.specs.Prelude.{◌≡◌, IfNone, IfSome};
 ghost use Rattle.machine_arms_tables.specs.Frame.{IsReadyAt, AreOpenAlike, RunsTo, StepsOn, code, moment};
-ghost use Rattle.machine_loop.specs.Running.{Running};
+ghost use Rattle.machine_loop.specs.Running.{IsStep, Running};
 
 use code_core::fetch;
 use lua_heap::{Cell, Strings};
 use machine_arms_tables::{Closure, run_instruction};
+use machine_ends::steps_fall;
 use object_pool::Pool;
 use table_core::{Table, Value};
 
@@ -23,6 +24,7 @@ fn step_frame(
     ghost g: { Running }
     requires { IsReadyAt g.around g.string_metatable (code closure strings.now) (moment tables.old.objects cells.old.objects registers.old pc fuel.old) }
     ensures steps { IfSome result (λ to. StepsOn g.around g.string_metatable (code closure.entry strings.now) (moment tables.old.objects cells.old.objects registers.old pc fuel.old) (moment tables.new.objects cells.new.objects registers.new to fuel.new)) }
+    ensures one { IfSome result (λ to. IsStep g (moment tables.old.objects cells.old.objects registers.old pc fuel.old) (moment tables.new.objects cells.new.objects registers.new to fuel.new)) }
     ensures tables { IfNone result (tables.new ≡ tables.old) }
     ensures cells { IfNone result (cells.new ≡ cells.old) }
     ensures registers { IfNone result (registers.new ≡ registers.old) }
@@ -33,8 +35,9 @@ fn step_frame(
     run_instruction(op, closure, strings, tables, cells, registers, i, pc, fuel)
 }
 
-/// Runs instructions of the frame on top from the place `start` on, and tells where it stops: at one that takes more than the frame. The world's frame
-/// stands there, and is ready for a step of any kind: what the loop did is some steps of the machine.
+/// Runs instructions of the frame on top from the place `start` on, and tells where it stops: at one that takes more than the frame. It does stop, since each
+/// step of the machine comes nearer to the end of the turn. The world's frame stands there, and is ready for a step of any kind: what the loop did is some
+/// steps.
 #[inline(never)]
 pub fn run_frame(
     closure: Closure,
@@ -51,12 +54,12 @@ pub fn run_frame(
     ensures opened { AreOpenAlike cells.old.objects cells.new.objects }
     ensures ready { IsReadyAt g.around g.string_metatable (code closure.entry strings.now) (moment tables.new.objects cells.new.objects registers.new result fuel.new) }
 {
+    steps_fall();
     let mut pc = start;
-    for _ in 0..u64::MAX {
+    'rounds: loop {
         let Some(next) = step_frame(closure, strings, tables, cells, registers, pc, fuel) else {
             return pc;
         };
         pc = next;
     }
-    pc
 }
