@@ -1,4 +1,5 @@
 mod Stepping
+pub mod Decoded
 pub mod Alike
 pub mod Closing
 mod Nearer

@@ -3,6 +3,7 @@ ghost use Rattle.std.specs.Prelude.{◌≡◌, IfNone, IfSome};
 ghost use Rattle.machine_arms_tables.specs.Frame.{IsReadyAt, AreOpenAlike, RunsTo, StepsOn, code, moment};
 ghost use Rattle.machine_loop.specs.Running.{IsStep, Running};
 
+use crate::decoding::opcode_in;
 use code_core::fetch;
 use lua_heap::{Cell, Strings};
 use machine_arms_tables::{Closure, run_instruction};
@@ -31,7 +32,7 @@ fn step_frame(
     ensures unpaid { IfNone result (fuel.new ≡ fuel.old) }
 {
     let i = fetch(closure.words, pc);
-    let op = i.opcode()?;
+    let op = opcode_in(i)?;
     run_instruction(op, closure, strings, tables, cells, registers, i, pc, fuel)
 }
 
