@@ -4,13 +4,15 @@ ghost use Rattle.int_core.specs.Value.{greatest_string};
 ghost use Rattle.compile_text.specs.Source.{IsRefused};
 ghost use Rattle.compile_chunk.specs.Chunk.{IsChunkOf, script_in};
 
-use crate::code::code_of;
 use crate::script::script_in;
 use chunk_format::write_chunk;
-use compile_text::TextFault;
+use compile_text::{TextFault, source_tree};
+use compiler::compile;
 use std::alloc::Global;
+use std::mem::forget;
 
-/// The chunk of the script in a file, under a source name, or without lines and names.
+/// The chunk of the script in a file, under a source name, or without lines and names. For a program that ends with it: the tree and the code are left to the
+/// system as a whole, since giving back each piece of a large script takes a sixth of the time.
 ///
 /// # Errors
 ///
@@ -25,6 +27,10 @@ pub fn chunk_of(
     ensures chunk { IfOk result (λ bytes. IsChunkOf name.now (script_in content.now) strip bytes.items) }
     ensures refused { IfErr result (λ fault. IsRefused (script_in content.now) fault) }
 {
-    let checked = code_of(alloc, name, script_in(content), !strip)?;
-    Ok(write_chunk(alloc, checked.proto(), false)?)
+    let tree = source_tree(alloc, script_in(content))?;
+    let checked = compile(alloc, &tree, name, !strip)?;
+    let bytes = write_chunk(alloc, checked.proto(), false)?;
+    forget(tree);
+    forget(checked);
+    Ok(bytes)
 }
