@@ -67,7 +67,8 @@ fn word_at(world: &World, pc: usize) -> Instruction
 }
 
 /// Whether it runs.
-fn is_running(world: &World) -> bool
+#[inline(always)]
+pub(crate) fn is_running(world: &World) -> bool
     requires { HasFrame world.now }
     ensures { RunsIf world.now result }
 {

@@ -12,7 +12,7 @@ ghost use Rattle.running_frame.specs.Returning.{AreFirst, ReadsAt};
 ghost use Rattle.running_frame.specs.Taking.{IsWaiting, Takes, TakesOnTop};
 
 use crate::calling::register_of;
-use crate::place::is_none;
+use crate::place::{is_none, is_running};
 use crate::returning::{Given, hand, taker_of};
 use lua_heap::law::checked_code_is_there;
 use lua_heap::{Codes, Coro, Func, World};
@@ -28,6 +28,11 @@ pub(crate) fn is_taken(world: &mut World) -> bool
     ensures still { result ≡ true → world.new.moving.items ≡ [] }
     ensures order { InOrder world.new }
 {
+    // Most often it runs, and then it takes nothing.
+    let runs = is_running(world);
+    if runs {
+        return is_still(world);
+    }
     match take_moving(world) {
         Some(()) => true,
         None => is_still(world),
