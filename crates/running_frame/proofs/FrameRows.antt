@@ -1,19 +1,21 @@
 -- CALL of a Lua function and returns to a Lua frame that waits for them, with the frame that runs held apart: each is steps of the machine.
-use Rattle.std.proofs.Common.{arith, ◌≡◌, ℕ, zero, suc, ◌+◌, List, [], ◌∷◌, ◌++◌, length, drop, Option, Some, None, refl, ap, sym, ◌∙◌, true}
+use Rattle.std.proofs.Common.{arith, ◌≡◌, ℕ, zero, suc, ◌+◌, List, [], ◌∷◌, ◌++◌, length, drop, Option, Some, None, refl, ap, sym, ◌∙◌, true, false}
 use Rattle.std.specs.Prelude.{◌==◌, ◌-◌, cond, filter, nat_le, nat_lt, slice_get}
-use Rattle.code_core.specs.Check.{at}
+use Rattle.std.proofs.lemmas.Bool.Decides.{nat_tests}
+use Rattle.code_core.specs.Check.{at, in_front}
+use Rattle.code_core.specs.Prototype.{Prototype}
 use Rattle.code_core.specs.Instruction.{a_of, b_of, c_of, opcode_of}
 use Rattle.code_core.specs.declared.instruction.Instruction.{Instruction}
 use Rattle.code_core.specs.declared.opcode.Opcode.{Opcode}
-use Rattle.code_core.specs.declared.opcode.Opcode.TheVariants.{Call, Return, TForCall, TailCall}
+use Rattle.code_core.specs.declared.opcode.Opcode.TheVariants.{Call, MmBin, MmBinI, MmBinK, Return, TForCall, TailCall}
 use Rattle.int_core.specs.Limits.{greatest_depth}
 use Rattle.int_core.specs.Heap.{Heap}
 use Rattle.int_core.specs.Operations.{callee, callee_of, greatest_chain}
 use Rattle.int_core.specs.Value.{Value, Shape, a_function, bind, boolean, is_known, nil, nth, object, range, write_all}
-use Rattle.machine_core.specs.World.{Function, Cell, Wait, running, for_call, for_iterator, returning, Activation, LuaFrame, Frame, lua, close_from, Place, World}
-use Rattle.machine_core.specs.Text.{Arg, arg, Own, behind, blanked, call, tail_call, close, cut_from, drop_pending, fits, is_there, last_pending, leave, own, read, read_register, read_registers, reads, results, see_pending, tells, Text, trap, value_if, write_registers, written}
+use Rattle.machine_core.specs.World.{Function, Cell, Wait, running, dropped, for_call, for_iterator, for_value, returning, Activation, LuaFrame, Frame, lua, close_from, Place, World}
+use Rattle.machine_core.specs.Text.{Arg, arg, Own, behind, blanked, call, tail_call, close, cut_from, drop_pending, fits, is_there, last_pending, leave, own, read, read_register, read_registers, reads, results, see_pending, tells, Text, trap, value_if, write_register, write_registers, written}
 use Rattle.machine_core.specs.FrameRows.{after_call, at_once, expand, expand_by}
-use Rattle.machine_core.specs.InstructionRows.{arrived, counted, is_true, next, read_values, rest, rest_at, rest_by, returned_so, returns, row_of, text_at, text_by, write_values}
+use Rattle.machine_core.specs.InstructionRows.{arrived, counted, is_true, next, read_values, rest, rest_at, rest_by, returned_so, returns, row_of, text_at, text_by, to_register, to_register_before, value_comes, write_values}
 use Rattle.machine_core.specs.MachineStep.{and_then, from_world, step, steps}
 use Rattle.machine_core.specs.Moves.{CallShape, Made, called_tail, enter_tail, enters, go, is_entered, made, new_frame, not_paid, on_own, popped, Row, ends, run}
 use Rattle.machine_focus.specs.Focus.{Context, Held, Stands, held_own, local, place, stacked, top, with_pc, world}
@@ -24,7 +26,7 @@ use Rattle.table_core.specs.declared.value.Value.{Value as Kept}
 use Rattle.lua_stack.specs.declared.frame.Wait.{Wait as KeptWait}
 use Rattle.lua_stack.specs.Frames.{wait_of}
 use Rattle.running_frame.specs.declared.returning.Taker.{Taker}
-use Rattle.running_frame.specs.Returning.{Wants, by_call, by_iterator}
+use Rattle.running_frame.specs.Returning.{Wants, by_call, by_iterator, by_operator, by_store, by_value, is_operator}
 use Rattle.running_frame.proofs.Waking.{before_it, woken_step}
 
 module _ (c : Context) (s : Stands c) (h : Held) where
@@ -137,6 +139,23 @@ module _ (c : Context) (s : Stands c) (h : Held) (w : Instruction) (at_pc : at c
 one_more : (n m : ℕ) → m ≡ n → n + 1 ≡ suc m
 one_more n m e = omega (arith, e)
 
+room_for_one : (r n : ℕ) → nat_le (r + 1) n ≡ true → nat_lt r n ≡ true
+room_for_one r n l = grind (arith, nat_tests)
+
+-- where the value of a handler goes
+
+value_to_own : (p : Prototype) (pc : ℕ) (op : Opcode) (w : Instruction) → is_operator op ≡ false → value_comes p pc op w ≡ to_register (a_of w) (read 0)
+value_to_own p pc MmBin w e = absurd (cc)
+value_to_own p pc MmBinI w e = absurd (cc)
+value_to_own p pc MmBinK w e = absurd (cc)
+value_to_own p pc _ w e = refl
+
+value_to_before : (p : Prototype) (pc : ℕ) (op : Opcode) (w : Instruction) → is_operator op ≡ true → value_comes p pc op w ≡ to_register_before p pc
+value_to_before p pc MmBin w e = refl
+value_to_before p pc MmBinI w e = refl
+value_to_before p pc MmBinK w e = refl
+value_to_before p pc _ w e = absurd (cc)
+
 module _ (d : Context) (t : Taker) (H : Held) where
   abbrev pub handed : List Value → Held
   handed vs = record H { own = record H.own { registers = write_all t.register (range 0 t.count vs) H.own.registers; pc = H.own.pc + 1 } }
@@ -148,35 +167,70 @@ module _ (d : Context) (t : Taker) (H : Held) where
       ap (λ b. cond b (local d next (vs ++ []) (held_own d (write_registers t.register t.count 0) vs H)) None) there
       ∙ ap (λ (o : Option Instruction). elim o as (λ _. Option Held) [ None ↦ None | Some _ ↦ Some (with_pc written (H.own.pc + 1)) ]) behind_is
 
-  module _ (v : Instruction) (at_pc : at d.closure.code H.own.pc ≡ Some v) where
+  -- the values from a register on, and the frame behind its instruction
+  abbrev put_at : (register count : ℕ) → List Value → Option Held
+  put_at register count vs = Some (record H { own = record H.own { registers = write_all register (range 0 count vs) H.own.registers; pc = H.own.pc + 1 } })
+
+  writes_one : t.count ≡ 1 → (vs : List Value) (u : Instruction) → nat_le (behind t.register t.count) (length H.own.registers) ≡ true → at d.closure.code (H.own.pc + 1) ≡ Some u
+      → local d (to_register t.register (read 0)) vs H ≡ Some (handed vs)
+  writes_one one vs u there behind_is =
+      let written = record H { own = record H.own { registers = write_all t.register (range 0 1 vs) H.own.registers } } in
+      let room : nat_lt t.register (length H.own.registers) ≡ true = room_for_one t.register (length H.own.registers) (ap (λ n. nat_le (behind t.register n) (length H.own.registers)) (sym one) ∙ there) in
+      ap (λ b. cond b (local d next (vs ++ []) (held_own d (write_register t.register (read 0)) vs H)) None) room
+      ∙ ap (λ (o : Option Instruction). elim o as (λ _. Option Held) [ None ↦ None | Some _ ↦ Some (with_pc written (H.own.pc + 1)) ]) behind_is
+      ∙ ap (λ n. put_at t.register n vs) (sym one)
+
+  module _ (words : List Instruction) (words_are : (n : ℕ) (i : Instruction) → slice_get words n ≡ Some i → at d.closure.code n ≡ Some i) (v : Instruction) (at_pc : at d.closure.code H.own.pc ≡ Some v) where
     rest_there : (op : Opcode) (wait : Wait Value) → opcode_of v ≡ Some op → (vs : List Value) → local d (rest_at {V = Value} wait d.closure.code H.own.pc) vs H ≡ local d (rest {V = Value} wait d.closure.code H.own.pc op v) vs H
     rest_there op wait is vs =
         let p = d.closure.code in
         ap (λ (o : Option Instruction). local d (elim o [ None ↦ trap | Some w ↦ rest_by {V = Value} wait p H.own.pc w (opcode_of w) ]) vs H) at_pc
         ∙ ap (λ o. local d (rest_by {V = Value} wait p H.own.pc v o) vs H) is
 
-    pub takes : {w : KeptWait} (f : Kept → Value) → Wants v t w → (vs : List Value) (u : Instruction) → nat_le (behind t.register t.count) (length H.own.registers) ≡ true → at d.closure.code (H.own.pc + 1) ≡ Some u
+    pub takes : {w : KeptWait} (pc : ℕ) (f : Kept → Value) → H.own.pc ≡ pc → Wants words pc v t w → (vs : List Value) (u : Instruction) → nat_le (behind t.register t.count) (length H.own.registers) ≡ true → at d.closure.code (H.own.pc + 1) ≡ Some u
         → local d (rest_at {V = Value} (wait_of f w) d.closure.code H.own.pc) vs H ≡ Some (handed vs)
-    takes f (by_call o r n) vs u there behind_is =
+    takes pc f here (by_call o r n) vs u there behind_is =
         rest_there Call for_call o vs
         ∙ ap (λ n. local d (write_values (a_of v) n 0) vs H) n
         ∙ ap (λ a. local d (write_values a (suc t.count) 0) vs H) (sym r)
         ∙ writes vs u there behind_is
-    takes f (by_iterator o r n) vs u there behind_is =
+    takes pc f here (by_iterator o r n) vs u there behind_is =
         rest_there TForCall for_iterator o vs
         ∙ ap (λ n. local d (write_values (a_of v + 4) n 0) vs H) (one_more (c_of v) t.count n)
         ∙ ap (λ a. local d (write_values a (suc t.count) 0) vs H) (sym r)
         ∙ writes vs u there behind_is
+    takes pc f here (by_value op o plain r one) vs u there behind_is =
+        rest_there op for_value o vs
+        ∙ ap (λ (text : Text). local d text vs H) (value_to_own d.closure.code H.own.pc op v plain)
+        ∙ ap (λ a. local d (to_register a (read 0)) vs H) (sym r)
+        ∙ writes_one one vs u there behind_is
+    takes pc f here (by_operator op o operator before front r one) vs u there behind_is =
+        let before_is : in_front d.closure.code H.own.pc ≡ Some before = ap (in_front d.closure.code) (here ∙ front.next) ∙ words_are front.front before front.there in
+        rest_there op for_value o vs
+        ∙ ap (λ (text : Text). local d text vs H) (value_to_before d.closure.code H.own.pc op v operator)
+        ∙ ap (λ (o : Option Instruction). local d (elim o as (λ _. Text) [ None ↦ trap | Some w ↦ to_register (a_of w) (read 0) ]) vs H) before_is
+        ∙ ap (λ a. local d (to_register a (read 0)) vs H) (sym r)
+        ∙ writes_one one vs u there behind_is
+    takes pc f here (by_store op o nothing) vs u there behind_is =
+        rest_there op dropped o vs
+        ∙ ap (λ (o : Option Instruction). elim o as (λ _. Option Held) [ None ↦ None | Some _ ↦ Some (with_pc H (H.own.pc + 1)) ]) behind_is
+        ∙ ap (λ n. put_at t.register n vs) (sym nothing)
 
 -- it waits, and takes all that came
 
-pub still_waits : {v : Instruction} {t : Taker} {w : KeptWait} (f : Kept → Value) → Wants v t w → wait_of f w ≡ running → ⊥
+pub still_waits : {words : List Instruction} {pc : ℕ} {v : Instruction} {t : Taker} {w : KeptWait} (f : Kept → Value) → Wants words pc v t w → wait_of f w ≡ running → ⊥
 still_waits f (by_call o r n) e = absurd (cc)
 still_waits f (by_iterator o r n) e = absurd (cc)
+still_waits f (by_value op o plain r one) e = absurd (cc)
+still_waits f (by_operator op o operator before front r one) e = absurd (cc)
+still_waits f (by_store op o nothing) e = absurd (cc)
 
-pub takes_all : {v : Instruction} {t : Taker} {w : KeptWait} (f : Kept → Value) (vs : List Value) → Wants v t w → arrived (wait_of f w) vs ≡ vs
+pub takes_all : {words : List Instruction} {pc : ℕ} {v : Instruction} {t : Taker} {w : KeptWait} (f : Kept → Value) (vs : List Value) → Wants words pc v t w → arrived (wait_of f w) vs ≡ vs
 takes_all f vs (by_call o r n) = refl
 takes_all f vs (by_iterator o r n) = refl
+takes_all f vs (by_value op o plain r one) = refl
+takes_all f vs (by_operator op o operator before front r one) = refl
+takes_all f vs (by_store op o nothing) = refl
 
 -- the context in the frame below
 abbrev pub outer : Context → List Frame → ℕ → Function → Context

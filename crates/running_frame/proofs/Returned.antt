@@ -140,6 +140,9 @@ module _ (g : Running) (k : Code) (s : KeptStack) (ts : List Contents) (cs : Lis
   abbrev call_word : Instruction
   call_word = x.takes.takes.word
 
+  words_are : (n : ℕ) (i : Instruction) → slice_get x.takes.code.words.items n ≡ Some i → at known_function.function.code n ≡ Some i
+  words_are n i e = ap (λ ws. slice_get ws n) (sym known_function.words) ∙ e
+
   at_call : at known_function.function.code waiting.own.pc ≡ Some call_word
   at_call = ap (λ ws. slice_get ws waiting.own.pc) (sym known_function.words) ∙ ap (slice_get x.takes.code.words.items) x.calls.knows.pc ∙ x.takes.takes.at_pc
 
@@ -214,7 +217,7 @@ module _ (g : Running) (k : Code) (s : KeptStack) (ts : List Contents) (cs : Lis
             ∙ return_steps ctx stands h w o.op (word_is g k s ts cs fuel pc r w word) o.is (a_of w) x.count o.env o.row
             none_pending there none_closed lower number known_function.function waiting.own wait_is (still_waits read x.takes.takes.wants) below_is known_function.is
             (handed d x.taker held given_values) (takes_all read given_values x.takes.takes.wants)
-            (takes d x.taker held call_word at_call read x.takes.takes.wants given_values behind_call.0 room at_next) g.around.rows
+            (takes d x.taker held x.takes.code.words.items words_are call_word at_call x.caller.pc read x.calls.knows.pc x.takes.takes.wants given_values behind_call.0 room at_next) g.around.rows
             ∙ ap (ends go) (sym standing_after),
       )
 

@@ -177,7 +177,7 @@ module _ (n : ℕ) (W : Memory) (ready : IsReady n go W) (law : CheckedCodeIsThe
     steps_on rows =
         let wants = x.takes.takes.takes.wants in
         woken_step ctx stands spot.top.own (plain W 0).heap (plain W 0).cells fuel vs wait_is (still_waits read wants) (takes_all read vs wants) (handed ctx x.takes.taker held vs) rows
-        (takes ctx x.takes.taker held call_word at_call read wants vs behind_call.0 room at_next)
+        (takes ctx x.takes.taker held words word_there call_word at_call x.takes.caller.pc read pc_is wants vs behind_call.0 room at_next)
 
     abbrev after_by : (register : ℕ) → List Value → (to : ℕ) → World
     after_by register given to =

@@ -1,8 +1,8 @@
 -- Returns to a Lua frame that waits for a call and takes at most two values, as changes of a stack.
-use Rattle.std.specs.Prelude.{◌≡◌, ◌⊎◌, ◌+◌, ◌<◌, ◌≤◌, ℕ, suc, [], ◌∷◌, ◌++◌, List, Option, Some, None, length, map, slice_get}
+use Rattle.std.specs.Prelude.{◌≡◌, ◌⊎◌, ◌+◌, ◌<◌, ◌≤◌, ℕ, suc, Bool, true, false, [], ◌∷◌, ◌++◌, List, Option, Some, None, length, map, slice_get}
 use Rattle.code_core.specs.declared.instruction.Instruction.{Instruction}
 use Rattle.code_core.specs.declared.opcode.Opcode.{Opcode}
-use Rattle.code_core.specs.declared.opcode.Opcode.TheVariants.{Call, Return, Return0, Return1, TForCall}
+use Rattle.code_core.specs.declared.opcode.Opcode.TheVariants.{Call, MmBin, MmBinI, MmBinK, Return, Return0, Return1, TForCall}
 use Rattle.code_core.specs.Instruction.{a_of, b_of, c_of, opcode_of}
 use Rattle.int_core.specs.Value.{Value, known, last, nil, nth, range, without_last, write_all}
 use Rattle.machine_core.specs.World.{running, LuaFrame}
@@ -11,7 +11,7 @@ use Rattle.table_core.specs.declared.value.Value.{Value as Kept}
 use Rattle.table_core.specs.declared.value.Value.TheVariants.{Nil}
 use Rattle.lua_stack.specs.declared.frame.LuaState.{LuaState}
 use Rattle.lua_stack.specs.declared.frame.Wait.{Wait as KeptWait}
-use Rattle.lua_stack.specs.declared.frame.Wait.TheVariants.{ForCall, ForIterator}
+use Rattle.lua_stack.specs.declared.frame.Wait.TheVariants.{Dropped, ForCall, ForIterator, ForValue}
 use Rattle.lua_stack.specs.Frames.{KeptFrame, KeptLua, KeptStack, OnTop, TopBecomes, kept_lua, with_pc, with_registers, with_wait}
 use Rattle.lua_heap.specs.declared.codes.Code.{Code}
 use Rattle.lua_heap.specs.declared.codes.Codes.{Codes}
@@ -55,16 +55,38 @@ pub record IsCaller (s : KeptStack) (c : LuaState) : Type 0 where
   pub at : last (without_last s.frames) ≡ Some (kept_lua frame)
   pub knows : IsCallerIn frame c
 
--- what an instruction wants for which a frame waits: a CALL one value fewer than it says, a TFORCALL as many, in the registers behind its own four
-pub data Wants (w : Instruction) (t : Taker) : KeptWait → Type 0 where
-  by_call : opcode_of w ≡ Some Call → t.register ≡ a_of w → c_of w ≡ suc t.count → Wants w t ForCall
-  by_iterator : opcode_of w ≡ Some TForCall → t.register ≡ a_of w + 4 → t.count ≡ c_of w → Wants w t ForIterator
+-- an operator whose operands are no integers: it stands behind the instruction for which it works
+abbrev pub is_operator : Opcode → Bool
+is_operator MmBin = true
+is_operator MmBinI = true
+is_operator MmBinK = true
+is_operator _ = false
+
+-- the instruction in front of a place
+pub record IsInFront (words : List Instruction) (pc : ℕ) (before : Instruction) : Type 0 where
+  pub front : ℕ
+  pub next : pc ≡ suc front
+  pub there : slice_get words front ≡ Some before
+
+-- what the instruction at a place wants for which a frame waits: a CALL one value fewer than it says, a TFORCALL as many, in the registers behind its own four, an
+-- instruction that a handler gives its value that one in its register, or an operator in that of the instruction in front, and a store nothing
+pub data Wants (words : List Instruction) (pc : ℕ) (w : Instruction) (t : Taker) : KeptWait → Type 0 where
+  by_call : opcode_of w ≡ Some Call → t.register ≡ a_of w → c_of w ≡ suc t.count → Wants words pc w t ForCall
+  by_iterator : opcode_of w ≡ Some TForCall → t.register ≡ a_of w + 4 → t.count ≡ c_of w → Wants words pc w t ForIterator
+  by_value : (op : Opcode) → opcode_of w ≡ Some op → is_operator op ≡ false → t.register ≡ a_of w → t.count ≡ 1 → Wants words pc w t ForValue
+  by_operator : (op : Opcode) → opcode_of w ≡ Some op → is_operator op ≡ true → (before : Instruction) → IsInFront words pc before → t.register ≡ a_of before → t.count ≡ 1
+      → Wants words pc w t ForValue
+  by_store : (op : Opcode) → opcode_of w ≡ Some op → t.count ≡ 0 → Wants words pc w t Dropped
+
+-- what it wants wherever it stands
+abbrev pub WantsAnywhere : Instruction → Taker → KeptWait → Type 0
+WantsAnywhere w t wait = (words : List Instruction) (pc : ℕ) → Wants words pc w t wait
 
 -- the one at its place wants at most two values, in registers of the frame
 pub record IsTaker (words : List Instruction) (c : LuaState) (t : Taker) : Type 0 where
   pub word : Instruction
   pub at_pc : slice_get words c.pc ≡ Some word
-  pub wants : Wants word t c.wait
+  pub wants : Wants words c.pc word t c.wait
   pub few : t.count ≤ 2
   pub room : t.register + t.count ≤ c.size
   pub next : t.to ≡ c.pc + 1

@@ -1,11 +1,12 @@
-// Returns to a Lua frame below that waits for a call and takes at most two values, which change nothing but the stack (luaD_poscall of ldo.c).
-ghost use Rattle.std.specs.Prelude.{◌≡◌, ◌+◌, ◌≤◌, [], ◌∷◌, IfNone, IfSome, Some, slice_get, true};
+// Returns to a Lua frame below that waits for a call or a handler and takes at most two values, which change nothing but the stack (luaD_poscall of ldo.c,
+// luaV_finishOp of lvm.c).
+ghost use Rattle.std.specs.Prelude.{◌≡◌, ◌+◌, ◌<◌, ◌≤◌, length, [], ◌∷◌, IfNone, IfSome, Some, slice_get, true};
 ghost use Rattle.code_core.specs.Instruction.{b_of, opcode_of};
 ghost use Rattle.int_core.specs.Value.{range, write_all};
 ghost use Rattle.lua_stack.specs.Frames.{HasLuaTop, HasRegisters, TopBecomes, with_registers};
-ghost use Rattle.lua_stack.specs.declared.frame.Wait.TheVariants.{ForCall, ForIterator};
+ghost use Rattle.lua_stack.specs.declared.frame.Wait.TheVariants.{Dropped, ForCall, ForIterator, ForValue};
 ghost use Rattle.running_frame.specs.Calling.{HaveCode};
-ghost use Rattle.running_frame.specs.Returning.{HasKept, IsCaller, IsGiven, IsTaker, ReturnsIn, TakesIn, Wants, count_of, taken};
+ghost use Rattle.running_frame.specs.Returning.{HasKept, IsCaller, IsGiven, IsInFront, IsTaker, ReturnsIn, TakesIn, Wants, WantsAnywhere, count_of, is_operator, taken};
 ghost use Rattle.running_frame.specs.Standing.{IsClosedFrom};
 
 use crate::calling::{is_call, one_less, register_of};
@@ -30,8 +31,9 @@ pub(crate) struct Given {
     pub(crate) second: Value,
 }
 
-/// A return to a Lua frame whose CALL or TFORCALL wants at most two values: that frame runs again, behind it. `None`, with all as before, at any other instruction,
-/// where more are wanted, and where the return takes more than the stack. From the register `closed` on nothing of the frame on top is open or to be closed.
+/// A return to a Lua frame whose CALL or TFORCALL wants at most two values, or that waits for a handler of a value, an operator or a store: that frame runs again,
+/// behind its instruction. `None`, with all as before, at any other instruction, where more are wanted, and where the return takes more than the stack. From the
+/// register `closed` on nothing of the frame on top is open or to be closed.
 pub(crate) fn return_values(
     stack: &mut Stack,
     funcs: &Pool<Func>,
@@ -121,6 +123,7 @@ fn caller_of(stack: &Stack) -> Option<LuaState>
 }
 
 /// What a frame that waits wants.
+#[inline(always)]
 pub(crate) fn taker_of(funcs: &Pool<Func>, codes: &Codes, caller: LuaState) -> Option<Taker>
     requires { HaveCode funcs.now.objects codes.now }
     ensures { IfSome result (λ t. TakesIn funcs.now.objects codes.now caller t) }
@@ -133,6 +136,7 @@ pub(crate) fn taker_of(funcs: &Pool<Func>, codes: &Codes, caller: LuaState) -> O
 }
 
 /// What the instruction at its place in these words wants.
+#[inline(always)]
 fn taker_in(words: &[Instruction], caller: LuaState) -> Option<Taker>
     ensures { IfSome result (λ t. IsTaker words.now caller t) }
 {
@@ -140,7 +144,7 @@ fn taker_in(words: &[Instruction], caller: LuaState) -> Option<Taker>
     if to >= words.len() {
         return None;
     }
-    let taker = wanted(fetch(words, caller.pc), caller.wait, to)?;
+    let taker = wanted(words, caller.pc, fetch(words, caller.pc), caller.wait, to)?;
     if taker.count > 2 {
         return None;
     }
@@ -151,20 +155,25 @@ fn taker_in(words: &[Instruction], caller: LuaState) -> Option<Taker>
     Some(taker)
 }
 
-/// What an instruction wants at which a frame waits so.
-fn wanted(i: Instruction, wait: Wait, to: usize) -> Option<Taker>
-    ensures { IfSome result (λ t. Wants i t wait × (t.to ≡ to)) }
+/// What the instruction at a place wants at which a frame waits so.
+#[inline(always)]
+fn wanted(words: &[Instruction], pc: usize, i: Instruction, wait: Wait, to: usize) -> Option<Taker>
+    requires { pc < length words.now }
+    ensures { IfSome result (λ t. Wants words.now pc i t wait × (t.to ≡ to)) }
 {
     match wait {
         Wait::ForCall => wanted_by_call(i, to),
         Wait::ForIterator => wanted_by_iterator(i, to),
+        Wait::ForValue => wanted_by_handler(words, pc, i, to),
+        Wait::Dropped => wanted_by_store(i, to),
         _ => None,
     }
 }
 
 /// What a CALL wants.
+#[inline(always)]
 fn wanted_by_call(i: Instruction, to: usize) -> Option<Taker>
-    ensures { IfSome result (λ t. Wants i t ForCall × (t.to ≡ to)) }
+    ensures { IfSome result (λ t. WantsAnywhere i t ForCall × (t.to ≡ to)) }
 {
     if !is_call(i) {
         return None;
@@ -179,7 +188,7 @@ fn wanted_by_call(i: Instruction, to: usize) -> Option<Taker>
 
 /// What a TFORCALL wants.
 fn wanted_by_iterator(i: Instruction, to: usize) -> Option<Taker>
-    ensures { IfSome result (λ t. Wants i t ForIterator × (t.to ≡ to)) }
+    ensures { IfSome result (λ t. WantsAnywhere i t ForIterator × (t.to ≡ to)) }
 {
     match i.opcode() {
         Some(Opcode::TForCall) => Some(Taker {
@@ -189,6 +198,88 @@ fn wanted_by_iterator(i: Instruction, to: usize) -> Option<Taker>
         }),
         _ => None,
     }
+}
+
+/// What an instruction wants to which a handler gives its value.
+#[inline(never)]
+fn wanted_by_handler(words: &[Instruction], pc: usize, i: Instruction, to: usize) -> Option<Taker>
+    requires { pc < length words.now }
+    ensures { IfSome result (λ t. Wants words.now pc i t ForValue × (t.to ≡ to)) }
+{
+    let opcode = i.opcode()?;
+    if is_operator(opcode) {
+        return wanted_by_operator(words, pc, i, opcode, to);
+    }
+    Some(Taker {
+        register: i.a() as usize,
+        count: 1,
+        to,
+    })
+}
+
+/// What an operator wants.
+fn wanted_by_operator(
+    words: &[Instruction],
+    pc: usize,
+    i: Instruction,
+    opcode: Opcode,
+    to: usize,
+) -> Option<Taker>
+    requires near { pc < length words.now }
+    requires opcode { opcode_of i ≡ Some opcode }
+    requires operator { is_operator opcode ≡ true }
+    ensures { IfSome result (λ t. Wants words.now pc i t ForValue × (t.to ≡ to)) }
+{
+    let before = in_front(words, pc)?;
+    Some(Taker {
+        register: before.a() as usize,
+        count: 1,
+        to,
+    })
+}
+
+/// What a store wants whose handler was called.
+fn wanted_by_store(i: Instruction, to: usize) -> Option<Taker>
+    ensures { IfSome result (λ t. WantsAnywhere i t Dropped × (t.to ≡ to)) }
+{
+    let opcode = i.opcode()?;
+    if !is_store(opcode) {
+        return None;
+    }
+    Some(Taker {
+        register: 0,
+        count: 0,
+        to,
+    })
+}
+
+/// Whether it writes a field.
+fn is_store(opcode: Opcode) -> bool {
+    match opcode {
+        Opcode::SetTabUp | Opcode::SetTable | Opcode::SetI | Opcode::SetField => true,
+        _ => false,
+    }
+}
+
+/// Whether it is an operator whose operands are no integers.
+fn is_operator(opcode: Opcode) -> bool
+    ensures { result ≡ is_operator opcode }
+{
+    match opcode {
+        Opcode::MmBin | Opcode::MmBinI | Opcode::MmBinK => true,
+        _ => false,
+    }
+}
+
+/// The instruction in front of a place.
+fn in_front(words: &[Instruction], pc: usize) -> Option<Instruction>
+    requires { pc < length words.now }
+    ensures { IfSome result (λ before. IsInFront words.now pc before) }
+{
+    if pc == 0 {
+        return None;
+    }
+    Some(fetch(words, pc - 1))
 }
 
 /// The Lua frame on top gets what it wants, and runs on.

@@ -9,4 +9,4 @@ pub returns : goal.returns
 returns c =
     let yes : c.is_call.result ≡ true = search rules in
     let count : one_less (c_of c.args.i) ≡ Some c.in_ok-count.count = search rules in
-    (by_call (call_is (opcode_of c.args.i) (sym c.is_call.ensures ∙ yes)) c.a.ensures (less_is (c_of c.args.i) c.in_ok-count.count count), refl)
+    ((λ words pc. by_call (call_is (opcode_of c.args.i) (sym c.is_call.ensures ∙ yes)) c.a.ensures (less_is (c_of c.args.i) c.in_ok-count.count count)), refl)
