@@ -3,18 +3,21 @@
 
     bench/compiling.py [--runs N] [--keep FOLDER] [--luac LUAC] [PROGRAM]
 
-Each source is compiled to a file by `PROGRAM compile FILE OUT` and by `luac5.4 -o OUT FILE`.
-Told are the least times of several runs on the processor, the time for each byte, and how many times as long the program
-takes as luac: of whole Lua in 64 KiB, 256 KiB and 1 MiB, of functions with many different constants, of blocks with many
-labels, and of `if` with many `elseif`. Where the time grows with the source, that for each byte stays the same.
+Each source is compiled to a file by `PROGRAM compile FILE OUT`, as it is and in large pages as `./luaris compile` starts
+it, and by `luac5.4 -p FILE`, which writes nothing, and `luac5.4 -o OUT FILE`. Told are the least times of several runs on
+the processor, the time for each byte, and how many times as long the program takes as `luac5.4 -p`: of whole Lua in
+64 KiB, 256 KiB and 1 MiB, of functions with many different constants, of blocks with many labels, and of `if` with many
+`elseif`. Where the time grows with the source, that for each byte stays the same.
 
 PROGRAM is crates/luaris/out/luaris beside this folder if none is given; ./luaris builds it. luac5.4 is that of Debian's
 package lua5.4; `rt ci` runs nothing of this.
 """
 import argparse
+import os
 import pathlib
 import random
 import resource
+import runpy
 import subprocess
 import sys
 import tempfile
@@ -167,16 +170,36 @@ def processor_time():
     return used.ru_utime + used.ru_stime
 
 
-def timed(words, runs):
-    """The least time of so many runs on the processor, in seconds, and what the command tells where it refuses the source."""
-    times = []
+def time_once(words, environment):
+    """The time of one run on the processor, in seconds, and what the command tells where it refuses the source."""
+    used = processor_time()
+    done = subprocess.run(words, stdin=subprocess.DEVNULL, capture_output=True, check=False, env=environment)
+    if done.returncode != 0:
+        return None, done.stderr.decode(errors="replace").strip()
+    return processor_time() - used, ""
+
+
+def timed(commands, runs):
+    """Of each command the least time of so many runs, one command after the other in each round, or None and what it tells."""
+    least = [None] * len(commands)
     for _ in range(runs):
-        used = processor_time()
-        done = subprocess.run(words, stdin=subprocess.DEVNULL, capture_output=True, check=False)
-        if done.returncode != 0:
-            return None, done.stderr.decode(errors="replace").strip()
-        times.append(processor_time() - used)
-    return min(times), ""
+        for number, (words, environment) in enumerate(commands):
+            time, told = time_once(words, environment)
+            if time is None:
+                least[number] = told
+            elif least[number] is None or time < least[number]:
+                least[number] = time
+    return least
+
+
+def row_of(kind, size, plain, paged, parsed, written):
+    """A line of the table: what the program takes, also in large pages, and what luac does, or why it refuses the source."""
+    if isinstance(plain, str):
+        sys.exit(f"{kind}: {plain}")
+    if isinstance(parsed, str):
+        return f"{kind:<22} {size:>9} {plain * 1e3:>9.1f} {'':>6} {paged * 1e3:>14.1f} {'':>6} {paged * 1e9 / size:>10.1f} {parsed}"
+    beside = f"{plain * 1e3:>9.1f} {plain / parsed:>6.2f} {paged * 1e3:>14.1f} {paged / parsed:>6.2f} {paged * 1e9 / size:>10.1f}"
+    return f"{kind:<22} {size:>9} {beside} {parsed * 1e3:>9.1f} {written * 1e3:>9.1f}"
 
 
 def main():
@@ -190,17 +213,23 @@ def main():
     with tempfile.TemporaryDirectory() as folder:
         folder = given.keep or pathlib.Path(folder)
         folder.mkdir(parents=True, exist_ok=True)
-        print(f"{'source':<22} {'bytes':>9} {'ms':>9} {'ns a byte':>10} {'luac ms':>9} {'times':>6}")
+        own, bare = str(folder / "own"), {name: value for name, value in os.environ.items() if name != "GLIBC_TUNABLES"}
+        large = runpy.run_path(str(top / "luaris"))["environment"](["compile"])
+        print(f"{'source':<22} {'bytes':>9} {'ms':>9} {'times':>6} {'in large pages':>14} {'times':>6} {'ns a byte':>10} {'luac -p':>9} {'luac -o':>9}")
         for number, (kind, make, count) in enumerate(KINDS):
             file = folder / f"source_{number}.lua"
             file.write_text(make(count))
-            size = file.stat().st_size
-            own, told = timed([given.program, "compile", str(file), str(folder / "own")], given.runs)
-            if own is None:
-                sys.exit(f"{kind}: {told}")
-            other, told = timed([given.luac, "-o", str(folder / "other"), str(file)], given.runs)
-            beside = f"{told}" if other is None else f"{other * 1e3:>9.1f} {own / other:>6.1f}"
-            print(f"{kind:<22} {size:>9} {own * 1e3:>9.1f} {own * 1e9 / size:>10.1f} {beside}", flush=True)
+            compile_it = [given.program, "compile", str(file), own]
+            plain, paged, parsed, written = timed(
+                [
+                    (compile_it, bare),
+                    (compile_it, large),
+                    ([given.luac, "-p", str(file)], bare),
+                    ([given.luac, "-o", str(folder / "other"), str(file)], bare),
+                ],
+                given.runs,
+            )
+            print(row_of(kind, file.stat().st_size, plain, paged, parsed, written), flush=True)
 
 
 if __name__ == "__main__":
