@@ -296,7 +296,7 @@ static FUNCTIONS: [Case; 6] = [
 ];
 
 /// Tables and metatables.
-static TABLES: [Case; 8] = [
+static TABLES: [Case; 11] = [
     Case {
         options: "",
         script: "local t={1,2,nil,4} print(#t,next({}))",
@@ -319,6 +319,30 @@ static TABLES: [Case; 8] = [
         input: "",
         status: 0,
         out: "2\ty!\t42\nreturn\n",
+        err: "",
+    },
+    Case {
+        options: "",
+        script: "local A={f=1} A.__index=A local B=setmetatable({g=2},A) B.__index=B local o=setmetatable({},B) print(o.f,o.g,o.h,o['f'],rawget(o,'f')) o.f=3 print(o.f,A.f) function A:m(n) return self.f+n end print(o:m(4))",
+        input: "",
+        status: 0,
+        out: "1\t2\tnil\t1\tnil\n3\t1\n7\nreturn\n",
+        err: "",
+    },
+    Case {
+        options: "",
+        script: "local log={} local o=setmetatable({},{__index=function(t,k) return end,__newindex=function(t,k,v) log[#log+1]=k..v return 1,2 end}) print(o.a,o[1]) o.b=2 o[3]=4 print(table.concat(log,',')) local s=0 local p=setmetatable({},{__index=function(_,k) return k*k end}) for i=1,5 do s=s+p[i] end print(s)",
+        input: "",
+        status: 0,
+        out: "nil\tnil\nb2,34\n55\nreturn\n",
+        err: "",
+    },
+    Case {
+        options: "",
+        script: "local P=setmetatable({},{__index=function(_,k) error(\"no \"..k,0) end}) print(pcall(function() return P.x end)) local co=coroutine.wrap(function(t) return t.k+1 end) local Q=setmetatable({},{__index=function(_,k) return coroutine.yield(k) end}) print(co(Q)) print(co(41)) local n=setmetatable({},{__unm=function() return 7 end,__add=function(a,b) return \"sum\",2 end}) print(-n,n+1,1+n)",
+        input: "",
+        status: 0,
+        out: "false\tno x\nk\n42\n7\tsum\tsum\nreturn\n",
         err: "",
     },
     Case {
