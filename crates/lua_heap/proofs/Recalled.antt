@@ -14,6 +14,10 @@ among text [] i e = absurd (cc)
 among text (t ∷ texts) zero e = let h = (bytes_eq-Decides text t).1 (cc) in ap (λ b. b || list_any (bytes_eq text) texts) h
 among text (t ∷ texts) (suc i) e = or_so (bytes_eq text t) (among text texts i e)
 
+-- what stands at a place is among the texts
+pub found_so : (text : List ℕ) (texts : List (List ℕ)) (i : ℕ) → slice_get texts i ≡ Some text → true ≡ list_any (bytes_eq text) texts
+found_so text texts i e = sym (among text texts i e)
+
 -- what is there is not added
 pub there_already : (text : List ℕ) (texts : List (List ℕ)) (i : ℕ) → slice_get texts i ≡ Some text → texts ≡ interned texts text
 there_already text texts i e = sym (ap (λ b. if b then texts else texts ++ text ∷ []) (among text texts i e))

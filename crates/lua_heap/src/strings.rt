@@ -15,7 +15,7 @@ use table_core::StrId;
 pub struct Strings {
     contents: IndexSet<Vec<u8>>,
     /// Where strings were found last, by a number of their bytes. What stands there is compared before it is believed.
-    recent: [usize; 256],
+    recent: [usize; 320],
 }
 
 impl Model for Strings {
@@ -36,7 +36,7 @@ impl Strings {
     {
         Strings {
             contents: IndexSet::new(alloc),
-            recent: [0; 256],
+            recent: [0; 320],
         }
     }
 
@@ -58,7 +58,21 @@ impl Strings {
     }
 
     /// The string with these bytes, where there is one.
+    #[inline(always)]
     pub fn find(&self, bytes: &[u8]) -> Option<StrId>
+        ensures found { IfSome result (λ id. slice_get self.now id.0 ≡ Some bytes.now) }
+        ensures there { is_some result ≡ list_any (bytes_eq bytes.now) self.now }
+    {
+        let number = number_of(bytes);
+        if let Some(id) = self.recalled(number, bytes) {
+            return Some(id);
+        }
+        self.hashed(bytes)
+    }
+
+    /// The string with these bytes, where there is one, found by its hash.
+    #[inline(never)]
+    fn hashed(&self, bytes: &[u8]) -> Option<StrId>
         ensures found { IfSome result (λ id. slice_get self.now id.0 ≡ Some bytes.now) }
         ensures there { is_some result ≡ list_any (bytes_eq bytes.now) self.now }
     {
@@ -82,8 +96,9 @@ impl Strings {
     }
 
     /// The string with these bytes, where it was found last of those with this number.
+    #[inline(always)]
     fn recalled(&self, number: usize, bytes: &[u8]) -> Option<StrId>
-        requires { number < 256 }
+        requires { number < 320 }
         ensures { IfSome result (λ id. slice_get self.now id.0 ≡ Some bytes.now) }
     {
         let id = StrId(self.recent[number]);
@@ -98,7 +113,7 @@ impl Strings {
 
     /// Notes where a string with this number stands.
     fn remember(&mut self, number: usize, id: StrId)
-        requires { number < 256 }
+        requires { number < 320 }
         ensures { self.new ≡ self.old }
     {
         self.recent[number] = id.0;
@@ -111,7 +126,7 @@ impl Strings {
         ensures added { OnOk result (self.new ≡ interned self.old bytes.now) }
         ensures err { OnErr result (self.new ≡ self.old) }
     {
-        if let Some(id) = self.find(bytes) {
+        if let Some(id) = self.hashed(bytes) {
             return Ok(id);
         }
         self.add(bytes)
@@ -149,20 +164,36 @@ fn same(a: &[u8], b: &[u8]) -> bool
     a == b
 }
 
-/// A number below 256 that tells most short texts apart, by their length and two of their bytes.
+/// A number below 320 that tells most short texts apart, by their length and two of their bytes. The last 64 are those of texts that begin as the names of
+/// handlers do, so that these are found however many other strings come and go: no two names of handlers have one number.
+#[inline(always)]
 fn number_of(bytes: &[u8]) -> usize
-    ensures { result < 256 }
+    ensures { result < 320 }
 {
-    let first = usize::from(byte_at(bytes, 0));
+    if is_handler(bytes) {
+        return 256 + mixed(bytes, 2) % 64;
+    }
+    mixed(bytes, 0) % 256
+}
+
+/// Whether a text begins as the names of handlers do (Lua 5.4 manual, 2.4).
+#[inline(always)]
+fn is_handler(bytes: &[u8]) -> bool {
+    byte_at(bytes, 0) == b'_' && byte_at(bytes, 1) == b'_'
+}
+
+/// A number of a text's length, its last byte and another one.
+#[inline(always)]
+fn mixed(bytes: &[u8], at: usize) -> usize {
+    let one = usize::from(byte_at(bytes, at));
     let last = usize::from(byte_at(bytes, bytes.len().saturating_sub(1)));
-    let mixed = first
-        .wrapping_mul(37)
-        .wrapping_add(last.wrapping_mul(5))
-        .wrapping_add(bytes.len().wrapping_mul(11));
-    mixed % 256
+    one.wrapping_mul(23)
+        .wrapping_add(last.wrapping_mul(2))
+        .wrapping_add(bytes.len().wrapping_mul(11))
 }
 
 /// The byte of a place, or 0 where there is none.
+#[inline(always)]
 fn byte_at(bytes: &[u8], at: usize) -> u8 {
     match bytes.get(at) {
         Some(byte) => *byte,
