@@ -1,4 +1,5 @@
 mod Settling
+mod Inheriting
 mod Leading
 mod FieldRows
 mod SelfRow

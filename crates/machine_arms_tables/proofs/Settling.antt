@@ -24,11 +24,11 @@ use Rattle.table_core.specs.declared.value.Value.TheVariants.{Nil, Int, Str, Tab
 use Rattle.machine_arms_tables.specs.Fields.{is_raw, field_in, takes, with_field, Settles}
 
 -- a chain of handlers that is settled by its first link, whatever would follow
-index_at : (links : ℕ) (H : Heap) (o key : Value) (answer : Settled) → ((follow : Value → Settled) → indexed H o (raw_get H o key) follow ≡ answer) → index_of links H o key ≡ answer
+pub index_at : (links : ℕ) (H : Heap) (o key : Value) (answer : Settled) → ((follow : Value → Settled) → indexed H o (raw_get H o key) follow ≡ answer) → index_of links H o key ≡ answer
 index_at zero H o key answer comes = comes (λ h. fault (codes "'__index' chain too long; possibly a loop"))
 index_at (suc links) H o key answer comes = comes (λ h. cond (is_function h) (ask h (o ∷ key ∷ [])) (index_of links H h key))
 
-nil_is_nil : (texts : List (List ℕ)) (v : Kept) → is_nil (value texts v) ≡ is_nil_kept v
+pub nil_is_nil : (texts : List (List ℕ)) (v : Kept) → is_nil (value texts v) ≡ is_nil_kept v
 nil_is_nil texts Nil = refl
 nil_is_nil texts _ = refl
 
@@ -45,7 +45,7 @@ not_true true e = absurd (cc)
 not_true false e = refl
 
 -- a field that is found at once is that of the table's rows
-raw_of : (t : Contents) (key v : Kept) → field_in t key ≡ Some v → (is_raw t key ≡ true) × (get lua_values t.rows key ≡ v)
+pub raw_of : (t : Contents) (key v : Kept) → field_in t key ≡ Some v → (is_raw t key ≡ true) × (get lua_values t.rows key ≡ v)
 raw_of t key v e = by (is_raw t key) e
   where
     by : (b : Bool) → cond b (Some (get lua_values t.rows key)) None ≡ Some v → (b ≡ true) × (get lua_values t.rows key ≡ v)
@@ -92,7 +92,7 @@ module _ (texts : List (List ℕ)) (meta : Option ℕ) (tables : List Contents) 
     pub raw_is : raw_get (heap texts tables meta) (object a_table n) (value texts key) ≡ Some (value texts (get lua_values t.rows key))
     raw_is = ap (λ (o : Option Rows). bind o (λ t. Some (get table_values t.rows (value texts key)))) table_there ∙ ap (λ v. Some v) ((law texts apart short t.rows).field key)
 
-    indexed_is : (v : Kept) → get lua_values t.rows key ≡ v → is_raw t key ≡ true → (follow : Value → Settled)
+    pub indexed_is : (v : Kept) → get lua_values t.rows key ≡ v → is_raw t key ≡ true → (follow : Value → Settled)
         → indexed (heap texts tables meta) (object a_table n) (raw_get (heap texts tables meta) (object a_table n) (value texts key)) follow ≡ found (heap texts tables meta) (value texts v ∷ [])
     indexed_is v e raw follow = by t.metatable refl raw
       where

@@ -11,8 +11,10 @@ use Rattle.lua_heap.specs.declared.world.Cell.TheVariants.{Closed, Open}
 use Rattle.table_core.specs.Table.{Contents}
 use Rattle.table_core.specs.Value.{is_nil, lua_values}
 use Rattle.table_core.specs.declared.value.CellId.{CellId}
+use Rattle.table_core.specs.declared.value.StrId.{StrId}
+use Rattle.table_core.specs.declared.value.TableId.{TableId}
 use Rattle.table_core.specs.declared.value.Value.{Value}
-use Rattle.table_core.specs.declared.value.Value.TheVariants.{Table}
+use Rattle.table_core.specs.declared.value.Value.TheVariants.{Str, Table}
 
 -- no handler decides at a key that has a value, nor in a table without a metatable
 abbrev pub is_raw : Contents → Value → Bool
@@ -24,6 +26,22 @@ field_in t key = cond (is_raw t key) (Some (get lua_values t.rows key)) None
 abbrev pub field_at_once : List Contents → Value → Value → Option Value
 field_at_once tables (Table id) key = bind (slice_get tables id.0) (λ t. field_in t key)
 field_at_once tables _ key = None
+
+-- the table that the metatable of a table has at a name
+
+abbrev pub metatable_at : List Contents → Value → Option TableId
+metatable_at tables (Table id) = bind (slice_get tables id.0) (λ t. t.metatable)
+metatable_at tables _ = None
+
+abbrev pub table_only : Value → Option Value
+table_only (Table id) = Some (Table id)
+table_only _ = None
+
+abbrev pub table_named : List Contents → TableId → (name : StrId) → Option Value
+table_named tables id name = bind (slice_get tables id.0) (λ t. table_only (get lua_values t.rows (Str name)))
+
+abbrev pub table_above : List Contents → (name : StrId) → Value → Option Value
+table_above tables name object = bind (metatable_at tables object) (λ id. table_named tables id name)
 
 -- nil is no key
 abbrev pub takes : Contents → Value → Bool

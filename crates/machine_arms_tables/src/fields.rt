@@ -9,7 +9,7 @@ use table_core::{Key, Table, TableId, Value};
 
 /// The table of a number, where there is one.
 #[inline(always)]
-fn table_at(tables: &Pool<Table>, id: TableId) -> Option<&Table>
+pub(crate) fn table_at(tables: &Pool<Table>, id: TableId) -> Option<&Table>
     ensures { MatchOption result (slice_get tables.now.objects id.0 ≡ None) (λ t. slice_get tables.now.objects id.0 ≡ Some t.now) }
 {
     if id.0 < tables.len() {

@@ -14,7 +14,7 @@ use object_pool::Pool;
 use table_core::{Table, Value};
 
 /// Does an instruction on the registers of its frame, on tables and on closed cells, and answers where the frame goes on. `None`, with all as
-/// before, where it takes more than that: a call, a handler, an error, an open cell, a spent budget, memory that is wanting.
+/// before, where it takes more than that: a call, a handler that is no table, an error, an open cell, a spent budget, memory that is wanting.
 #[inline(always)]
 pub fn run_instruction(
     op: Opcode,
@@ -70,15 +70,15 @@ fn run_on_objects(
     match op {
         Opcode::GetUpval => get_upvalue(closure, cells, registers, i, pc),
         Opcode::SetUpval => set_upvalue(closure, cells, registers, i, pc),
-        Opcode::GetTabUp => get_upvalue_field(closure, tables, cells, registers, i, pc),
-        Opcode::GetTable => get_element(closure, tables, registers, i, pc),
-        Opcode::GetI => get_integer(closure, tables, registers, i, pc),
-        Opcode::GetField => get_field(closure, tables, registers, i, pc),
+        Opcode::GetTabUp => get_upvalue_field(closure, strings, tables, cells, registers, i, pc),
+        Opcode::GetTable => get_element(closure, strings, tables, registers, i, pc),
+        Opcode::GetI => get_integer(closure, strings, tables, registers, i, pc),
+        Opcode::GetField => get_field(closure, strings, tables, registers, i, pc),
         Opcode::SetTabUp => set_upvalue_field(closure, tables, cells, registers, i, pc),
         Opcode::SetTable => set_element(closure, tables, registers, i, pc),
         Opcode::SetI => set_integer(closure, tables, registers, i, pc),
         Opcode::SetField => set_field(closure, tables, registers, i, pc),
-        Opcode::OpSelf => get_method(closure, tables, registers, i, pc),
+        Opcode::OpSelf => get_method(closure, strings, tables, registers, i, pc),
         Opcode::Len => get_length(closure, strings, tables, registers, i, pc),
         _ => None,
     }

@@ -1,9 +1,10 @@
 //! The machine's fast instructions on tables, upvalues and lengths beside those on registers alone (lvm.c of Lua 5.4; Lua 5.4 manual, 2.4 and
-//! 3.4.7): fields that no handler decides, and closed cells. Each does what its row says, or answers that it takes more, with all as before.
+//! 3.4.7): fields that no function decides, and closed cells. Each does what its row says, or answers that it takes more, with all as before.
 #![tactic(auto)]
 
 mod closure;
 mod fields;
+mod inherited;
 mod instruction;
 mod lengths;
 mod reads;

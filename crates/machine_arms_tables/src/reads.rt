@@ -6,10 +6,10 @@ ghost use Rattle.machine_arms_tables.specs.Frame.{Leads, code, moment};
 ghost use Rattle.machine_view.specs.View.{IsAt};
 
 use crate::closure::{Closure, register, set_register, spelled};
-use crate::fields::field;
+use crate::inherited::field_or_inherited;
 use crate::upvalues::upvalue;
 use code_core::Instruction;
-use lua_heap::Cell;
+use lua_heap::{Cell, Strings};
 use object_pool::Pool;
 use table_core::{Table, Value};
 
@@ -17,6 +17,7 @@ use table_core::{Table, Value};
 #[inline(always)]
 pub(crate) fn get_upvalue_field(
     closure: Closure,
+    strings: &Strings,
     tables: &Pool<Table>,
     cells: &Pool<Cell>,
     registers: &mut [Value],
@@ -24,12 +25,12 @@ pub(crate) fn get_upvalue_field(
     pc: usize,
 ) -> Option<usize>
     requires { IsAt GetTabUp i closure.words.now closure.constants.now registers.old pc }
-    ensures goes { IfSome result (λ to. (texts : List (List ℕ)) (fuel : ℕ) → Leads GetTabUp i (code closure.entry texts) (moment tables.now.objects cells.now.objects registers.old pc fuel) (moment tables.now.objects cells.now.objects registers.new to fuel)) }
+    ensures goes { IfSome result (λ to. (fuel : ℕ) → Leads GetTabUp i (code closure.entry strings.now) (moment tables.now.objects cells.now.objects registers.old pc fuel) (moment tables.now.objects cells.now.objects registers.new to fuel)) }
     ensures kept { IfNone result (registers.new ≡ registers.old) }
 {
     let object = upvalue(cells, closure.upvalues, i.b())?;
     let key = closure.constant(i.c() as usize);
-    let v = field(tables, object, key)?;
+    let v = field_or_inherited(strings, tables, object, key)?;
     set_register(registers, i.a() as usize, v);
     Some(closure.next(pc))
 }
@@ -38,18 +39,19 @@ pub(crate) fn get_upvalue_field(
 #[inline(always)]
 pub(crate) fn get_element(
     closure: Closure,
+    strings: &Strings,
     tables: &Pool<Table>,
     registers: &mut [Value],
     i: Instruction,
     pc: usize,
 ) -> Option<usize>
     requires { IsAt GetTable i closure.words.now closure.constants.now registers.old pc }
-    ensures goes { IfSome result (λ to. (texts : List (List ℕ)) (cells : List Cell) (fuel : ℕ) → Leads GetTable i (code closure.entry texts) (moment tables.now.objects cells registers.old pc fuel) (moment tables.now.objects cells registers.new to fuel)) }
+    ensures goes { IfSome result (λ to. (cells : List Cell) (fuel : ℕ) → Leads GetTable i (code closure.entry strings.now) (moment tables.now.objects cells registers.old pc fuel) (moment tables.now.objects cells registers.new to fuel)) }
     ensures kept { IfNone result (registers.new ≡ registers.old) }
 {
     let object = register(registers, i.b() as usize);
     let key = register(registers, i.c() as usize);
-    let v = field(tables, object, key)?;
+    let v = field_or_inherited(strings, tables, object, key)?;
     set_register(registers, i.a() as usize, v);
     Some(closure.next(pc))
 }
@@ -58,18 +60,19 @@ pub(crate) fn get_element(
 #[inline(always)]
 pub(crate) fn get_integer(
     closure: Closure,
+    strings: &Strings,
     tables: &Pool<Table>,
     registers: &mut [Value],
     i: Instruction,
     pc: usize,
 ) -> Option<usize>
     requires { IsAt GetI i closure.words.now closure.constants.now registers.old pc }
-    ensures goes { IfSome result (λ to. (texts : List (List ℕ)) (cells : List Cell) (fuel : ℕ) → Leads GetI i (code closure.entry texts) (moment tables.now.objects cells registers.old pc fuel) (moment tables.now.objects cells registers.new to fuel)) }
+    ensures goes { IfSome result (λ to. (cells : List Cell) (fuel : ℕ) → Leads GetI i (code closure.entry strings.now) (moment tables.now.objects cells registers.old pc fuel) (moment tables.now.objects cells registers.new to fuel)) }
     ensures kept { IfNone result (registers.new ≡ registers.old) }
 {
     let object = register(registers, i.b() as usize);
     let key = spelled(i.c());
-    let v = field(tables, object, key)?;
+    let v = field_or_inherited(strings, tables, object, key)?;
     set_register(registers, i.a() as usize, v);
     Some(closure.next(pc))
 }
@@ -78,18 +81,19 @@ pub(crate) fn get_integer(
 #[inline(always)]
 pub(crate) fn get_field(
     closure: Closure,
+    strings: &Strings,
     tables: &Pool<Table>,
     registers: &mut [Value],
     i: Instruction,
     pc: usize,
 ) -> Option<usize>
     requires { IsAt GetField i closure.words.now closure.constants.now registers.old pc }
-    ensures goes { IfSome result (λ to. (texts : List (List ℕ)) (cells : List Cell) (fuel : ℕ) → Leads GetField i (code closure.entry texts) (moment tables.now.objects cells registers.old pc fuel) (moment tables.now.objects cells registers.new to fuel)) }
+    ensures goes { IfSome result (λ to. (cells : List Cell) (fuel : ℕ) → Leads GetField i (code closure.entry strings.now) (moment tables.now.objects cells registers.old pc fuel) (moment tables.now.objects cells registers.new to fuel)) }
     ensures kept { IfNone result (registers.new ≡ registers.old) }
 {
     let object = register(registers, i.b() as usize);
     let key = closure.constant(i.c() as usize);
-    let v = field(tables, object, key)?;
+    let v = field_or_inherited(strings, tables, object, key)?;
     set_register(registers, i.a() as usize, v);
     Some(closure.next(pc))
 }
@@ -98,18 +102,19 @@ pub(crate) fn get_field(
 #[inline(always)]
 pub(crate) fn get_method(
     closure: Closure,
+    strings: &Strings,
     tables: &Pool<Table>,
     registers: &mut [Value],
     i: Instruction,
     pc: usize,
 ) -> Option<usize>
     requires { IsAt OpSelf i closure.words.now closure.constants.now registers.old pc }
-    ensures goes { IfSome result (λ to. (texts : List (List ℕ)) (cells : List Cell) (fuel : ℕ) → Leads OpSelf i (code closure.entry texts) (moment tables.now.objects cells registers.old pc fuel) (moment tables.now.objects cells registers.new to fuel)) }
+    ensures goes { IfSome result (λ to. (cells : List Cell) (fuel : ℕ) → Leads OpSelf i (code closure.entry strings.now) (moment tables.now.objects cells registers.old pc fuel) (moment tables.now.objects cells registers.new to fuel)) }
     ensures kept { IfNone result (registers.new ≡ registers.old) }
 {
     let object = register(registers, i.b() as usize);
     let key = closure.operand(registers, i);
-    let v = field(tables, object, key)?;
+    let v = field_or_inherited(strings, tables, object, key)?;
     let a = i.a() as usize;
     set_register(registers, a + 1, object);
     set_register(registers, a, v);

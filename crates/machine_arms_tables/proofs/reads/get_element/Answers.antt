@@ -20,6 +20,6 @@ pub next-requires : goal.next-requires
 next-requires c = next_there c.requires refl
 
 pub returns-clause-goes : goal.returns-clause-goes
-returns-clause-goes c texts =
-    get_element_does (code c.args.closure texts) c.requires (got c.args.registers.now c.b.ensures c.register-object.ensures) (got c.args.registers.now c.c.ensures c.register-key.ensures) (c.in_ok-v.ensures.settles texts)
+returns-clause-goes c =
+    get_element_does (code c.args.closure c.args.strings.now) c.requires (got c.args.registers.now c.b.ensures c.register-object.ensures) (got c.args.registers.now c.c.ensures c.register-key.ensures) c.in_ok-v.ensures
     (c.set_register.ensures ∙ ap (λ a. slice_set c.args.registers.now a c.in_ok-v.v) c.a.ensures) c.next.ensures

@@ -29,6 +29,6 @@ pub next-requires : goal.next-requires
 next-requires c = next_there c.requires refl
 
 pub returns-clause-goes : goal.returns-clause-goes
-returns-clause-goes c texts =
-    self_does (code c.args.closure texts) c.requires (got c.args.registers.now c.b.ensures c.register-object.ensures) c.operand-key.ensures (c.in_ok-v.ensures.settles texts)
+returns-clause-goes c =
+    self_does (code c.args.closure c.args.strings.now) c.requires (got c.args.registers.now c.b.ensures c.register-object.ensures) c.operand-key.ensures c.in_ok-v.ensures
     (c.set_register-2.ensures ∙ ap (λ r. slice_set r c.a-a.result c.in_ok-v.v) c.set_register.ensures ∙ ap (λ a. slice_set (slice_set c.args.registers.now (a + 1) c.register-object.result) a c.in_ok-v.v) c.a-a.ensures) c.next.ensures

@@ -19,6 +19,6 @@ pub next-requires : goal.next-requires
 next-requires c = next_there c.requires refl
 
 pub returns-clause-goes : goal.returns-clause-goes
-returns-clause-goes c texts =
-    get_upvalue_field_does (code c.args.closure texts) c.requires (named_so (λ n. upvalue_in c.args.closure.upvalues.now c.args.cells.now.objects n) c.b.ensures c.in_ok-object.ensures) (got c.args.closure.constants.now c.c.ensures c.constant-key.ensures) (c.in_ok-v.ensures.settles texts)
+returns-clause-goes c =
+    get_upvalue_field_does (code c.args.closure c.args.strings.now) c.requires (named_so (λ n. upvalue_in c.args.closure.upvalues.now c.args.cells.now.objects n) c.b.ensures c.in_ok-object.ensures) (got c.args.closure.constants.now c.c.ensures c.constant-key.ensures) c.in_ok-v.ensures
     (c.set_register.ensures ∙ ap (λ a. slice_set c.args.registers.now a c.in_ok-v.v) c.a.ensures) c.next.ensures
