@@ -11,6 +11,7 @@ use crate::heap::Heap;
 use table_core::Value;
 
 /// The handler that a value's metatable has for an event, or nil.
+#[inline(always)]
 pub fn handler_in(heap: Heap, event: Event, object: Value) -> Value
     ensures { value heap.entry.strings.now result ≡ handler_in (heap_of heap.entry) (event_of event) (value heap.entry.strings.now object) }
 {
@@ -33,6 +34,7 @@ pub fn handler_of(heap: Heap, event: Event, left: Value, right: Value) -> Option
 }
 
 /// Whether a value is nil.
+#[inline(always)]
 pub(crate) fn is_nil(v: Value) -> bool
     ensures { (texts : List (List ℕ)) → result ≡ is_nothing (value texts v) }
 {
@@ -40,6 +42,7 @@ pub(crate) fn is_nil(v: Value) -> bool
 }
 
 /// Whether a value is a function of Lua's or a primitive, which is called without a handler.
+#[inline(always)]
 pub(crate) fn is_function(v: Value) -> bool
     ensures { (texts : List (List ℕ)) → result ≡ is_callable (value texts v) }
 {

@@ -20,6 +20,7 @@ pub struct Heap<'a> {
 
 impl<'a> Heap<'a> {
     /// The table of a number, where there is one.
+    #[inline(always)]
     fn table(self, id: TableId) -> Option<&'a Table>
         ensures { MatchOption result (slice_get self.entry.tables.now.objects id.0 ≡ None) (λ t. slice_get self.entry.tables.now.objects id.0 ≡ Some t.now) }
     {
@@ -31,6 +32,7 @@ impl<'a> Heap<'a> {
     }
 
     /// The value at a key of a table, whatever its metatable says; `None` where the object is no table.
+    #[inline(always)]
     pub fn raw_get(self, object: Value, key: Value) -> Option<Value>
         ensures { option_map (value self.entry.strings.now) result ≡ raw_get (heap_of self.entry) (value self.entry.strings.now object) (value self.entry.strings.now key) }
     {
@@ -46,6 +48,7 @@ impl<'a> Heap<'a> {
     }
 
     /// The metatable of a value: a table has its own, and all strings share one (Lua 5.4 manual, 2.4).
+    #[inline(always)]
     pub fn metatable(self, object: Value) -> Option<TableId>
         ensures { option_map (λ id. id.0) result ≡ metatable_of (heap_of self.entry) (value self.entry.strings.now object) }
     {
@@ -60,6 +63,7 @@ impl<'a> Heap<'a> {
     }
 
     /// The field of a value's metatable that has a name, or nil.
+    #[inline(always)]
     pub fn metafield(self, object: Value, name: &[u8]) -> Value
         requires { length name.now ≤ greatest_string }
         ensures { value self.entry.strings.now result ≡ field_in (heap_of self.entry) name.now (value self.entry.strings.now object) }
@@ -71,6 +75,7 @@ impl<'a> Heap<'a> {
     }
 
     /// The field of a table that has a name, or nil.
+    #[inline(always)]
     fn field(self, id: TableId, name: &[u8]) -> Value
         requires { length name.now ≤ greatest_string }
         ensures { value self.entry.strings.now result ≡ row_field (heap_of self.entry) id.0 name.now }

@@ -43,6 +43,7 @@ pub fn index_of(heap: Heap, object: Value, key: Value) -> Outcome
 }
 
 /// The field as it is, or the handler to go on with.
+#[inline(always)]
 fn index_link(heap: Heap, object: Value, key: Value) -> Link
     ensures { IndexGoes heap.entry.strings.now (heap_of heap.entry) (value heap.entry.strings.now object) (value heap.entry.strings.now key) result }
 {
