@@ -13,6 +13,7 @@ mod Called
 mod Listed
 mod Passed
 mod Stored
+mod Handlers
 mod Takers
 mod Returned
 mod Apart

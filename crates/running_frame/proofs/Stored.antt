@@ -1,6 +1,6 @@
 -- A store to a variable that stands in a register of a frame below is a step of the machine.
-use Rattle.std.proofs.Common.{◌≡◌, ℕ, zero, suc, ◌+◌, ◌<◌, List, [], ◌∷◌, ◌++◌, length, map, Option, Some, None, refl, ap, sym, subst, ◌∙◌, arith, true}
-use Rattle.std.specs.Prelude.{IfNone, IfSome, slice_get, slice_set}
+use Rattle.std.proofs.Common.{◌≡◌, ℕ, zero, suc, ◌+◌, ◌<◌, List, [], ◌∷◌, ◌++◌, length, map, Option, Some, None, refl, ap, sym, ◌∙◌, arith, true}
+use Rattle.std.specs.Prelude.{slice_get, slice_set}
 use Rattle.code_core.specs.Check.{at}
 use Rattle.code_core.specs.Instruction.{a_of, b_of}
 use Rattle.code_core.specs.declared.instruction.Instruction.{Instruction}
@@ -35,7 +35,6 @@ use Rattle.running_frame.specs.Standing.{RunsAt, standing}
 use Rattle.running_frame.specs.Storing.{StandsBelow, StoresOpen, is_store}
 use Rattle.running_frame.specs.Upvalues.{ListsOpen}
 use Rattle.running_frame.proofs.Called.{depth_is, held_on, own_now, ready_held, standing_is, word_is}
-use Rattle.running_frame.proofs.Chained.{reaches_none}
 use Rattle.running_frame.proofs.FrameRows.{own_runs, row_is}
 use Rattle.running_frame.proofs.Held.{frame_is}
 
@@ -187,14 +186,3 @@ module _ (g : Running) (k : Code) (s : KeptStack) (ts : List Contents) (cs : Lis
             ∙ ap (λ o. and_then o (steps g.around.rows 0)) stepped
             ∙ ap (ends go) (sym (ap (λ fs. stacked ctx.base ctx.coroutine fs (heap g.around.texts ts g.string_metatable) (map (cell g.around.texts) cs) fuel []) frames_are)),
       )
-
--- a store, or none
-
-pub stored_or_not : (g : Running) (k : Code) (s : KeptStack) (ts : List Contents) (cs : List KeptCell) (fuel pc : ℕ) → RunsAt g k s ts cs fuel pc → (t u : KeptStack) (left co : ℕ) (w : Instruction) → t ≡ s → left ≡ fuel → co ≡ g.around.context.coroutine
-    → slice_get k.words pc ≡ Some w → {A : Type 0} → (o : Option A) → IfNone o (StoresOpen co k.upvalues k.words t u cs pc w) → IfSome o (λ _. u ≡ t) → Reaches g.around.rows (standing g s ts cs fuel) (standing g u ts cs left)
-stored_or_not g k s ts cs fuel pc r t u left co w same paid own word None x y =
-    subst (λ (n : ℕ). Reaches g.around.rows (standing g s ts cs fuel) (standing g u ts cs n)) (sym paid)
-    (stored_so g k s ts cs fuel pc r u w (subst (λ n. StoresOpen n k.upvalues k.words s u cs pc w) own (subst (λ (s : KeptStack). StoresOpen co k.upvalues k.words s u cs pc w) same x)) word)
-stored_or_not g k s ts cs fuel pc r t u left co w same paid own word (Some a) x y =
-    subst (λ (n : ℕ). Reaches g.around.rows (standing g s ts cs fuel) (standing g u ts cs n)) (sym paid)
-    (subst (λ (u : KeptStack). Reaches g.around.rows (standing g s ts cs fuel) (standing g u ts cs fuel)) (sym (y ∙ same)) (reaches_none g.around.rows (standing g s ts cs fuel)))

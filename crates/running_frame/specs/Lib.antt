@@ -8,3 +8,4 @@ pub mod Calling
 pub mod Listing
 pub mod Storing
 pub mod Returning
+pub mod Asking

@@ -4,6 +4,7 @@ ghost use Rattle.lua_stack.specs.Frames.{HasLuaTop};
 ghost use Rattle.machine_arms_tables.specs.Frame.{AreOpenAlike, code};
 ghost use Rattle.machine_focus.specs.Focus.{Reaches};
 ghost use Rattle.machine_loop.specs.Running.{Running};
+ghost use Rattle.running_frame.specs.Asking.{AsksOver, ReachesOut, ReadSame};
 ghost use Rattle.running_frame.specs.Calling.{AreFunctions, HaveCode};
 ghost use Rattle.running_frame.specs.Inheriting.{metatable_number};
 ghost use Rattle.running_frame.specs.Returning.{Crosses, GoesOn, Leaves};
@@ -11,6 +12,7 @@ ghost use Rattle.running_frame.specs.Standing.{IsClosedFrom, IsHereIn, MayRun, s
 ghost use Rattle.running_frame.specs.Storing.{StoresOpen};
 ghost use Rattle.running_frame.specs.Upvalues.{ListsOpen};
 
+use crate::asking::ask_over;
 use crate::calling::call_function;
 use crate::listing::list_varargs;
 use crate::place::Here;
@@ -67,7 +69,91 @@ pub(crate) fn run_frame_on_top(
     }
     match cross(stack, size, funcs, codes, closure.words, budget, stop) {
         Some(()) => None,
-        None => store(stack, closure, cells, co, stop.here),
+        None => reach_out(
+            stack,
+            closure,
+            strings,
+            funcs,
+            codes,
+            tables,
+            cells,
+            budget,
+            co,
+            string_meta,
+            stop.here,
+        ),
+    }
+}
+
+/// Stores to a variable of a frame below, or calls the handler of a read, where the frame on top is at such an instruction: `None`. Else all reads as before, and told
+/// is where the frame is.
+fn reach_out(
+    stack: &mut Stack,
+    closure: Closure,
+    strings: &Strings,
+    funcs: &Pool<Func>,
+    codes: &Codes,
+    tables: &Pool<Table>,
+    cells: &Pool<Cell>,
+    budget: &mut u64,
+    co: CoroId,
+    string_meta: Option<TableId>,
+    here: Here,
+) -> Option<Here>
+    requires top { HasLuaTop stack.old }
+    requires codes { HaveCode funcs.now.objects codes.now }
+    requires cells { ListsOpen co.0 stack.old cells.now.objects }
+    ensures reaches { IfNone result (ReachesOut co.0 (code closure.entry strings.now) stack.old stack.new tables.now.objects (metatable_number string_meta) cells.now.objects funcs.now.objects codes.now here.pc here.word budget.old budget.new) }
+    ensures kept { IfSome result (λ at. ReadSame stack.old stack.new × (budget.new ≡ budget.old) × (at ≡ here)) }
+    ensures listed { stack.new.open_cells ≡ stack.old.open_cells }
+{
+    match store(stack, closure, cells, co, here) {
+        None => None,
+        Some(at) => ask(
+            stack,
+            closure,
+            strings,
+            funcs,
+            codes,
+            tables,
+            budget,
+            string_meta,
+            at,
+        ),
+    }
+}
+
+/// Calls the handler of a read.
+fn ask(
+    stack: &mut Stack,
+    closure: Closure,
+    strings: &Strings,
+    funcs: &Pool<Func>,
+    codes: &Codes,
+    tables: &Pool<Table>,
+    budget: &mut u64,
+    string_meta: Option<TableId>,
+    here: Here,
+) -> Option<Here>
+    requires top { HasLuaTop stack.old }
+    requires codes { HaveCode funcs.now.objects codes.now }
+    ensures asks { IfNone result (AsksOver stack.old stack.new strings.now closure.entry.constants.now tables.now.objects (metatable_number string_meta) funcs.now.objects codes.now here.word budget.old budget.new) }
+    ensures kept { IfSome result (λ at. ReadSame stack.old stack.new × (budget.new ≡ budget.old) × (at ≡ here)) }
+    ensures listed { stack.new.open_cells ≡ stack.old.open_cells }
+{
+    match ask_over(
+        stack,
+        closure.constants,
+        strings,
+        tables,
+        funcs,
+        codes,
+        budget,
+        string_meta,
+        here.word,
+    ) {
+        Some(()) => None,
+        None => Some(here),
     }
 }
 

@@ -3,6 +3,7 @@
 #![tactic(auto)]
 
 mod ahead;
+mod asking;
 mod calling;
 mod closing;
 mod frames;

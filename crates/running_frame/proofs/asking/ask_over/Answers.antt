@@ -1,0 +1,19 @@
+use Rattle.std.proofs.Common.{refl, subst}
+use Rattle.std.specs.Prelude.{IfSome}
+use Rattle.running_frame.specs.Asking.{IsAsked}
+use Rattle.running_frame.specs.Inheriting.{metatable_number}
+use Rattle.running_frame.proofs.Handlers.{asks_by, same_stack}
+use Rattle.running_frame.proofs.asking.ask_over.Goals as goal
+
+pub pay_for-requires-clause-params : goal.pay_for-requires-clause-params
+pay_for-requires-clause-params c =
+    let call = subst (λ o. IfSome o (λ call. IsAsked c.args.stack.now c.args.strings.now c.args.constants.now c.args.tables.now.objects (metatable_number c.args.string_meta) c.args.funcs.now.objects c.args.codes.now c.args.i call)) c.in-Some.is c.call_asked.ensures in
+    call.has.params
+
+pub returns-in-Some-clause-asks : goal.returns-in-Some-clause-asks
+returns-in-Some-clause-asks c =
+    let call = subst (λ o. IfSome o (λ call. IsAsked c.args.stack.now c.args.strings.now c.args.constants.now c.args.tables.now.objects (metatable_number c.args.string_meta) c.args.funcs.now.objects c.args.codes.now c.args.i call)) c.in-Some.is c.call_asked.ensures in
+    asks_by call c.pay_for.new.stack c.args.budget.now c.pay_for.new.budget c.pay_for.result c.pay_for.ensures.pays c.pay_for.ensures.enters
+
+pub returns-in-None-clause-kept : goal.returns-in-None-clause-kept
+returns-in-None-clause-kept c = (same_stack c.args.stack.now, refl)

@@ -1,0 +1,65 @@
+-- Reads whose handler of `__index` is a Lua function, which is called over the frame that reads (Lua 5.4 manual, 2.4).
+use Rattle.std.specs.Prelude.{◌≡◌, ◌⊎◌, ◌+◌, ◌≤◌, ℕ, suc, List, [], ◌∷◌, ◌++◌, Option, Some, length, map, slice_get}
+use Rattle.code_core.specs.declared.instruction.Instruction.{Instruction}
+use Rattle.code_core.specs.declared.opcode.Opcode.{Opcode}
+use Rattle.code_core.specs.declared.opcode.Opcode.TheVariants.{GetTable, GetField}
+use Rattle.code_core.specs.Instruction.{b_of, c_of, opcode_of}
+use Rattle.int_core.specs.Limits.{greatest_depth}
+use Rattle.int_core.specs.Operations.{ask, does, index}
+use Rattle.int_core.specs.Value.{Value, known, nil}
+use Rattle.machine_core.specs.World.{Frame, LuaFrame, for_value, lua, running}
+use Rattle.table_core.specs.Table.{Contents}
+use Rattle.table_core.specs.declared.value.FuncId.{FuncId}
+use Rattle.table_core.specs.declared.value.Value.{Value as Kept}
+use Rattle.table_core.specs.declared.value.Value.TheVariants.{Nil, Func as a_func}
+use Rattle.lua_stack.specs.Frames.{Enters, KeptStack, OnTop, TopBecomes, frames, with_wait}
+use Rattle.lua_heap.specs.declared.codes.Codes.{Codes}
+use Rattle.lua_heap.specs.declared.world.Cell.{Cell}
+use Rattle.lua_heap.specs.declared.world.Func.{Func}
+use Rattle.lua_heap.specs.Plain.{heap}
+use Rattle.lua_heap.specs.Reading.{value}
+use Rattle.machine_arms_tables.specs.Frame.{Code}
+use Rattle.running_frame.specs.declared.asking.Asked.{Asked}
+use Rattle.running_frame.specs.Calling.{HasShapeIn}
+use Rattle.running_frame.specs.Storing.{StoresOpen}
+
+-- the object and the key that an instruction names
+pub data Names (registers constants : List Kept) (w : Instruction) (object key : Kept) : Option Opcode → Type 0 where
+  by_register : slice_get registers (b_of w) ≡ Some object → slice_get registers (c_of w) ≡ Some key → Names registers constants w object key (Some GetTable)
+  by_name : slice_get registers (b_of w) ≡ Some object → slice_get constants (c_of w) ≡ Some key → Names registers constants w object key (Some GetField)
+
+-- a Lua function is asked for the field, with these two arguments
+abbrev pub AsksFor : List (List ℕ) → List Contents → (string_metatable : Option ℕ) → (object key : Kept) → FuncId → (first : Kept) → Type 0
+AsksFor texts tables meta object key id first = does index (value texts object ∷ value texts key ∷ []) (heap texts tables meta) ≡ ask (value texts (a_func id)) (value texts first ∷ value texts key ∷ [])
+
+-- for the field that an instruction of the frame on top names this is called
+pub record IsAsked (s : KeptStack) (texts : List (List ℕ)) (constants : List Kept) (tables : List Contents) (meta : Option ℕ) (funcs : List Func) (codes : Codes) (w : Instruction) (call : Asked) : Type 0 where
+  pub registers : List Kept
+  pub are : OnTop s (λ f t. map f registers ≡ t.own.registers)
+  pub object : Kept
+  pub names : Names registers constants w object call.key (opcode_of w)
+  pub asks : AsksFor texts tables meta object call.key call.id call.first
+  pub has : HasShapeIn funcs codes call.id call.shape
+  pub room : length s.frames + 1 ≤ greatest_depth
+
+-- the frame on top waits for a value, and the function's frame is over it
+pub record EntersOver (s u : KeptStack) (call : Asked) : Type 0 where
+  pub waiting : KeptStack
+  pub waits : TopBecomes s waiting (λ f t. with_wait for_value t)
+  pub enters : Enters waiting u call.id call.shape (call.first ∷ call.key ∷ [])
+
+-- all this for a unit of the budget
+pub record AsksOver (s u : KeptStack) (texts : List (List ℕ)) (constants : List Kept) (tables : List Contents) (meta : Option ℕ) (funcs : List Func) (codes : Codes) (w : Instruction) (fuel left : ℕ) : Type 0 where
+  pub call : Asked
+  pub is : IsAsked s texts constants tables meta funcs codes w call
+  pub paid : fuel ≡ suc left
+  pub enters : EntersOver s u call
+
+-- a stack on which a Lua frame runs is read as before
+pub record ReadSame (s u : KeptStack) : Type 0 where
+  pub frames_are : (f : Kept → Value) → f Nil ≡ known nil → (below : List Frame) (t : LuaFrame) → t.wait ≡ running → frames f s ≡ below ++ lua t ∷ [] → frames f u ≡ below ++ lua t ∷ []
+
+-- a store to a variable of a frame below, or such a read
+abbrev pub ReachesOut : (co : ℕ) → Code → (s u : KeptStack) → List Contents → (meta : Option ℕ) → List Cell → List Func → Codes → (pc : ℕ) → Instruction → (fuel left : ℕ) → Type 0
+ReachesOut co k s u tables meta cells funcs codes pc w fuel left =
+    (StoresOpen co k.upvalues k.words s u cells pc w × (left ≡ fuel)) ⊎ AsksOver s u k.texts k.constants tables meta funcs codes w fuel left
