@@ -11,7 +11,7 @@ use Rattle.machine_view.proofs.Going.{going, at_next, at_second, at_either, goes
 use Rattle.table_core.specs.declared.value.Value.{Value as Kept}
 use Rattle.std.specs.Prelude.{ℤ, pos, negsuc, ◌+ℤ◌, ◌-ℤ◌, cond, codes, slice_get, slice_set}
 use Rattle.code_core.specs.Instruction.{a_of, bx_of, sj_of}
-use Rattle.code_core.specs.declared.opcode.Opcode.TheVariants.{Jmp, ForLoop, ForPrep, TForPrep, TForLoop}
+use Rattle.code_core.specs.declared.opcode.Opcode.TheVariants.{Jmp, ForLoop, ForPrep, TForPrep, TForLoop, VarArgPrep}
 use Rattle.int_core.specs.Arithmetic.{add, sub}
 use Rattle.int_core.specs.Value.{Value, known, nil, same_integer, same_plain, shape, is_known, is_object}
 use Rattle.machine_core.specs.Moves.{place_from}
@@ -227,3 +227,8 @@ each_goes {w = w} {ws = ws} {r = r} {s = s} {pc = pc} {to = to} {fuel = fuel} {l
 pub nil_is : (v : Kept) → value_eq v Nil ≡ true → v ≡ Nil
 nil_is Nil e = refl
 nil_is _ e = absurd (cc)
+
+-- the beginning of a function with extra arguments
+
+pub begins_varargs : {w : Instruction} {ws : List Instruction} {ks r : List Kept} {pc to : ℕ} → IsAt VarArgPrep w ws ks r pc → to ≡ pc + 1 → (fuel : ℕ) → Goes VarArgPrep w ws ks r pc fuel r to fuel
+begins_varargs {r = r} {pc = pc} {to = to} h p fuel = going (at_next h refl p) (λ g heap cells c. goes_by g heap cells r pc fuel to 1 c (at_next h refl p) p)

@@ -11,7 +11,7 @@ use crate::arithmetic::{
 use crate::comparisons::{
     equal_constant, equal_number, equal_registers, order_number, order_registers,
 };
-use crate::jumps::{for_each_loop, for_each_prep, for_loop, for_prep, jump};
+use crate::jumps::{begin_varargs, for_each_loop, for_each_prep, for_loop, for_prep, jump};
 use crate::loads::{
     load_constant, load_false, load_false_skip, load_far_constant, load_integer, load_nil,
     load_true, move_register,
@@ -89,6 +89,7 @@ pub fn run_instruction(
         Opcode::ForPrep => for_prep(words, constants, registers, i, pc),
         Opcode::TForPrep => for_each_prep(words, constants, registers, i, pc),
         Opcode::TForLoop => for_each_loop(words, constants, registers, i, pc, fuel),
+        Opcode::VarArgPrep => Some(begin_varargs(words, constants, registers, i, pc)),
         _ => None,
     }
 }

@@ -1,6 +1,7 @@
-// Jumps and loops (Lua 5.4 manual, 3.3.4 and 3.3.5). A jump back and a further round cost one unit of the budget.
+// Jumps and loops (Lua 5.4 manual, 3.3.4 and 3.3.5), and the beginning of a function with extra arguments. A jump back and a further round cost one unit of the
+// budget.
 ghost use Rattle.std.specs.Prelude.{◌≡◌, ℕ, suc, ◌<◌, ◌+◌, ◌-◌, ◌≤◌, ◌^◌, ◌-ℤ◌, ◌≤ℤ◌, pos, length, IfSome, IfNone, IsTrue, ◌≢◌};
-ghost use Rattle.code_core.specs.declared.opcode.Opcode.TheVariants.{Jmp, ForLoop, ForPrep, TForPrep, TForLoop};
+ghost use Rattle.code_core.specs.declared.opcode.Opcode.TheVariants.{Jmp, ForLoop, ForPrep, TForPrep, TForLoop, VarArgPrep};
 ghost use Rattle.machine_core.specs.InstructionRows.{runs, rounds};
 ghost use Rattle.machine_arms_numbers.specs.Numbers.{leads_back, distance_of};
 ghost use Rattle.machine_view.specs.View.{IsAt, Goes};
@@ -185,6 +186,21 @@ pub(crate) fn for_each_prep(
         return None;
     }
     Some(behind(words, pc, i.bx() as usize + 1))
+}
+
+/// VARARGPREP: on to the next instruction. The call has put the arguments beyond the parameters apart.
+#[inline(always)]
+pub(crate) fn begin_varargs(
+    words: &[Instruction],
+    constants: &[Value],
+    registers: &mut [Value],
+    i: Instruction,
+    pc: usize,
+) -> usize
+    requires { IsAt VarArgPrep i words.now constants.now registers.old pc }
+    ensures { (fuel : ℕ) → Goes VarArgPrep i words.now constants.now registers.old pc fuel registers.new result fuel }
+{
+    behind(words, pc, 1)
 }
 
 /// TFORLOOP: a further round, or the end of the loop. `None` where the round cannot be paid.
