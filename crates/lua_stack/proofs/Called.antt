@@ -16,7 +16,7 @@ use Rattle.lua_stack.specs.declared.frame.Record.{Record}
 use Rattle.lua_stack.specs.declared.frame.Wait.{Wait as KeptWait}
 use Rattle.lua_stack.specs.declared.frame.Kind.TheVariants.{Lua}
 use Rattle.lua_stack.specs.declared.stack.Stack.TheInside.{Inside}
-use Rattle.lua_stack.specs.Frames.{KeptLua, KeptStack, kept_lua, HasLuaTop, NoneFrom, Enters, Calls, Replaces, frames, frame_of, lua_of, wait_of, with_wait, given_up}
+use Rattle.lua_stack.specs.Frames.{KeptLua, KeptStack, kept_lua, HasLuaTop, NoneFrom, Enters, Calls, CallsBehind, Replaces, frames, frame_of, lua_of, wait_of, with_wait, given_up}
 use Rattle.lua_stack.specs.View.{part, blank, put_all, frame_at, lua_at, registers_at, tops, seen, AreOpen, AreStacked, AllUnder, IsStack, IsLaidOut, begun_at, record_behind, waiting_at}
 use Rattle.lua_stack.proofs.Parts.{drop_put_all, front_less, grown_front, length_blank, length_part, length_put_all, map_take, no_blank, part_kept, part_part, part_put_all, part_put_in, put_tail, take_put_all, take_take}
 use Rattle.lua_stack.proofs.Stacked.{below_kept, stacked_longer, stacked_more, under_more, under_next}
@@ -212,9 +212,9 @@ module _ (a : Inside) (i : stands a) (register stack kept : ℕ) (wait : KeptWai
           subst (λ top. IsStack laid pending below top) (sym t) (subst (λ below. IsStack laid pending below (begun_at function l shape.stack marks)) (sym b)
           (begun_stands values laid pending (a.below.items ++ caller ∷ []) place given marks shape function l calls_stacked calls_under marks_room h))
 
-      pub calls : (s n : KeptStack) → shown a ≡ s → HasLuaTop s → shape.params ≤ shape.stack → ((f : Kept → Value) → map f (part place given values) ≡ range (suc register) given (map f (old_registers a)))
-          → n ≡ seen laid pending below top a.open_cells.items → Calls s n register given wait stack function shape
-      calls s n v g fits arguments q = record {
+      pub calls_behind : (s n : KeptStack) (first : ℕ) → shown a ≡ s → HasLuaTop s → shape.params ≤ shape.stack → ((f : Kept → Value) → map f (part place given values) ≡ range (suc first) given (map f (old_registers a)))
+          → n ≡ seen laid pending below top a.open_cells.items → CallsBehind s n first given register wait stack function shape
+      calls_behind s n first v g fits arguments q = record {
         called = λ f z P H fs u e.
             let is : a.top.kind ≡ Lua = lua_on_top a s v i g in
             let B = map (frame_of f) (map (frame_at a.values.items a.pending.items) a.below.items) in
@@ -224,7 +224,7 @@ module _ (a : Inside) (i : stands a) (register stack kept : ℕ) (wait : KeptWai
             let below_is : B ≡ fs = front_same _ _ _ _ both in
             let top_is : lua_of f (old_lua a) ≡ u = same_lua _ _ (last_same _ _ _ _ both) in
             let W = with_wait (wait_of f wait) (given_up register stack (lua_of f (old_lua a))) in
-            let N = new_frame function.0 P (range (suc register) given (map f (old_registers a))) in
+            let N = new_frame function.0 P (range (suc first) given (map f (old_registers a))) in
             ap (λ (n : KeptStack). frames f n) q
             ∙ ap (λ top. map (frame_of f) (map (frame_at laid pending) (below ++ tops top))) t
             ∙ ap (λ below. map (frame_of f) (map (frame_at laid pending) (below ++ begun_at function l shape.stack marks ∷ []))) b
@@ -234,12 +234,16 @@ module _ (a : Inside) (i : stands a) (register stack kept : ℕ) (wait : KeptWai
             ∙ map_more (frame_of f) (map (frame_at a.values.items a.pending.items) a.below.items) (frame_at values pending caller ∷ []) ∙ ap (λ g. B ++ g ∷ []) (caller_is f z))
             ∙ Rattle.std.proofs.Common.append_assoc B (lua W ∷ []) (N ∷ [])
             ∙ ap (λ l. l ++ lua W ∷ N ∷ []) below_is
-            ∙ ap (λ (t : LuaFrame). fs ++ lua (with_wait (wait_of f wait) (given_up register stack t)) ∷ new_frame function.0 P (range (suc register) given t.own.registers) ∷ []) top_is;
+            ∙ ap (λ (t : LuaFrame). fs ++ lua (with_wait (wait_of f wait) (given_up register stack t)) ∷ new_frame function.0 P (range (suc first) given t.own.registers) ∷ []) top_is;
         cells = ap (λ (n : KeptStack). n.open_cells) q ∙ ap (λ (s : KeptStack). s.open_cells) v;
       }
         where
           same_lua : (t u : LuaFrame) → lua t ≡ lua u → t ≡ u
           same_lua t u e = some_same t u (ap lua_frame e)
+
+      pub calls : (s n : KeptStack) → shown a ≡ s → HasLuaTop s → shape.params ≤ shape.stack → ((f : Kept → Value) → map f (part place given values) ≡ range (suc register) given (map f (old_registers a)))
+          → n ≡ seen laid pending below top a.open_cells.items → Calls s n register given wait stack function shape
+      calls s n v g fits arguments q = let x = calls_behind s n register v g fits arguments q in record { called = x.called; cells = x.cells }
 
 -- its cells stand at registers that it keeps
 pub calls_open : (a : Inside) (s : KeptStack) (below : List Record) (top : Record) (kept stack marked : ℕ) (wait : KeptWait) → shown a ≡ s → stands a → HasLuaTop s → AreOpen a.below.items a.top.kind a.top.window a.open_cells.items
@@ -311,6 +315,35 @@ module _ (a : Inside) (i : stands a) (grown copied cleared : List Kept) (front :
       let s : part place given cleared ≡ part (from + 1) given grown =
       ap (part place given) q ∙ ap (take given) (drop_put_all (blank (stack - register)) copied place from (omega (arith, b, e, p, w, r, h)))
       ∙ ap (part place given) c ∙ ap (λ n. part place n (put_all place (part (from + 1) given grown) grown)) (sym n)
+      ∙ part_put_all (part (from + 1) given grown) grown place (omega (arith, n, room)) in
+      ap (map f) s ∙ arguments_are a i grown front register given (from + 1) l (omega (arith, e)) f
+
+-- where the arguments are copied behind the registers that the caller keeps, and the callee's follow
+
+module _ (a : Inside) (i : stands a) (grown copied : List Kept) (front : take (length a.values.items) grown ≡ a.values.items) (longer : length a.values.items ≤ length grown) (register given keeps stack from place : ℕ)
+    (w : keeps ≤ stack) (r : stack ≤ a.top.window.kept) (l : register + 1 + given ≤ a.top.window.kept) (e : from ≡ a.top.window.base + register) (p : place ≡ a.top.window.base + keeps)
+    (room : place + given ≤ length grown) (c : copied ≡ put_all place (part (from + 1) given grown) grown) where
+  sent_count : length (part (from + 1) given grown) ≡ given
+  sent_count = let v = in_values a i in length_part (from + 1) given grown (omega (arith, e, l, v, longer))
+
+  pub sent_length : length copied ≡ length grown
+  sent_length = ap length c ∙ length_put_all (part (from + 1) given grown) grown place
+
+  pub sent_extra : take a.top.window.base copied ≡ take a.top.window.base a.values.items
+  sent_extra = ap (take a.top.window.base) c ∙ take_put_all (part (from + 1) given grown) grown a.top.window.base place (omega (arith, p)) ∙ grown_extra a i grown front
+
+  pub sent_registers : (f : Kept → Value) → f Nil ≡ known nil → map f (part a.top.window.base keeps copied ++ blank (stack - keeps)) ≡ blanked (λ j. nat_lt j keeps) 0 stack (map f (old_registers a))
+  sent_registers f z =
+      ap (map f) (ap (λ l. l ++ blank (stack - keeps))
+      (part_kept a.top.window.base keeps (a.top.window.base + keeps) grown copied (le_refl _)
+      (ap (take (a.top.window.base + keeps)) c ∙ take_put_all (part (from + 1) given grown) grown (a.top.window.base + keeps) place (omega (arith, p)))))
+      ∙ kept_registers a i grown front keeps stack w r f z
+
+  pub sent_arguments : (f : Kept → Value) → map f (part place given copied) ≡ range (suc register) given (map f (old_registers a))
+  sent_arguments f =
+      let n = sent_count in
+      let s : part place given copied ≡ part (from + 1) given grown =
+      ap (part place given) c ∙ ap (λ n. part place n (put_all place (part (from + 1) given grown) grown)) (sym n)
       ∙ part_put_all (part (from + 1) given grown) grown place (omega (arith, n, room)) in
       ap (map f) s ∙ arguments_are a i grown front register given (from + 1) l (omega (arith, e)) f
 

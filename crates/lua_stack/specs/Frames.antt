@@ -169,6 +169,12 @@ pub record Calls (old new : KeptStack) (register given : ℕ) (wait : KeptWait) 
       → frames f new ≡ below ++ lua (with_wait (wait_of f wait) (given_up register stack t)) ∷ new_frame function.0 p (range (suc register) given t.own.registers) ∷ []
   pub cells : new.open_cells ≡ old.open_cells
 
+-- so it is where the frame keeps the registers of its arguments, since it gives up those from another register on alone
+pub record CallsBehind (old new : KeptStack) (register given keeps : ℕ) (wait : KeptWait) (stack : ℕ) (function : FuncId) (shape : Shape) : Type 0 where
+  pub called : (f : Kept → Value) → f Nil ≡ known nil → (p : Prototype) → IsShapeOf p shape → (below : List Frame) (t : LuaFrame) → frames f old ≡ below ++ lua t ∷ []
+      → frames f new ≡ below ++ lua (with_wait (wait_of f wait) (given_up keeps stack t)) ∷ new_frame function.0 p (range (suc register) given t.own.registers) ∷ []
+  pub cells : new.open_cells ≡ old.open_cells
+
 -- a function's frame is in place of the Lua frame that was on top, whose registers behind one are its arguments
 pub record Replaces (old new : KeptStack) (register given : ℕ) (function : FuncId) (shape : Shape) : Type 0 where
   pub replaced : (f : Kept → Value) → f Nil ≡ known nil → (p : Prototype) → IsShapeOf p shape → (below : List Frame) (t : LuaFrame) → frames f old ≡ below ++ lua t ∷ []

@@ -1,7 +1,7 @@
 // Frames of functions that are called. The arguments become their first registers where they stand, and those beyond the parameters stay in
 // front of the registers.
 ghost use Rattle.std.specs.Prelude.{◌≡◌, ◌+◌, ◌-◌, ◌≤◌, false, cond, length, OnOk, OnErr};
-ghost use Rattle.lua_stack.specs.Frames.{Calls, Enters, HasRegisters, NoneFrom, Replaces};
+ghost use Rattle.lua_stack.specs.Frames.{Calls, CallsBehind, Enters, HasRegisters, NoneFrom, Replaces};
 ghost use Rattle.lua_stack.specs.View.{IsLaidOut, begun_at, waiting_at};
 
 use crate::cells::is_open_from;
@@ -131,6 +131,47 @@ impl Stack {
         );
         self.below
             .push_reserved(waiting(top, wait, stack, stack, marked));
+        let layout = lay_out(&mut self.values, place, given, shape);
+        self.top = begun(function, shape.stack, layout, top.window.marks + marked);
+        Ok(())
+    }
+
+    /// Calls a function with copies of the values behind a register, which stay where they are. The frame on top waits, with the `stack` registers of its
+    /// code, and keeps those in front of `keeps`, from which on it has no open cell.
+    pub fn call_behind(
+        &mut self,
+        register: usize,
+        given: usize,
+        keeps: usize,
+        wait: Wait,
+        stack: usize,
+        function: FuncId,
+        shape: Shape,
+    ) -> Result<(), AllocError>
+        requires arguments { HasRegisters self.old (register + 1 + given) }
+        requires size { HasRegisters self.old stack }
+        requires within { keeps ≤ stack }
+        requires free { NoneFrom self.old keeps }
+        requires params { shape.params ≤ shape.stack }
+        ensures frames { OnOk result (CallsBehind self.old self.new register given keeps wait stack function shape) }
+        ensures err { OnErr result (self.new ≡ self.old) }
+    {
+        let top = self.top;
+        let room = self.values.len();
+        let from = place_of(top.window, register, room);
+        let place = place_of(top.window, keeps, room);
+        let end = end_of(end_of(place, given)?, shape.stack)?;
+        self.below.reserve(1)?;
+        grow(&mut self.values, end)?;
+        copy(&mut self.values, from + 1, place, given);
+        let marked = keep_below(
+            &mut self.pending,
+            top.window.marks,
+            top.window.marked,
+            keeps,
+        );
+        self.below
+            .push_reserved(waiting(top, wait, keeps, stack, marked));
         let layout = lay_out(&mut self.values, place, given, shape);
         self.top = begun(function, shape.stack, layout, top.window.marks + marked);
         Ok(())
