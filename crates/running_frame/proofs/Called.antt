@@ -1,4 +1,4 @@
--- A call of a Lua function on a stack is a step of the machine, and so is one in place of the frame on top.
+-- A call of a Lua function on a stack is a step of the machine, and so are one of an iterator and one in place of the frame on top.
 use Rattle.std.proofs.Common.{◌≡◌, ℕ, zero, suc, ◌+◌, ◌≤◌, List, [], ◌∷◌, ◌++◌, length, map, Some, refl, ap, sym, ◌∙◌, arith, true}
 use Rattle.std.specs.Prelude.{nat_le, nat_lt, slice_get}
 use Rattle.std.proofs.lemmas.List.{append_assoc, length-map}
@@ -7,7 +7,7 @@ use Rattle.code_core.specs.Instruction.{a_of}
 use Rattle.code_core.specs.declared.instruction.Instruction.{Instruction}
 use Rattle.int_core.specs.Limits.{greatest_depth}
 use Rattle.int_core.specs.Value.{a_function, nth, object, range}
-use Rattle.machine_core.specs.World.{Function, close_from, for_call, Activation, LuaFrame, Frame, lua}
+use Rattle.machine_core.specs.World.{Function, close_from, for_call, for_iterator, Activation, LuaFrame, Frame, lua}
 use Rattle.machine_core.specs.Text.{behind}
 use Rattle.machine_core.specs.Moves.{ends, go, new_frame}
 use Rattle.machine_core.specs.MachineStep.{and_then, steps}
@@ -30,10 +30,10 @@ use Rattle.lua_heap.specs.Reading.{value}
 use Rattle.machine_arms_tables.specs.Frame.{Code}
 use Rattle.machine_loop.specs.Running.{Running}
 use Rattle.machine_loop.proofs.Closing.{stays}
-use Rattle.running_frame.specs.Calling.{AreFunctions, CallsIn, HasShapeIn, HoldsCallee, TailCallsIn}
+use Rattle.running_frame.specs.Calling.{AreFunctions, CallsIn, HasShapeIn, HoldsCallee, IteratesIn, TailCallsIn}
 use Rattle.running_frame.specs.Standing.{RunsAt, standing}
 use Rattle.running_frame.proofs.Closed.{closes_nothing, frame_count}
-use Rattle.running_frame.proofs.FrameRows.{call_steps, giving, tail_call_steps}
+use Rattle.running_frame.proofs.FrameRows.{call_steps, giving, iterate_steps, iterating, tail_call_steps}
 use Rattle.running_frame.proofs.Held.{frame_is}
 
 pub behind_within : (from n size : ℕ) → from + n ≤ size → behind from n ≤ size
@@ -111,6 +111,41 @@ module _ (g : Running) (k : Code) (s : KeptStack) (ts : List Contents) (cs : Lis
               (call_steps ctx ready_held.stands (held_on fuel own_now) w (word_is w word) x.is_call e.given e.id.0 q left e.wants (there e.registers e.are (a_of w) e.given e.id e.holds)
               (callee_is e.registers e.are (a_of w) e.given e.id e.holds) (all e.registers e.are (a_of w) e.given e.id e.holds) fn x.paid room g.around.rows)
               ∙ ap (ends go) (sym (ap (λ fs. stacked ctx.base ctx.coroutine fs (heap g.around.texts ts g.string_metatable) (map (cell g.around.texts) cs) left []) frames_are)),
+        )
+
+  -- the iterator of a loop
+  module _ (u : KeptStack) (size : ℕ) (funcs : List Func) (codes : Codes) (w : Instruction) (left : ℕ) (x : IteratesIn s u size funcs codes w fuel left) (q : Function)
+      (fn : slice_get g.around.context.base.functions x.enters.id.0 ≡ Some q) (shape_is : IsShapeOf q.code x.enters.shape) (size_is : size ≡ g.around.context.closure.code.own.stack) where
+    abbrev in_loop : Context
+    in_loop = g.around.context
+
+    abbrev from_loop : ℕ → ℕ → LuaFrame
+    from_loop n size = record (with_wait for_iterator (given_up (a_of w + 4) size r.may.top)) { function = n }
+
+    abbrev iterator : ℕ → Frame
+    iterator from = new_frame x.enters.id.0 q.code (range from 2 own_now.registers)
+
+    one_more_fits : nat_le (length in_loop.below + 1 + 1) greatest_depth ≡ true
+    one_more_fits = ap (λ n. nat_le (n + 1) greatest_depth) (sym depth_is) ∙ le_true (length s.frames + 1) greatest_depth x.enters.room
+
+    iterator_on_top : frames (value g.around.texts) u ≡ in_loop.below ++ lua (iterating in_loop (a_of w + 4) own_now) ∷ [] ++ iterator (a_of w + 1) ∷ []
+    iterator_on_top =
+        let one_more : suc (a_of w) ≡ a_of w + 1 = omega arith in
+        x.enters.calls.called (value g.around.texts) refl q.code shape_is in_loop.below r.may.top r.may.is
+        ∙ ap (λ n. in_loop.below ++ lua (from_loop r.may.top.function n) ∷ iterator (suc (a_of w)) ∷ []) size_is
+        ∙ ap (λ n. in_loop.below ++ lua (from_loop n in_loop.closure.code.own.stack) ∷ iterator (suc (a_of w)) ∷ []) r.may.function
+        ∙ ap (λ n. in_loop.below ++ lua (iterating in_loop (a_of w + 4) own_now) ∷ iterator n ∷ []) one_more
+        ∙ sym (append_assoc in_loop.below (lua (iterating in_loop (a_of w + 4) own_now) ∷ []) (iterator (a_of w + 1) ∷ []))
+
+    pub iterated_so : slice_get k.words pc ≡ Some w → Reaches g.around.rows (standing g s ts cs fuel) (standing g u ts cs left)
+    iterated_so word =
+        let e = x.enters in (
+          1,
+          ap (steps g.around.rows 1 go) standing_is
+              ∙ ap (λ o. and_then o (steps g.around.rows 0))
+              (iterate_steps in_loop ready_held.stands (held_on fuel own_now) w (word_is w word) x.is_iteration e.id.0 q left (there e.registers e.are (a_of w) 2 e.id e.holds)
+              (callee_is e.registers e.are (a_of w) 2 e.id e.holds) (all e.registers e.are (a_of w) 2 e.id e.holds) fn x.paid one_more_fits g.around.rows)
+              ∙ ap (ends go) (sym (ap (λ fs. stacked in_loop.base in_loop.coroutine fs (heap g.around.texts ts g.string_metatable) (map (cell g.around.texts) cs) left []) iterator_on_top)),
         )
 
   -- a function that takes the place of the frame

@@ -1,11 +1,12 @@
 -- What a call on a stack tests.
 use Rattle.std.proofs.Common.{◌≡◌, ℕ, zero, suc, ◌≤◌, ◌∷◌, [], List, Option, Some, None, refl, ap, sym, arith, true}
 use Rattle.code_core.specs.declared.opcode.Opcode.{Opcode}
-use Rattle.code_core.specs.declared.opcode.Opcode.TheVariants.{Call, TailCall}
+use Rattle.code_core.specs.declared.opcode.Opcode.TheVariants.{Call, TailCall, TForCall, VarArg}
 use Rattle.machine_sound.proofs.Lists.{some_is}
 use Rattle.lua_stack.specs.declared.frame.OpenCell.{OpenCell}
 use Rattle.lua_stack.specs.Frames.{AllBelow, KeptStack, NoneFrom, top_number}
-use Rattle.running_frame.specs.Calling.{is_call, is_tail_call, one_less}
+use Rattle.running_frame.specs.Calling.{is_call, is_iteration, is_tail_call, one_less}
+use Rattle.running_frame.specs.Listing.{taken_of}
 
 pub call_is : (o : Option Opcode) → is_call o ≡ true → o ≡ Some Call
 call_is (Some Call) h = refl
@@ -14,6 +15,10 @@ call_is _ h = absurd (cc)
 pub tail_call_is : (o : Option Opcode) → is_tail_call o ≡ true → o ≡ Some TailCall
 tail_call_is (Some TailCall) h = refl
 tail_call_is _ h = absurd (cc)
+
+pub iteration_is : (o : Option Opcode) → is_iteration o ≡ true → o ≡ Some TForCall
+iteration_is (Some TForCall) h = refl
+iteration_is _ h = absurd (cc)
 
 -- numbers that are counted from one
 
@@ -26,6 +31,10 @@ some_less n m e = ap one_less (sym e)
 pub less_is : (n m : ℕ) → one_less n ≡ Some m → n ≡ suc m
 less_is zero m e = absurd (cc)
 less_is (suc n) m e = ap suc (some_is {o = Some n} refl e)
+
+pub taken_is : (o : Option Opcode) (n count : ℕ) → taken_of o n ≡ Some count → (o ≡ Some VarArg) × (n ≡ suc count)
+taken_is (Some VarArg) n count e = (refl, less_is n count e)
+taken_is _ n count e = absurd (cc)
 
 below_more : (frame r q : ℕ) (cs : List OpenCell) → r ≤ q → AllBelow frame r cs → AllBelow frame q cs
 below_more frame r q [] l b = tt

@@ -1,4 +1,4 @@
--- CALL of a Lua function and returns to a Lua frame that waits for them, with the frame that runs held apart: each is steps of the machine.
+-- Calls of Lua functions and returns to a Lua frame that waits for them, with the frame that runs held apart: each is steps of the machine.
 use Rattle.std.proofs.Common.{arith, ◌≡◌, ℕ, zero, suc, ◌+◌, List, [], ◌∷◌, ◌++◌, length, drop, Option, Some, None, refl, ap, sym, ◌∙◌, true, false}
 use Rattle.std.specs.Prelude.{◌==◌, ◌-◌, cond, filter, nat_le, nat_lt, slice_get}
 use Rattle.std.proofs.lemmas.Bool.Decides.{nat_tests}
@@ -76,6 +76,29 @@ module _ (c : Context) (s : Stands c) (h : Held) (w : Instruction) (at_pc : at c
       ∙ ap (λ n. run (expand (read_values (a + 1) n (λ v _. called_with 0 v ms))) (x ∷ []) W) b
       ∙ own_runs c s h (read_registers (a + 1) given) (λ v _. called_with 0 v ms) (x ∷ []) all
       ∙ call_is c s h (x ∷ range (a + 1) given h.own.registers) (read 0) 1 for_call ms id q left is fn pay room)
+
+-- what a frame becomes that calls the iterator of its loop
+abbrev pub iterating : Context → ℕ → Activation → LuaFrame
+iterating c keeps now = record (giving c keeps now) { wait = for_iterator }
+
+abbrev iterated_with : ℕ → ℕ → List Own → Text
+iterated_with f v ms = call (read f) v for_iterator ms
+
+module _ (c : Context) (s : Stands c) (h : Held) (w : Instruction) (at_pc : at c.closure.code h.own.pc ≡ Some w) (is_iteration : opcode_of w ≡ Some TForCall) where
+  pub iterate_steps : (id : ℕ) (q : Function) (left : ℕ) → nat_lt (a_of w) (length h.own.registers) ≡ true → nth h.own.registers (a_of w) ≡ object a_function id
+      → nat_le (behind (a_of w + 1) 2) (length h.own.registers) ≡ true → slice_get c.base.functions id ≡ Some q → h.fuel ≡ suc left → nat_le (length c.below + 1 + 1) greatest_depth ≡ true → (rows : ℕ → Row)
+      → step rows go (world c h)
+      ≡ ends go (world (inner c (iterating c (a_of w + 4) h.own) id q) (record { heap = h.heap; cells = h.cells; fuel = left; own = began q.code (range (a_of w + 1) 2 h.own.registers) }))
+  iterate_steps id q left there is all fn pay room rows =
+      let W = world c h in
+      let a = a_of w in
+      let ms = drop_pending (a + 4) ∷ cut_from (a + 4) ∷ [] in
+      let x = nth h.own.registers a in
+      row_is c s h w TForCall at_pc is_iteration rows
+      ∙ ap (from_world W) (
+      own_runs c s h (read_register a) (λ f _. own (read_registers (a + 1) 2) (λ v _. iterated_with f v ms)) [] there
+      ∙ own_runs c s h (read_registers (a + 1) 2) (λ v _. iterated_with 0 v ms) (x ∷ []) all
+      ∙ call_is c s h (x ∷ range (a + 1) 2 h.own.registers) (read 0) 1 for_iterator ms id q left is fn pay room)
 
 -- tail calls
 

@@ -35,12 +35,12 @@ use Rattle.running_frame.specs.Calling.{AreFunctions, KnownFunction}
 use Rattle.running_frame.specs.Returning.{Crosses, ReturnsIn, count_of}
 use Rattle.running_frame.specs.Standing.{RunsAt, standing}
 use Rattle.running_frame.proofs.Calls.{less_is}
-use Rattle.running_frame.proofs.Called.{behind_within, called_so, held_on, own_now, ready_held, shape_known, standing_is, tail_called_so, word_is}
+use Rattle.running_frame.proofs.Called.{behind_within, called_so, held_on, iterated_so, own_now, ready_held, shape_known, standing_is, tail_called_so, word_is}
 use Rattle.running_frame.proofs.Chained.{reaches_none}
 use Rattle.running_frame.proofs.Closed.{closes_nothing}
 use Rattle.running_frame.proofs.FrameRows.{given, handed, outer, return_row, return_steps, still_waits, takes, takes_all}
-use Rattle.running_frame.proofs.Listed.{listed_so}
 use Rattle.running_frame.proofs.Takers.{map_more, two_range}
+use Rattle.running_frame.proofs.TakenVarargs.{written_varargs_so}
 
 -- without its last item, item by item
 map_without : {A B : Type 0} (f : A → B) (xs : List A) → map f (without_last xs) ≡ without_last (map f xs)
@@ -226,11 +226,14 @@ module _ (g : Running) (k : Code) (s : KeptStack) (ts : List Contents) (cs : Lis
 crossed_so : (g : Running) (k : Code) (s : KeptStack) (ts : List Contents) (cs : List KeptCell) (fuel pc : ℕ) → RunsAt g k s ts cs fuel pc → (u : KeptStack) (size : ℕ) (funcs : List Func) (codes : Codes) (w : Instruction) (left : ℕ)
     → AreFunctions g.around.context.base.functions funcs codes → size ≡ g.around.context.closure.code.own.stack → slice_get k.words pc ≡ Some w → Crosses s u size funcs codes k.words pc w fuel left
     → Reaches g.around.rows (standing g s ts cs fuel) (standing g u ts cs left)
-crossed_so g k s ts cs fuel pc r u size funcs codes w left a e word (inl x) =
+crossed_so g k s ts cs fuel pc r u size funcs codes w left a e word (inl (inl x)) =
     let q = shape_known g.around.context.base.functions funcs codes a x.enters.id x.enters.shape x.enters.has in
     called_so g k s ts cs fuel pc r u size funcs codes w left x q.0 q.1 q.2 e word
+crossed_so g k s ts cs fuel pc r u size funcs codes w left a e word (inl (inr x)) =
+    let q = shape_known g.around.context.base.functions funcs codes a x.enters.id x.enters.shape x.enters.has in
+    iterated_so g k s ts cs fuel pc r u size funcs codes w left x q.0 q.1 q.2 e word
 crossed_so g k s ts cs fuel pc r u size funcs codes w left a e word (inr (inl x)) =
-    subst (λ (n : ℕ). Reaches g.around.rows (standing g s ts cs fuel) (standing g u ts cs n)) (sym x.1) (listed_so g k s ts cs fuel pc r u w x.0 word)
+    subst (λ (n : ℕ). Reaches g.around.rows (standing g s ts cs fuel) (standing g u ts cs n)) (sym x.1) (written_varargs_so g k s ts cs fuel pc r u w x.0 word)
 crossed_so g k s ts cs fuel pc r u size funcs codes w left a e word (inr (inr (inl x))) =
     let q = shape_known g.around.context.base.functions funcs codes a x.enters.id x.enters.shape x.enters.has in
     tail_called_so g k s ts cs fuel pc r u funcs codes w left x q.0 q.1 q.2 word

@@ -1,8 +1,8 @@
 -- Calls of Lua functions as changes of a stack.
-use Rattle.std.specs.Prelude.{◌≡◌, ◌+◌, ◌<◌, ◌≤◌, ℕ, zero, suc, Bool, true, false, List, Option, Some, None, length, map, slice_get}
+use Rattle.std.specs.Prelude.{◌≡◌, ◌⊎◌, ◌+◌, ◌<◌, ◌≤◌, ℕ, zero, suc, Bool, true, false, List, Option, Some, None, length, map, slice_get}
 use Rattle.code_core.specs.declared.instruction.Instruction.{Instruction}
 use Rattle.code_core.specs.declared.opcode.Opcode.{Opcode}
-use Rattle.code_core.specs.declared.opcode.Opcode.TheVariants.{Call, TailCall}
+use Rattle.code_core.specs.declared.opcode.Opcode.TheVariants.{Call, TailCall, TForCall}
 use Rattle.code_core.specs.Instruction.{a_of, b_of, opcode_of}
 use Rattle.int_core.specs.Limits.{greatest_depth}
 use Rattle.machine_core.specs.World.{Function}
@@ -10,8 +10,8 @@ use Rattle.table_core.specs.declared.value.FuncId.{FuncId}
 use Rattle.table_core.specs.declared.value.Value.{Value as Kept}
 use Rattle.table_core.specs.declared.value.Value.TheVariants.{Func as a_func}
 use Rattle.lua_stack.specs.declared.frame.Shape.{Shape}
-use Rattle.lua_stack.specs.declared.frame.Wait.TheVariants.{ForCall}
-use Rattle.lua_stack.specs.Frames.{Calls, KeptStack, OnTop, Replaces}
+use Rattle.lua_stack.specs.declared.frame.Wait.TheVariants.{ForCall, ForIterator}
+use Rattle.lua_stack.specs.Frames.{Calls, CallsBehind, KeptStack, OnTop, Replaces}
 use Rattle.lua_heap.specs.declared.codes.Code.{Code}
 use Rattle.lua_heap.specs.declared.codes.Codes.{Codes}
 use Rattle.lua_heap.specs.declared.world.Func.{Func}
@@ -24,6 +24,10 @@ is_call _ = false
 abbrev pub is_tail_call : Option Opcode → Bool
 is_tail_call (Some TailCall) = true
 is_tail_call _ = false
+
+abbrev pub is_iteration : Option Opcode → Bool
+is_iteration (Some TForCall) = true
+is_iteration _ = false
 
 -- one less than a number of values that is counted from one: 0 stands for an open list
 abbrev pub one_less : ℕ → Option ℕ
@@ -66,6 +70,27 @@ pub record CallsIn (s u : KeptStack) (size : ℕ) (funcs : List Func) (codes : C
   pub is_call : opcode_of w ≡ Some Call
   pub paid : fuel ≡ suc left
   pub enters : EntersIn s u size funcs codes w
+
+-- the Lua function in a register is entered with the values of the two behind it, which the frame keeps
+pub record IteratesOver (s u : KeptStack) (size : ℕ) (funcs : List Func) (codes : Codes) (w : Instruction) : Type 0 where
+  pub id : FuncId
+  pub registers : List Kept
+  pub are : OnTop s (λ f t. map f registers ≡ t.own.registers)
+  pub holds : HoldsCallee registers (a_of w) 2 id
+  pub shape : Shape
+  pub has : HasShapeIn funcs codes id shape
+  pub calls : CallsBehind s u (a_of w) 2 (a_of w + 4) ForIterator size id shape
+  pub room : length s.frames + 1 ≤ greatest_depth
+
+-- a TFORCALL does so for a unit of the budget
+pub record IteratesIn (s u : KeptStack) (size : ℕ) (funcs : List Func) (codes : Codes) (w : Instruction) (fuel left : ℕ) : Type 0 where
+  pub is_iteration : opcode_of w ≡ Some TForCall
+  pub paid : fuel ≡ suc left
+  pub enters : IteratesOver s u size funcs codes w
+
+-- a CALL or a TFORCALL
+abbrev pub CallsOn : (s u : KeptStack) (size : ℕ) → List Func → Codes → Instruction → (fuel left : ℕ) → Type 0
+CallsOn s u size funcs codes w fuel left = CallsIn s u size funcs codes w fuel left ⊎ IteratesIn s u size funcs codes w fuel left
 
 -- it takes the place of the frame on top, in which nothing is open or to be closed
 pub record ReplacesIn (s u : KeptStack) (funcs : List Func) (codes : Codes) (w : Instruction) : Type 0 where

@@ -16,8 +16,8 @@ use Rattle.lua_stack.specs.Frames.{KeptFrame, KeptLua, KeptStack, OnTop, TopBeco
 use Rattle.lua_heap.specs.declared.codes.Code.{Code}
 use Rattle.lua_heap.specs.declared.codes.Codes.{Codes}
 use Rattle.lua_heap.specs.declared.world.Func.{Func}
-use Rattle.running_frame.specs.Calling.{CallsIn, TailCallsIn, one_less}
-use Rattle.running_frame.specs.Listing.{ListsVarargs}
+use Rattle.running_frame.specs.Calling.{CallsOn, TailCallsIn, one_less}
+use Rattle.running_frame.specs.Listing.{WritesVarargs}
 use Rattle.running_frame.specs.Standing.{IsClosedFrom}
 use Rattle.running_frame.specs.declared.returning.Given.{Given}
 use Rattle.running_frame.specs.declared.returning.Taker.{Taker}
@@ -132,10 +132,10 @@ pub record ReturnsIn (s u : KeptStack) (funcs : List Func) (codes : Codes) (w : 
 abbrev pub Leaves : (s u : KeptStack) → List Func → Codes → Instruction → (fuel left : ℕ) → Type 0
 Leaves s u funcs codes w fuel left = TailCallsIn s u funcs codes w fuel left ⊎ (ReturnsIn s u funcs codes w × (left ≡ fuel))
 
--- an open list of extra arguments, a tail call or a return
+-- extra arguments that are written to registers, a tail call or a return
 abbrev pub GoesOn : (s u : KeptStack) → List Func → Codes → List Instruction → (pc : ℕ) → Instruction → (fuel left : ℕ) → Type 0
-GoesOn s u funcs codes words pc w fuel left = (ListsVarargs s u words pc w × (left ≡ fuel)) ⊎ Leaves s u funcs codes w fuel left
+GoesOn s u funcs codes words pc w fuel left = (WritesVarargs s u words pc w × (left ≡ fuel)) ⊎ Leaves s u funcs codes w fuel left
 
 -- one of these, or a call
 abbrev pub Crosses : (s u : KeptStack) (size : ℕ) → List Func → Codes → List Instruction → (pc : ℕ) → Instruction → (fuel left : ℕ) → Type 0
-Crosses s u size funcs codes words pc w fuel left = CallsIn s u size funcs codes w fuel left ⊎ GoesOn s u funcs codes words pc w fuel left
+Crosses s u size funcs codes words pc w fuel left = CallsOn s u size funcs codes w fuel left ⊎ GoesOn s u funcs codes words pc w fuel left

@@ -62,7 +62,7 @@ fn enter(
     let given = one_less(i.b())?;
     let id = callee(stack.registers(), register, given)?;
     let shape = shape_of(funcs, codes, id)?;
-    if !may_give_up(stack, register, size, closed) {
+    if !may_give_up(stack, register, size, size, closed) {
         return None;
     }
     match stack.call(register, given, Wait::ForCall, size, id, shape) {
@@ -111,13 +111,19 @@ pub(crate) fn shape_of(funcs: &Pool<Func>, codes: &Codes, id: FuncId) -> Option<
     })
 }
 
-/// Whether the frame on top may give its registers from one on up: nothing is open behind those of its code.
-fn may_give_up(stack: &Stack, register: usize, size: usize, closed: Option<usize>) -> bool
+/// Whether the frame on top may give its registers from one on up: it has all those of its code, and nothing is open from the register `free` on.
+pub(crate) fn may_give_up(
+    stack: &Stack,
+    register: usize,
+    size: usize,
+    free: usize,
+    closed: Option<usize>,
+) -> bool
     requires top { HasLuaTop stack.now }
     requires closed { IfSome closed (λ register. IsClosedFrom stack.now register) }
     ensures within { result ≡ true → register ≤ size }
     ensures there { result ≡ true → HasRegisters stack.now size }
-    ensures closed { result ≡ true → NoneFrom stack.now size }
+    ensures closed { result ≡ true → NoneFrom stack.now free }
 {
     if register > size {
         return false;
@@ -126,7 +132,7 @@ fn may_give_up(stack: &Stack, register: usize, size: usize, closed: Option<usize
         return false;
     }
     match closed {
-        Some(first) => first <= size,
+        Some(first) => first <= free,
         None => false,
     }
 }

@@ -5,7 +5,7 @@ ghost use Rattle.machine_arms_tables.specs.Frame.{AreOpenAlike, code};
 ghost use Rattle.machine_focus.specs.Focus.{Reaches};
 ghost use Rattle.machine_loop.specs.Running.{Running};
 ghost use Rattle.running_frame.specs.Asking.{AsksOver, ReachesOut, ReadSame};
-ghost use Rattle.running_frame.specs.Calling.{AreFunctions, HaveCode};
+ghost use Rattle.running_frame.specs.Calling.{AreFunctions, CallsOn, HaveCode};
 ghost use Rattle.running_frame.specs.Inheriting.{metatable_number};
 ghost use Rattle.running_frame.specs.Returning.{Crosses, GoesOn, Leaves};
 ghost use Rattle.running_frame.specs.Standing.{IsClosedFrom, IsHereIn, MayRun, standing};
@@ -14,7 +14,8 @@ ghost use Rattle.running_frame.specs.Upvalues.{ListsOpen};
 
 use crate::asking::ask_over;
 use crate::calling::call_function;
-use crate::listing::list_varargs;
+use crate::iterating::call_iterator;
+use crate::listing::write_varargs;
 use crate::place::Here;
 use crate::returning::return_values;
 use crate::stack::{Stop, run_stack};
@@ -177,7 +178,7 @@ fn store(
     }
 }
 
-/// Calls a function, returns to a frame below, or lists extra arguments, where this changes nothing but the stack.
+/// Calls a function, returns to a frame below, or writes extra arguments, where this changes nothing but the stack.
 fn cross(
     stack: &mut Stack,
     size: usize,
@@ -194,6 +195,28 @@ fn cross(
     ensures kept { IfNone result ((stack.new ≡ stack.old) × (budget.new ≡ budget.old)) }
     ensures listed { stack.new.open_cells ≡ stack.old.open_cells }
 {
+    match call_or_iterate(stack, size, funcs, codes, budget, stop) {
+        Some(()) => Some(()),
+        None => go_on(stack, funcs, codes, words, budget, stop),
+    }
+}
+
+/// Calls a function, or the iterator of a loop.
+fn call_or_iterate(
+    stack: &mut Stack,
+    size: usize,
+    funcs: &Pool<Func>,
+    codes: &Codes,
+    budget: &mut u64,
+    stop: Stop,
+) -> Option<()>
+    requires top { HasLuaTop stack.old }
+    requires codes { HaveCode funcs.now.objects codes.now }
+    requires closed { IfSome stop.closed (λ register. IsClosedFrom stack.old register) }
+    ensures calls { IfSome result (λ _. CallsOn stack.old stack.new size funcs.now.objects codes.now stop.here.word budget.old budget.new) }
+    ensures kept { IfNone result ((stack.new ≡ stack.old) × (budget.new ≡ budget.old)) }
+    ensures listed { stack.new.open_cells ≡ stack.old.open_cells }
+{
     match call_function(
         stack,
         size,
@@ -204,11 +227,19 @@ fn cross(
         stop.closed,
     ) {
         Some(()) => Some(()),
-        None => go_on(stack, funcs, codes, words, budget, stop),
+        None => call_iterator(
+            stack,
+            size,
+            funcs,
+            codes,
+            budget,
+            stop.here.word,
+            stop.closed,
+        ),
     }
 }
 
-/// Lists extra arguments, calls a function in place of the frame on top, or returns from it.
+/// Writes extra arguments, calls a function in place of the frame on top, or returns from it.
 fn go_on(
     stack: &mut Stack,
     funcs: &Pool<Func>,
@@ -224,7 +255,7 @@ fn go_on(
     ensures kept { IfNone result ((stack.new ≡ stack.old) × (budget.new ≡ budget.old)) }
     ensures listed { stack.new.open_cells ≡ stack.old.open_cells }
 {
-    match list_varargs(stack, words, stop.here) {
+    match write_varargs(stack, words, stop.here) {
         Some(()) => Some(()),
         None => leave(stack, funcs, codes, budget, stop),
     }

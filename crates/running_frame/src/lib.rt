@@ -8,6 +8,7 @@ mod calling;
 mod closing;
 mod frames;
 mod inherited;
+mod iterating;
 mod listing;
 mod place;
 mod returning;

@@ -1,16 +1,72 @@
-// Extra arguments as an open list, which change nothing but the stack (OP_VARARG of lvm.c).
+// Extra arguments in registers, as an open list or at most two of them, which change nothing but the stack (OP_VARARG of lvm.c).
 ghost use Rattle.std.specs.Prelude.{◌≡◌, ◌<◌, ◌+◌, IfNone, IfSome, length, true};
 ghost use Rattle.code_core.specs.Instruction.{c_of, opcode_of};
 ghost use Rattle.lua_stack.specs.Frames.{HasLuaTop};
-ghost use Rattle.running_frame.specs.Listing.{ListsVarargs, is_list};
+ghost use Rattle.running_frame.specs.Listing.{ListsVarargs, TakesVarargs, WritesVarargs, is_list, taken_of};
 
+use crate::calling::one_less;
 use crate::place::Here;
+use crate::returning::{Taker, hand};
+use crate::taking::first_two;
 use code_core::{Instruction, Opcode};
 use lua_stack::Stack;
 
-/// A VARARG that makes an open list of all arguments beyond the parameters: the frame goes on behind it. `None`, with all as before, at any other instruction, and
-/// where memory runs out.
-pub(crate) fn list_varargs(stack: &mut Stack, words: &[Instruction], here: Here) -> Option<()>
+/// A VARARG: the arguments beyond the parameters are written to registers, all as an open list or at most two of them, and the frame goes on behind it. `None`, with
+/// all as before, at any other instruction, where more are wanted, and where memory runs out.
+pub(crate) fn write_varargs(stack: &mut Stack, words: &[Instruction], here: Here) -> Option<()>
+    requires top { HasLuaTop stack.old }
+    ensures writes { IfSome result (λ _. WritesVarargs stack.old stack.new words.now here.pc here.word) }
+    ensures kept { IfNone result (stack.new ≡ stack.old) }
+    ensures listed { stack.new.open_cells ≡ stack.old.open_cells }
+{
+    match list_varargs(stack, words, here) {
+        Some(()) => Some(()),
+        None => take_varargs(stack, words, here),
+    }
+}
+
+/// Writes at most two of them.
+fn take_varargs(stack: &mut Stack, words: &[Instruction], here: Here) -> Option<()>
+    requires { HasLuaTop stack.old }
+    ensures takes { IfSome result (λ _. TakesVarargs stack.old stack.new words.now here.pc here.word) }
+    ensures kept { IfNone result (stack.new ≡ stack.old) }
+    ensures listed { stack.new.open_cells ≡ stack.old.open_cells }
+{
+    let count = count_taken(here.word)?;
+    if count > 2 {
+        return None;
+    }
+    let register = here.word.a() as usize;
+    let end = register.checked_add(count)?;
+    if end > stack.registers().len() {
+        return None;
+    }
+    let to = behind(words, here.pc)?;
+    let given = first_two(stack.varargs());
+    hand(
+        stack,
+        Taker {
+            register,
+            count,
+            to,
+        },
+        given,
+    );
+    Some(())
+}
+
+/// How many of them an instruction wants, where it says so.
+fn count_taken(i: Instruction) -> Option<usize>
+    ensures { result ≡ taken_of (opcode_of i) (c_of i) }
+{
+    match i.opcode() {
+        Some(Opcode::VarArg) => one_less(i.c()),
+        _ => None,
+    }
+}
+
+/// Writes all of them as an open list.
+fn list_varargs(stack: &mut Stack, words: &[Instruction], here: Here) -> Option<()>
     requires top { HasLuaTop stack.old }
     ensures lists { IfSome result (λ _. ListsVarargs stack.old stack.new words.now here.pc here.word) }
     ensures kept { IfNone result (stack.new ≡ stack.old) }

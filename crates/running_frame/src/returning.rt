@@ -19,9 +19,9 @@ use table_core::Value;
 /// What the instruction wants at which a frame waits: at most two values, in registers, and where it goes on.
 #[derive(Clone, Copy, Debug)]
 pub(crate) struct Taker {
-    register: usize,
-    count: usize,
-    to: usize,
+    pub(crate) register: usize,
+    pub(crate) count: usize,
+    pub(crate) to: usize,
 }
 
 /// The first two values that come to it, nil where there are fewer.

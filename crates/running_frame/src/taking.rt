@@ -66,7 +66,7 @@ fn take_moving(world: &mut World) -> Option<()>
 }
 
 /// The first two of some values, nil where there are fewer.
-fn first_two(values: &[Value]) -> Given
+pub(crate) fn first_two(values: &[Value]) -> Given
     ensures { AreFirst (λ f. map f values.now) result }
 {
     let first = value_or_nil(values, 0);

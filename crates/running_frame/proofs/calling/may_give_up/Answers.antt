@@ -15,5 +15,5 @@ returns-in-Some-clause-there c = λ yes.
 pub returns-in-Some-clause-closed : goal.returns-in-Some-clause-closed
 returns-in-Some-clause-closed c = λ yes.
     let k = subst (λ o. IfSome o (λ register. IsClosedFrom c.args.stack.now register)) c.in-Some.is c.requires.closed in
-    let l : c.in-Some.first ≤ c.args.size = search (rules, arith) in
+    let l : c.in-Some.first ≤ c.args.free = search (rules, arith) in
     none_further l k.none
