@@ -2,6 +2,7 @@ mod Settling
 mod Inheriting
 mod Leading
 mod FieldRows
+mod MakingRows
 mod SelfRow
 mod Operands
 pub mod Steps

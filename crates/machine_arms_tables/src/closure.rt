@@ -73,4 +73,14 @@ impl<'a> Closure<'a> {
         let _size = self.words.len();
         pc + 1
     }
+
+    /// The place behind an instruction of two words.
+    #[inline(always)]
+    pub(crate) fn behind_pair(self, pc: usize) -> usize
+        requires { pc + 2 < length self.words.now }
+        ensures { result ≡ pc + 2 }
+    {
+        let _size = self.words.len();
+        pc + 2
+    }
 }

@@ -5,6 +5,7 @@ ghost use Rattle.machine_view.specs.View.{IsAt};
 
 use crate::closure::Closure;
 use crate::lengths::get_length;
+use crate::making::new_table;
 use crate::reads::{get_element, get_field, get_integer, get_method, get_upvalue_field};
 use crate::upvalues::{get_upvalue, set_upvalue};
 use crate::writes::{set_element, set_field, set_integer, set_upvalue_field};
@@ -80,6 +81,7 @@ fn run_on_objects(
         Opcode::SetField => set_field(closure, tables, registers, i, pc),
         Opcode::OpSelf => get_method(closure, strings, tables, registers, i, pc),
         Opcode::Len => get_length(closure, strings, tables, registers, i, pc),
+        Opcode::NewTable => new_table(closure, tables, registers, i, pc),
         _ => None,
     }
 }

@@ -48,6 +48,11 @@ impl<T> Pool<T> {
         }
     }
 
+    /// From where its memory comes.
+    pub fn allocator(&self) -> Global {
+        *self.segments.allocator()
+    }
+
     /// How many objects there are.
     pub fn len(&self) -> usize
         ensures { result ≡ length self.now.objects }

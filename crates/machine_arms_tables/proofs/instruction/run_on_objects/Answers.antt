@@ -36,3 +36,6 @@ returns-in-OpSelf-clause-goes c = if_some c.get_method.result (λ to goes fuel. 
 
 pub returns-in-Len-clause-goes : goal.returns-in-Len-clause-goes
 returns-in-Len-clause-goes c = if_some c.get_length.result (λ to goes fuel. by_opcode c.in-Len.is (goes c.args.cells.now.objects fuel)) c.get_length.ensures.goes
+
+pub returns-in-NewTable-clause-goes : goal.returns-in-NewTable-clause-goes
+returns-in-NewTable-clause-goes c = if_some c.new_table.result (λ to goes fuel. by_opcode c.in-NewTable.is (goes c.args.strings.now c.args.cells.now.objects fuel)) c.new_table.ensures.goes
