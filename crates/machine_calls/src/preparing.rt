@@ -28,7 +28,8 @@ pub enum Prepared {
     Closed { register: u32 },
 }
 
-/// Makes the Lua frame on top ready for a call: it does this to itself, and waits.
+/// Makes the Lua frame on top ready for a call: it does this to itself, and waits. Most callers know what it does, so the choice is made where they are built.
+#[inline(always)]
 pub fn make_ready(world: &mut World, wait: Wait, prepared: Prepared)
     requires order { InOrder world.old }
     requires ready { CanPrepare world.old prepared }
@@ -47,6 +48,7 @@ pub fn make_ready(world: &mut World, wait: Wait, prepared: Prepared)
 }
 
 /// Closes the cells that are to be closed.
+#[inline(always)]
 fn close_for(world: &mut World, prepared: Prepared)
     requires listed { CellsAreListed world.old }
     requires frame { HasFrame world.old }
@@ -66,6 +68,7 @@ fn close_for(world: &mut World, prepared: Prepared)
 }
 
 /// Changes the frame on top, whose cells are closed, and lets it wait.
+#[inline(always)]
 fn change_top(stack: &mut Stack, wait: Wait, prepared: Prepared, stack_size: usize)
     requires { CanChange stack.old prepared stack_size }
     ensures { TopBecomes stack.old stack.new (λ f t. with_wait (wait_of f wait) (changed f prepared stack_size t)) }
@@ -75,6 +78,7 @@ fn change_top(stack: &mut Stack, wait: Wait, prepared: Prepared, stack_size: usi
 }
 
 /// Changes the frame on top, whose cells are closed.
+#[inline(always)]
 fn change(stack: &mut Stack, prepared: Prepared, stack_size: usize)
     requires { CanChange stack.old prepared stack_size }
     ensures { TopBecomes stack.old stack.new (λ f t. changed f prepared stack_size t) }
@@ -90,6 +94,7 @@ fn change(stack: &mut Stack, prepared: Prepared, stack_size: usize)
 }
 
 /// Gives up the registers from one on, and what is pending among them.
+#[inline(always)]
 fn give_up(stack: &mut Stack, register: usize, stack_size: usize)
     requires top { HasTop stack.old stack_size }
     requires within { register ≤ stack_size }

@@ -21,6 +21,7 @@ use table_core::Value;
 
 /// Values go to so many registers from one on, at the place `pc`: to one fewer than `count`, or for 0 all of them as an open list. The frame goes on
 /// behind the instruction. A refusal changes nothing.
+#[inline(always)]
 pub fn take_results(
     world: &mut World,
     pc: usize,
@@ -42,6 +43,7 @@ pub fn take_results(
 }
 
 /// Writes them. A refusal changes nothing.
+#[inline(always)]
 fn write_values(
     world: &mut World,
     to: usize,
@@ -63,6 +65,7 @@ fn write_values(
 }
 
 /// Writes values to so many registers from one on: where there are fewer the others become nil, and further ones are dropped.
+#[inline(always)]
 pub fn write_registers(world: &mut World, at: usize, count: usize, values: &[Value])
     requires { CanDo world.old (writes at count 0) }
     ensures makes { (env : List Meant) (slot : ℕ) → drop slot env ≡ map (meant world.old.strings) values.now → Makes world.old world.new (on_own (writes at count slot)) env [] (is_known nil) }
@@ -81,6 +84,7 @@ pub fn write_registers(world: &mut World, at: usize, count: usize, values: &[Val
 }
 
 /// Writes values to so many registers of the frame on top, from one on.
+#[inline(always)]
 fn write_padded(stack: &mut Stack, at: usize, count: usize, values: &[Value])
     requires { HasTop stack.old (at + count) }
     ensures { TopBecomes stack.old stack.new (λ f t. with_registers (write_all at (range 0 count (map f values.now)) t.own.registers) t) }

@@ -89,6 +89,7 @@ impl Rows {
     }
 
     /// Puts a new row last, and answers how many rows there are then.
+    #[inline(always)]
     pub(crate) fn insert_last(&mut self, key: Value, value: Value) -> Result<usize, AllocError>
         requires { IsAbsent self.old key }
         ensures added { OnOk result (self.new ≡ self.old ++ (key, value) ∷ []) }
@@ -168,6 +169,7 @@ impl Rows {
     }
 
     /// How many rows there are.
+    #[inline(always)]
     pub(crate) fn len(&self) -> usize
         ensures len { result ≡ length self.now }
         ensures small { result < 2 ^ 63 }
@@ -238,6 +240,7 @@ fn integer_after(at: usize) -> Value
 }
 
 /// Whether a new key goes on with the array, after which there are as many rows as `keyed`.
+#[inline(always)]
 fn goes_on(numbered: usize, keyed: usize, key: Value) -> bool
     requires { numbered < 2 ^ 63 }
     ensures none { IsTrue result → keyed ≡ 0 }

@@ -137,6 +137,7 @@ impl Table {
     }
 
     /// Puts a new key last, and drops the cleared rows where they outnumbered the others.
+    #[inline(always)]
     fn append(&mut self, key: Value, value: Value) -> Result<(), AllocError>
         requires not_nil { key ≢ Value.Nil }
         requires absent { has_row lua_values self.old.rows key ≡ false }
