@@ -15,6 +15,7 @@ mod Passed
 mod TakenVarargs
 mod Stored
 mod Handlers
+mod FilledOne
 mod Takers
 mod Returned
 mod Apart

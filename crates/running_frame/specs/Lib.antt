@@ -7,5 +7,6 @@ pub mod Inheriting
 pub mod Calling
 pub mod Listing
 pub mod Storing
+pub mod Filling
 pub mod Returning
 pub mod Asking

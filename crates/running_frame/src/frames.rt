@@ -6,6 +6,7 @@ ghost use Rattle.machine_focus.specs.Focus.{Reaches};
 ghost use Rattle.machine_loop.specs.Running.{Running};
 ghost use Rattle.running_frame.specs.Asking.{AsksOver, ReachesOut, ReadSame};
 ghost use Rattle.running_frame.specs.Calling.{AreFunctions, CallsOn, HaveCode};
+ghost use Rattle.running_frame.specs.Filling.{WritesOn};
 ghost use Rattle.running_frame.specs.Inheriting.{metatable_number};
 ghost use Rattle.running_frame.specs.Returning.{Crosses, GoesOn, Leaves};
 ghost use Rattle.running_frame.specs.Standing.{IsClosedFrom, IsHereIn, MayRun, standing};
@@ -14,6 +15,7 @@ ghost use Rattle.running_frame.specs.Upvalues.{ListsOpen};
 
 use crate::asking::ask_over;
 use crate::calling::call_function;
+use crate::filling::fill_one;
 use crate::iterating::call_iterator;
 use crate::listing::write_varargs;
 use crate::place::Here;
@@ -69,6 +71,49 @@ pub(crate) fn run_frame_on_top(
         return Some(stop.here);
     }
     match cross(stack, size, funcs, codes, closure.words, budget, stop) {
+        Some(()) => None,
+        None => write(
+            stack,
+            closure,
+            size,
+            strings,
+            funcs,
+            codes,
+            tables,
+            cells,
+            budget,
+            co,
+            string_meta,
+            stop,
+        ),
+    }
+}
+
+/// Puts a value into a table of a constructor, or does what changes no table, where the frame on top is at such an instruction: `None`. Else all reads as before, and
+/// told is where the frame is.
+fn write(
+    stack: &mut Stack,
+    closure: Closure,
+    size: usize,
+    strings: &Strings,
+    funcs: &Pool<Func>,
+    codes: &Codes,
+    tables: &mut Pool<Table>,
+    cells: &Pool<Cell>,
+    budget: &mut u64,
+    co: CoroId,
+    string_meta: Option<TableId>,
+    stop: Stop,
+) -> Option<Here>
+    requires top { HasLuaTop stack.old }
+    requires codes { HaveCode funcs.now.objects codes.now }
+    requires cells { ListsOpen co.0 stack.old cells.now.objects }
+    requires closed { IfSome stop.closed (λ register. IsClosedFrom stack.old register) }
+    ensures writes { IfNone result (WritesOn co.0 (code closure.entry strings.now) stack.old stack.new tables.old.objects tables.new.objects (metatable_number string_meta) cells.now.objects funcs.now.objects codes.now size stop.here.pc stop.here.word budget.old budget.new) }
+    ensures kept { IfSome result (λ at. ReadSame stack.old stack.new × (budget.new ≡ budget.old) × (tables.new.objects ≡ tables.old.objects) × (at ≡ stop.here)) }
+    ensures listed { stack.new.open_cells ≡ stack.old.open_cells }
+{
+    match fill_one(stack, size, closure.words, tables, stop) {
         Some(()) => None,
         None => reach_out(
             stack,

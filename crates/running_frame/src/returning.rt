@@ -108,7 +108,7 @@ fn returned_from(registers: &[Value], register: usize, count: usize) -> Option<G
 }
 
 /// The value of the register behind one.
-fn second_of(registers: &[Value], register: usize) -> Option<Value>
+pub(crate) fn second_of(registers: &[Value], register: usize) -> Option<Value>
     ensures { IfSome result (λ v. slice_get registers.now (register + 1) ≡ Some v) }
 {
     let next = register.checked_add(1)?;
