@@ -17,12 +17,26 @@ pub(crate) fn mended(rows: &Rows, border: usize, key: Value, value: Value) -> us
 {
     match place_of(key) {
         Some(place) if value.is_nil() => border.min(place),
-        Some(place) if place == border => climbed(rows, border + 1),
+        Some(place) if place == border => raised(rows, border + 1),
         _ => border,
     }
 }
 
-/// The border of rows in which each integer up to `from` has a value.
+/// The border of rows in which each integer up to `from` has a value. Rows that grow at their end have no others, so nothing is looked for then.
+#[inline(always)]
+fn raised(rows: &Rows, from: usize) -> usize
+    requires { (m : ℕ) → m < from → is_nil (behind lua_values rows.now m) ≡ false }
+    ensures { IsBorder lua_values rows.now result }
+{
+    let most = rows.len();
+    let ends = from == most;
+    if ends {
+        return most;
+    }
+    climbed(rows, from)
+}
+
+/// So where there may be others.
 #[inline(never)]
 fn climbed(rows: &Rows, from: usize) -> usize
     requires { (m : ℕ) → m < from → is_nil (behind lua_values rows.now m) ≡ false }
