@@ -124,7 +124,7 @@ static SIMPLE: [Case; 7] = [
 ];
 
 /// Calls and jumps back that a budget allows, and one more.
-static BUDGETS: [Case; 11] = [
+static BUDGETS: [Case; 17] = [
     Case {
         options: "--budget 3",
         script: "while true do end",
@@ -213,6 +213,54 @@ static BUDGETS: [Case; 11] = [
         out: "yield\n",
         err: "luaris: budget spent\n",
     },
+    Case {
+        options: "--budget 5",
+        script: "local function it(s,c) if c<s then return c+1 end end for i in it,2,0 do end",
+        input: "",
+        status: 0,
+        out: "return\n",
+        err: "",
+    },
+    Case {
+        options: "--budget 4",
+        script: "local function it(s,c) if c<s then return c+1 end end for i in it,2,0 do end",
+        input: "",
+        status: 4,
+        out: "",
+        err: "luaris: budget spent\n",
+    },
+    Case {
+        options: "--budget 2",
+        script: "local function f(...) local a=... return a end f(1) f()",
+        input: "",
+        status: 0,
+        out: "return\n",
+        err: "",
+    },
+    Case {
+        options: "--budget 1",
+        script: "local function f(...) local a=... return a end f(1) f()",
+        input: "",
+        status: 4,
+        out: "",
+        err: "luaris: budget spent\n",
+    },
+    Case {
+        options: "--budget 2",
+        script: "for i=1,3 do local t={i} end",
+        input: "",
+        status: 0,
+        out: "return\n",
+        err: "",
+    },
+    Case {
+        options: "--budget 1",
+        script: "for i=1,3 do local t={i} end",
+        input: "",
+        status: 4,
+        out: "",
+        err: "luaris: budget spent\n",
+    },
 ];
 
 /// Sources that are refused.
@@ -244,7 +292,7 @@ static REFUSALS: [Case; 3] = [
 ];
 
 /// Functions, their variables, arguments and results.
-static FUNCTIONS: [Case; 6] = [
+static FUNCTIONS: [Case; 10] = [
     Case {
         options: "",
         script: "local f={} for i=1,3 do if i==2 then goto continue end f[#f+1]=function() i=i+1 return i end ::continue:: end print(f[1](),f[1](),f[2]())",
@@ -291,6 +339,38 @@ static FUNCTIONS: [Case; 6] = [
         input: "",
         status: 0,
         out: "1\n2\n3\nreturn\n",
+        err: "",
+    },
+    Case {
+        options: "",
+        script: "local function one(...) local a=... return a end local function two(...) local a,b=... return a,b end local function three(x,...) local a,b,c=... return x,a,b,c end print(one(),one(1,2),two(),two(1),(two(1,2))) print(two(1,2,3)) print(three(0,1,2),three(0,1,2,3,4))",
+        input: "",
+        status: 0,
+        out: "nil\t1\tnil\t1\t1\n1\t2\n0\t0\t1\t2\t3\nreturn\n",
+        err: "",
+    },
+    Case {
+        options: "",
+        script: "local function it(s,c) c=c+1 if c<=s then return c,c*c,c+s end end for i,q in it,2,0 do print(i,q) end for i,q,r in it,1,0 do print(i,q,r) end local n=0 for i in function(...) n=n+1 if n<3 then return select('#',...) end end do print(i) end",
+        input: "",
+        status: 0,
+        out: "1\t1\n2\t4\n1\t1\t2\n2\n2\nreturn\n",
+        err: "",
+    },
+    Case {
+        options: "",
+        script: "local f={} local function it(s,c) if c<s then return c+1 end end for i in it,3,0 do f[i]=function() i=i+1 return i end end print(f[1](),f[1](),f[3]()) print(pcall(function() for i in function() error(\"stop\",0) end do end end)) local function y(s,c) return coroutine.yield(c) end local co=coroutine.wrap(function() for i in y,nil,0 do print(i) end return \"end\" end) print(co(),co(5),co())",
+        input: "",
+        status: 0,
+        out: "2\t3\t4\nfalse\tstop\n5\n0\t5\tend\nreturn\n",
+        err: "",
+    },
+    Case {
+        options: "",
+        script: "local function it(s,c) if c<s then return c+1 end end for i in it,3,0,setmetatable({},{__close=function() print(\"closed\") end}) do if i==2 then break end print(i) end for i in setmetatable({},{__call=function(o,s,c) if c<2 then return c+1 end end}),nil,0 do print(i) end print(pcall(function() for i in 5 do end end))",
+        input: "",
+        status: 0,
+        out: "1\nclosed\n1\n2\nfalse\ts.lua:1: attempt to call a number value\nreturn\n",
         err: "",
     },
 ];
@@ -383,6 +463,34 @@ static TABLES: [Case; 11] = [
         input: "",
         status: 0,
         out: "1\n3\n1\n2\n3\nreturn\n",
+        err: "",
+    },
+];
+
+/// Lists of constructors, and what the table library does with lists.
+static LISTS: [Case; 3] = [
+    Case {
+        options: "",
+        script: "local t={1} print(#t,t[1]) local u={n=1,2} print(#u,u[1],u.n) local function g(...) return {...} end print(#g(),#g(7),g(7)[1],#g(1,2,3)) local v={{{5}}} print(v[1][1][1]) local w={(g(1,2))} print(#w,#w[1]) local x={nil} print(#x,next(x))",
+        input: "",
+        status: 0,
+        out: "1\t1\n1\t2\t1\n0\t1\t7\t3\n5\n1\t2\n0\tnil\nreturn\n",
+        err: "",
+    },
+    Case {
+        options: "",
+        script: "local t={} for i=1,5 do table.insert(t,i*i) end table.insert(t,1,0) print(#t,t[1],t[6],table.remove(t),table.remove(t,1),#t) for i,v in ipairs(t) do print(i,v) end print(select('#',table.unpack({1,nil,3},1,3)),table.concat(t,'-'))",
+        input: "",
+        status: 0,
+        out: "6\t0\t25\t25\t0\t4\n1\t1\n2\t4\n3\t9\n4\t16\n3\t1-4-9-16\nreturn\n",
+        err: "",
+    },
+    Case {
+        options: "",
+        script: "local f={} for i=1,3 do local r={i} f[i]=function() r[1]=r[1]+1 return r end end print(f[1]()[1],f[1]()[1],f[3]()[1],f[1]()==f[1](),f[1]()==f[2]()) local t={} for i=1,4 do t[i]=i end t[3]=nil t[5]=5 print(t[5],t[3],rawlen({1,2,3}))",
+        input: "",
+        status: 0,
+        out: "2\t3\t4\ttrue\tfalse\n5\tnil\t3\nreturn\n",
         err: "",
     },
 ];
@@ -657,6 +765,11 @@ fn sources_are_refused(rt: HostRuntime) -> Result<(), Fail> {
 #[test]
 fn functions_run(rt: HostRuntime) -> Result<(), Fail> {
     run_cases(&rt, rt.alloc(), &FUNCTIONS)
+}
+
+#[test]
+fn lists_run(rt: HostRuntime) -> Result<(), Fail> {
+    run_cases(&rt, rt.alloc(), &LISTS)
 }
 
 #[test]
