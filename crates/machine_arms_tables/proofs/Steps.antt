@@ -16,7 +16,7 @@ use Rattle.machine_sound.specs.Laws.{StepGood}
 use Rattle.machine_sound.proofs.Steps.{steps_good}
 use Rattle.machine_view.specs.View.{Around, IsAt}
 use Rattle.machine_view.proofs.Here.{ready_is_at}
-use Rattle.machine_arms_tables.specs.Frame.{Code, Moment, IsOf, world_at, Leads, IsReadyAt, StepsOn}
+use Rattle.machine_arms_tables.specs.Frame.{AreOpenAlike, Code, Moment, IsOf, world_at, Leads, IsReadyAt, StepsOn}
 use Rattle.machine_arms_tables.proofs.Leading.{held_at}
 
 -- one step more
@@ -38,19 +38,22 @@ module _ (g : Around) (meta : Option ℕ) (k : Code) (m : Moment) (here : IsRead
   is_of = record { code = here.ready.code; upvalues_are = here.upvalues_are; texts_are = here.texts_are }
 
   -- it calls no primitive, so it is one with any rows of these
-  pub stepped_by : (rows : ℕ → Row) (n : Moment) (op : Opcode) (w : Instruction) → IsAt op w k.words k.constants m.registers m.pc → Leads op w k m n → step rows go (world_at g meta m) ≡ ends go (world_at g meta n)
-  stepped_by rows n op w a d =
+  pub stepped_run : (rows : ℕ → Row) (n : Moment) (op : Opcode) (w : Instruction) → IsAt op w k.words k.constants m.registers m.pc
+      → run (expand (row_of g.context.closure.code m.pc op w)) [] (world_at g meta m) ≡ ends go (world_at g meta n) → step rows go (world_at g meta m) ≡ ends go (world_at g meta n)
+  stepped_run rows n op w a e =
       let p = g.context.closure.code in
       let at_pc : at p m.pc ≡ Some w = ap (λ ws. slice_get ws m.pc) here.ready.code.code.words_are ∙ a.at_pc in
       let text_is : text_at p m.pc ≡ row_of p m.pc op w = ap (λ (o : Option Instruction). elim o [ None ↦ trap | Some w ↦ text_by p m.pc w (opcode_of w) ]) at_pc ∙ ap (text_by p m.pc w) a.is_opcode in
       step_is g.context here.ready.frame.stands (held_at g meta m) rows
       ∙ ap (λ t. from_world (world_at g meta m) (run (expand t) [] (world_at g meta m))) text_is
-      ∙ ap (from_world (world_at g meta m)) (d.runs g meta is_of here.ready.frame.stands)
+      ∙ ap (from_world (world_at g meta m)) e
 
-  pub steps_on : (n : Moment) (op : Opcode) (w : Instruction) → IsAt op w k.words k.constants m.registers m.pc → Leads op w k m n → StepsOn g meta k m n
-  steps_on n op w a d =
+  pub stepped_by : (rows : ℕ → Row) (n : Moment) (op : Opcode) (w : Instruction) → IsAt op w k.words k.constants m.registers m.pc → Leads op w k m n → step rows go (world_at g meta m) ≡ ends go (world_at g meta n)
+  stepped_by rows n op w a d = stepped_run rows n op w a (d.runs g meta is_of here.ready.frame.stands)
+
+  pub steps_when : (n : Moment) → AreOpenAlike m.cells n.cells → step g.rows go (world_at g meta m) ≡ ends go (world_at g meta n) → StepsOn g meta k m n
+  steps_when n o q =
       let f = here.ready.frame in
-      let q = stepped_by g.rows n op w a d in
       record {
         ready = record {
           ready = record {
@@ -60,9 +63,12 @@ module _ (g : Around) (meta : Option ℕ) (k : Code) (m : Moment) (here : IsRead
           upvalues_are = here.upvalues_are;
           texts_are = here.texts_are;
         };
-        opened = d.opened;
+        opened = o;
         runs = λ start x. (suc x.0, last_of g.rows x.0 go (world_at g meta start) ∙ ap (λ o. and_then o (step g.rows)) x.1 ∙ q);
       }
+
+  pub steps_on : (n : Moment) (op : Opcode) (w : Instruction) → IsAt op w k.words k.constants m.registers m.pc → Leads op w k m n → StepsOn g meta k m n
+  steps_on n op w a d = steps_when n d.opened (stepped_by g.rows n op w a d)
 
   -- the frame is at an instruction of its code
   pub place_there : m.pc < length k.words

@@ -25,7 +25,7 @@ pub(crate) fn register(registers: &[Value], n: usize) -> Value
 
 /// R[n] := v.
 #[inline(always)]
-pub(crate) fn set_register(registers: &mut [Value], n: usize, v: Value)
+pub fn set_register(registers: &mut [Value], n: usize, v: Value)
     requires { n < length registers.old }
     ensures { registers.new ≡ slice_set registers.old n v }
 {
@@ -66,7 +66,7 @@ impl<'a> Closure<'a> {
 
     /// The place behind an instruction.
     #[inline(always)]
-    pub(crate) fn next(self, pc: usize) -> usize
+    pub fn next(self, pc: usize) -> usize
         requires { pc + 1 < length self.words.now }
         ensures { result ≡ pc + 1 }
     {

@@ -12,5 +12,5 @@ mod reads;
 mod upvalues;
 mod writes;
 
-pub use closure::Closure;
+pub use closure::{Closure, set_register};
 pub use instruction::run_instruction;

@@ -1,6 +1,6 @@
--- Cells that are open alike are open at the same places.
+-- Cells that are open alike are open at the same places; what follows where nothing is answered.
 use Rattle.std.proofs.Common.{◌≡◌, ℕ, List, Option, Some, None, refl, ap, sym, ◌∙◌}
-use Rattle.std.specs.Prelude.{IfSome, length, slice_get}
+use Rattle.std.specs.Prelude.{IfNone, IfSome, length, slice_get}
 use Rattle.lua_heap.specs.declared.world.Cell.{Cell}
 use Rattle.lua_heap.specs.declared.world.Cell.TheVariants.{Closed, Open}
 use Rattle.machine_arms_tables.specs.Frame.{AreOpenAlike, open_place}
@@ -24,3 +24,8 @@ closes_nothing_still g cells cells' a (Some register) h = record {
   below = λ id co at e k. h.below id co at (still_open cells' cells (sym a) id co (length g.context.below) at e) k;
   pending = h.pending;
 }
+
+-- where there is no value, what follows from that
+pub none_then : {A : Type 0} {P Q : Type 0} (o : Option A) → (P → Q) → IfNone o P → IfNone o Q
+none_then None f x = f x
+none_then (Some a) f x = x

@@ -3,3 +3,4 @@ pub mod Decoded
 pub mod Alike
 pub mod Closing
 mod Nearer
+pub mod Recalled

@@ -4,5 +4,7 @@
 
 mod decoding;
 mod frame;
+mod memo;
 
 pub use frame::run_frame;
+pub use memo::{Known, Memo, add_known};

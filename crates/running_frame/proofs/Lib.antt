@@ -12,6 +12,7 @@ mod Calls
 mod Called
 mod Listed
 mod Passed
+mod Remembered
 mod TakenVarargs
 mod Stored
 mod Handlers

@@ -6,29 +6,24 @@ use Rattle.code_core.specs.Instruction.{a_of, b_of, opcode_of}
 use Rattle.code_core.specs.declared.instruction.Instruction.{Instruction}
 use Rattle.code_core.specs.declared.opcode.Opcode.{Opcode}
 use Rattle.code_core.specs.declared.opcode.Opcode.TheVariants.{GetUpval}
-use Rattle.int_core.specs.Value.{Value, bind}
-use Rattle.machine_core.specs.World.{Cell, open_at, Frame, lua, Coroutine, in_progress, frames_of, read_cell, register_at}
-use Rattle.machine_core.specs.Text.{read, trap}
-use Rattle.machine_core.specs.InstructionRows.{row_of, text_at, text_by, to_register}
+use Rattle.machine_core.specs.World.{lua}
+use Rattle.machine_core.specs.Text.{trap}
+use Rattle.machine_core.specs.InstructionRows.{row_of, text_at, text_by}
 use Rattle.machine_core.specs.MachineStep.{steps, and_then}
-use Rattle.machine_focus.specs.Focus.{Held, cell_at, frames as held_frames, local, world}
+use Rattle.machine_focus.specs.Focus.{Held, frames as held_frames, local}
 use Rattle.machine_focus.proofs.Here.{held_is_step}
-use Rattle.machine_sound.proofs.Lists.{get_map, get_set_same, get_there}
 use Rattle.machine_view.specs.View.{held, IsAt}
-use Rattle.machine_view.proofs.Going.{at_next, puts}
-use Rattle.machine_view.proofs.Places.{register_there}
 use Rattle.table_core.specs.Table.{Contents}
-use Rattle.table_core.specs.declared.value.CellId.{CellId}
 use Rattle.table_core.specs.declared.value.Value.{Value as Kept}
 use Rattle.lua_stack.specs.Frames.{KeptStack, OnTop, TopBecomes, frames, register_in, with_pc, with_registers}
 use Rattle.lua_stack.specs.Lending.{with_top}
 use Rattle.lua_heap.specs.declared.world.Cell.{Cell as KeptCell}
-use Rattle.lua_heap.specs.declared.world.Cell.TheVariants.{Open}
 use Rattle.lua_heap.specs.Plain.{cell, heap}
 use Rattle.lua_heap.specs.Reading.{value}
 use Rattle.machine_arms_tables.specs.Frame.{Code, Moment, moment, IsReadyAt, RunsTo}
 use Rattle.machine_arms_tables.proofs.Steps.{at_opcode}
 use Rattle.machine_loop.specs.Running.{Running}
+use Rattle.machine_loop.proofs.Recalled.{open_comes}
 use Rattle.running_frame.specs.Standing.{RunsAt}
 use Rattle.running_frame.specs.Upvalues.{GoesOver, ListsOpen, StandsOpen, is_read}
 use Rattle.running_frame.proofs.OnStack.{frames_are, loop_reaches, loop_ready, rewritten, runs_at}
@@ -53,33 +48,11 @@ module _ (g : Running) (k : Code) (m : Moment) (here : IsReadyAt g.around g.stri
   now = held_with m.registers m.pc
 
   module _ (same : frames (value texts) s ≡ held_frames g.around.context now.own) (v : Kept) (open_there : StandsOpen g.around.context.coroutine k.upvalues s m.cells (b_of w) v) where
-    cell_is : cell_at g.around.context now (b_of w) ≡ Some (open_there.id.0, open_at open_there.coroutine.0 open_there.frame open_there.register)
-    cell_is =
-        ap (λ ns. bind {A = ℕ} {B = ℕ × Cell} (slice_get ns (b_of w)) (λ n. bind (slice_get (map (cell texts) m.cells) n) (λ c. Some (n, c)))) here.upvalues_are
-        ∙ ap (λ o. bind {A = ℕ} {B = ℕ × Cell} o (λ n. bind (slice_get (map (cell texts) m.cells) n) (λ c. Some (n, c)))) (get_map (λ (c : CellId). c.0) k.upvalues (b_of w) open_there.id open_there.named)
-        ∙ ap (λ o. bind {A = Cell} {B = ℕ × Cell} o (λ c. Some (open_there.id.0, c)))
-        (get_map (cell texts) m.cells open_there.id.0 (Open open_there.coroutine open_there.frame open_there.register) open_there.holds)
-
-    value_is : read_cell (world g.around.context now) (open_at open_there.coroutine.0 open_there.frame open_there.register) ≡ Some (value texts v)
-    value_is =
-        let c = g.around.context in
-        let fs = held_frames c now.own in
-        let there = get_there c.base.coroutines c.coroutine here.ready.frame.stands.there in
-        ap (λ n. register_at (slice_set c.base.coroutines c.coroutine (in_progress fs)) n open_there.frame open_there.register) open_there.own
-        ∙ ap (λ o. bind {A = List Frame} {B = Value} (bind {A = Coroutine} {B = List Frame} o frames_of) (λ gs. register_in open_there.frame open_there.register gs))
-        (get_set_same c.base.coroutines c.coroutine there.0 (in_progress fs) there.1)
-        ∙ ap (register_in open_there.frame open_there.register) (sym same)
-        ∙ open_there.has.reads (value texts)
-
     module _ (q : List Kept) (to : ℕ) (written : q ≡ slice_set m.registers (a_of w) v) (next : to ≡ m.pc + 1) where
       comes_to : local g.around.context (row_of g.around.context.closure.code m.pc GetUpval w) [] now ≡ Some (held_with q to)
       comes_to =
-          let c = g.around.context in
-          let x =
-          puts g.around (heap texts m.tables g.string_metatable) (map (cell texts) m.cells) m.registers m.pc m.fuel {env = value texts v ∷ []} {x = read 0} (a_of w) 1 v here.ready.code (at_next h refl next) (register_there h 0 (a_of w) refl) refl written next in
-          ap (λ o. bind {A = ℕ × Cell} {B = Held} o (λ x. bind {A = Value} {B = Held} (read_cell (world c now) x.1) (λ v. local c (to_register (a_of w) (read 0)) (v ∷ []) now))) cell_is
-          ∙ ap (λ o. bind {A = Value} {B = Held} o (λ v. local c (to_register (a_of w) (read 0)) (v ∷ []) now)) value_is
-          ∙ x.is
+          open_comes g k m here w h v open_there.id open_there.coroutine open_there.frame open_there.register open_there.named open_there.holds open_there.own
+          (ap (register_in open_there.frame open_there.register) (sym same) ∙ open_there.has.reads (value texts)) q to written next
 
       pub read_step : IsReadyAt g.around g.string_metatable k (moment m.tables m.cells q to m.fuel) × RunsTo g.around g.string_metatable m (moment m.tables m.cells q to m.fuel)
       read_step =

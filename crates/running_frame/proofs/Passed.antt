@@ -7,8 +7,6 @@ use Rattle.code_core.specs.declared.opcode.Opcode.{Opcode}
 use Rattle.code_core.specs.declared.opcode.Opcode.TheVariants.{Close}
 use Rattle.int_core.specs.Value.{Value}
 use Rattle.machine_core.specs.World.{Frame, lua}
-use Rattle.machine_view.specs.View.{IsAt}
-use Rattle.machine_view.proofs.Places.{next_there}
 use Rattle.table_core.specs.Table.{Contents}
 use Rattle.table_core.specs.declared.value.Value.{Value as Kept}
 use Rattle.lua_stack.proofs.Ends.{last_same}
@@ -16,9 +14,8 @@ use Rattle.lua_stack.specs.Frames.{HasLuaTop, KeptStack, OnTop, TopBecomes, fram
 use Rattle.lua_heap.specs.declared.world.Cell.{Cell}
 use Rattle.lua_heap.specs.Reading.{value}
 use Rattle.machine_arms_tables.specs.Frame.{Code, StepsOn, moment}
-use Rattle.machine_arms_tables.proofs.Steps.{at_opcode}
 use Rattle.machine_loop.specs.Running.{ClosesNothing, PassesClose, Running}
-use Rattle.machine_loop.proofs.Closing.{close_so}
+use Rattle.machine_loop.proofs.Closing.{close_so, next_is_there}
 use Rattle.running_frame.specs.Closing.{is_close}
 use Rattle.running_frame.specs.Returning.{HasKept}
 use Rattle.running_frame.specs.Standing.{RunsAt}
@@ -47,11 +44,8 @@ module _ (g : Running) (k : Code) (s : KeptStack) (cs : List Cell) (pc : ℕ) (h
   abbrev r : List Kept
   r = h.top.registers
 
-  close_at : (ts : List Contents) (fuel : ℕ) → RunsAt g k s ts cs fuel pc → IsAt Close w k.words k.constants r pc
-  close_at ts fuel x = at_opcode g.around g.string_metatable k (moment ts cs r pc fuel) (ready_at g k s cs pc r (own_registers h) ts fuel x) w Close word is
-
   pub next_inside : (ts : List Contents) (fuel : ℕ) → RunsAt g k s ts cs fuel pc → pc + 1 < length k.words
-  next_inside ts fuel x = next_there (close_at ts fuel x) refl
+  next_inside ts fuel x = next_is_there g k (moment ts cs r pc fuel) (ready_at g k s cs pc r (own_registers h) ts fuel x) w {op = Close} refl word (sym is)
 
   module _ (known : Option ℕ) (none : IfSome known (λ register. ClosesNothing g.around cs register)) (to : ℕ) (passes : PassesClose w pc known to) (u : KeptStack) (b : TopBecomes s u (λ f t. with_pc to t)) where
     steps_on : (ts : List Contents) (fuel : ℕ) → RunsAt g k s ts cs fuel pc → StepsOn g.around g.string_metatable k (moment ts cs r pc fuel) (moment ts cs r to fuel)

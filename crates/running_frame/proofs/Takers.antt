@@ -1,6 +1,6 @@
 -- What a return on a stack tests and does.
 use Rattle.std.proofs.Common.{◌≡◌, ℕ, zero, suc, ◌+◌, ◌-◌, ◌<◌, ◌≤◌, [], ◌∷◌, ◌++◌, List, Option, Some, None, refl, ap, sym, subst, ◌∙◌, arith, length, length-append, map}
-use Rattle.std.specs.Prelude.{IfNone, IfSome, slice_get}
+use Rattle.std.specs.Prelude.{IfSome, slice_get}
 use Rattle.std.proofs.lemmas.List.{length-map}
 use Rattle.int_core.specs.Value.{Value, known, last, nil, nth, range, without_last, write, write_all}
 use Rattle.machine_core.specs.World.{LuaFrame, lua}
@@ -12,6 +12,7 @@ use Rattle.lua_stack.specs.declared.frame.LuaState.{LuaState}
 use Rattle.machine_view.proofs.Rows.{nth_map}
 use Rattle.running_frame.specs.declared.returning.Given.{Given}
 use Rattle.running_frame.specs.Returning.{HasKept, IsCaller, IsCallerIn, IsGiven}
+pub use Rattle.machine_loop.proofs.Alike.{none_then}
 
 -- the first two of some values
 
@@ -77,10 +78,6 @@ module _ {s : KeptStack} (count register : ℕ) (g : Given) where
 pub found_is : {A : Type 0} (o found : Option A) → o ≡ found → IfSome o (λ v. found ≡ Some v)
 found_is None found e = tt
 found_is (Some v) found e = sym e
-
-pub none_then : {A : Type 0} {P Q : Type 0} (o : Option A) → (P → Q) → IfNone o P → IfNone o Q
-none_then None f x = f x
-none_then (Some a) f x = x
 
 -- a Lua frame is on top
 

@@ -7,6 +7,7 @@ pub mod Inheriting
 pub mod Calling
 pub mod Listing
 pub mod Storing
+pub mod Remembering
 pub mod Filling
 pub mod Returning
 pub mod Asking

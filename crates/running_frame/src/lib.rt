@@ -12,6 +12,7 @@ mod inherited;
 mod iterating;
 mod listing;
 mod place;
+mod remembering;
 mod returning;
 mod stack;
 mod storing;

@@ -3,6 +3,7 @@ ghost use Rattle.std.specs.Prelude.{◌≡◌, IfNone, IfSome, true};
 ghost use Rattle.lua_stack.specs.Frames.{HasLuaTop};
 ghost use Rattle.machine_arms_tables.specs.Frame.{AreOpenAlike, code};
 ghost use Rattle.machine_focus.specs.Focus.{Reaches};
+ghost use Rattle.machine_loop.specs.Knowing.{AllHold};
 ghost use Rattle.machine_loop.specs.Running.{ClosesNothing, Running};
 ghost use Rattle.running_frame.specs.Inheriting.{GoesWith, RunsWith, metatable_number};
 ghost use Rattle.running_frame.specs.Standing.{IsAboveLast, IsClosedFrom, IsHereIn, MayRun, RunsAt, standing};
@@ -10,11 +11,12 @@ ghost use Rattle.running_frame.specs.Standing.{IsAboveLast, IsClosedFrom, IsHere
 use crate::closing::pass_close;
 use crate::inherited::read_inherited;
 use crate::place::{Here, here_at, is_none};
+use crate::remembering::remember;
 use crate::upvalues::read_open;
 use lua_heap::{Cell, Strings};
 use lua_stack::{OpenCell, Stack};
 use machine_arms_tables::Closure;
-use machine_loop::run_frame;
+use machine_loop::{Memo, run_frame};
 use object_pool::Pool;
 use table_core::{CoroId, Table, TableId};
 
@@ -110,6 +112,7 @@ fn run_on_top(
 
 /// Runs it from the place `start` on, and tells where it stops. The loop over instructions has the frame's own registers alone, follows no handlers and closes
 /// nothing, so what stands in a register of a frame below, and fields that handlers lead to, are read between two rounds of it, and a CLOSE is passed there.
+/// Nothing that is done here changes a frame below, so values that stand there are remembered.
 fn run_rounds(
     stack: &mut Stack,
     closure: Closure,
@@ -133,9 +136,15 @@ fn run_rounds(
     ensures listed { stack.new.open_cells ≡ stack.old.open_cells }
 {
     let mut pc = start;
+    let mut again = false;
+    let mut memo = Memo {
+        first: None,
+        second: None,
+        third: None,
+    };
     for _ in 0..u64::MAX {
-        let at = run_round(stack, closure, strings, tables, cells, budget, pc);
-        let Some(next) = pass_between(
+        let at = run_round(stack, closure, strings, tables, cells, budget, &memo, pc);
+        let Some(next) = go_between(
             stack,
             closure,
             strings,
@@ -144,13 +153,61 @@ fn run_rounds(
             co,
             string_meta,
             closed,
+            &mut memo,
+            again,
             at,
         ) else {
             return at;
         };
         pc = next;
+        again = true;
     }
     pc
+}
+
+/// Remembers the value that the next instruction reads of a frame below, or does an instruction that the loop does not, and tells where the frame goes on.
+/// `None`, with all as before, at any other instruction.
+#[inline(always)]
+fn go_between(
+    stack: &mut Stack,
+    closure: Closure,
+    strings: &Strings,
+    tables: &Pool<Table>,
+    cells: &Pool<Cell>,
+    co: CoroId,
+    string_meta: Option<TableId>,
+    closed: Option<usize>,
+    memo: &mut Memo,
+    again: bool,
+    pc: usize,
+) -> Option<usize>
+    ghost g: { Running }
+    requires runs { RunsWith g (code closure strings.now) stack.old tables.now.objects cells.now.objects pc }
+    requires closed { IfSome closed (λ register. ClosesNothing g.around cells.now.objects register) }
+    requires own { co.0 ≡ g.around.context.coroutine }
+    requires meta { metatable_number string_meta ≡ g.string_metatable }
+    requires known { AllHold g.around closure.upvalues.now cells.now.objects memo.old }
+    ensures goes { IfSome result (λ to. GoesWith g (code closure.entry strings.now) stack.old stack.new tables.now.objects cells.now.objects pc to) }
+    ensures kept { IfNone result (stack.new ≡ stack.old) }
+    ensures known { AllHold g.around closure.entry.upvalues.now cells.now.objects memo.new }
+{
+    match remember(stack, closure, cells, co, *memo, again, pc) {
+        Some(more) => {
+            *memo = more;
+            Some(pc)
+        }
+        None => pass_between(
+            stack,
+            closure,
+            strings,
+            tables,
+            cells,
+            co,
+            string_meta,
+            closed,
+            pc,
+        ),
+    }
 }
 
 /// Does an instruction that reads what the loop does not, or a CLOSE that has nothing to do, and tells where the frame goes on. `None`, with all as before, at any
@@ -214,17 +271,21 @@ fn run_round(
     tables: &mut Pool<Table>,
     cells: &mut Pool<Cell>,
     budget: &mut u64,
+    memo: &Memo,
     start: usize,
 ) -> usize
     ghost g: { Running }
-    requires { RunsAt g (code closure strings.now) stack.old tables.old.objects cells.old.objects budget.old start }
+    requires runs { RunsAt g (code closure strings.now) stack.old tables.old.objects cells.old.objects budget.old start }
+    requires known { AllHold g.around closure.upvalues.now cells.old.objects memo.now }
     ensures reaches { Reaches g.around.rows (standing g stack.old tables.old.objects cells.old.objects budget.old) (standing g stack.new tables.new.objects cells.new.objects budget.new) }
     ensures runs { RunsAt g (code closure.entry strings.now) stack.new tables.new.objects cells.new.objects budget.new result }
     ensures opened { AreOpenAlike cells.old.objects cells.new.objects }
     ensures listed { stack.new.open_cells ≡ stack.old.open_cells }
 {
     let registers = stack.registers_mut();
-    let pc = run_frame(closure, strings, tables, cells, registers, start, budget);
+    let pc = run_frame(
+        closure, strings, tables, cells, registers, memo, start, budget,
+    );
     stack.set_pc(pc);
     pc
 }

@@ -43,7 +43,7 @@ pub(crate) fn store_open(
 }
 
 /// The register of an upvalue's variable, where that stands in this coroutine, in a frame below the last of `depth`.
-fn open_below(
+pub(crate) fn open_below(
     depth: usize,
     upvalues: &[CellId],
     cells: &Pool<Cell>,

@@ -81,7 +81,7 @@ pub(crate) fn cell_of(upvalues: &[CellId], upvalue: u8) -> Option<CellId>
 
 /// Whether it is a GETUPVAL.
 #[inline(always)]
-fn is_read(i: Instruction) -> bool
+pub(crate) fn is_read(i: Instruction) -> bool
     ensures { result ≡ is_read (opcode_of i) }
 {
     match i.opcode() {

@@ -1,13 +1,15 @@
 use Rattle.std.proofs.Common.{◌∙◌, refl}
 use Rattle.machine_arms_tables.specs.Frame.{moment}
 use Rattle.machine_loop.proofs.Nearer.{nearer}
+use Rattle.machine_loop.proofs.Recalled.{still_hold}
 use Rattle.machine_loop.proofs.frame.run_frame.Goals as goal
 
 pub rounds-init : goal.rounds-init
-rounds-init g c = record { ready = c.requires; opened = refl; runs = (0, refl) }
+rounds-init g c = record { ready = c.requires.0; opened = refl; runs = (0, refl) }
 
-pub step_frame-requires : goal.step_frame-requires
-step_frame-requires g c = c.rounds.invariant.ready
+pub go_on-requires : goal.go_on-requires
+go_on-requires g c =
+    (c.rounds.invariant.ready, still_hold g.g.around c.args.closure.upvalues.now c.args.cells.now.objects c.rounds.cells.objects c.rounds.invariant.opened c.args.memo.now c.requires.1)
 
 pub rounds-smaller : goal.rounds-smaller
 rounds-smaller g c =

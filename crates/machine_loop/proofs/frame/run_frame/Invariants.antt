@@ -2,8 +2,8 @@ use Rattle.machine_arms_tables.specs.Frame.{IsReadyAt, AreOpenAlike, RunsTo, cod
 use Rattle.machine_loop.proofs.Nearer.{distance}
 use Rattle.machine_loop.proofs.frame.run_frame.Given as goal
 
-abbrev pub ghost-step_frame : goal.ghost-step_frame
-ghost-step_frame g a = g.g
+abbrev pub ghost-go_on : goal.ghost-go_on
+ghost-go_on g a = g.g
 
 abbrev pub invariant-rounds : goal.invariant-rounds
 invariant-rounds g l = record {

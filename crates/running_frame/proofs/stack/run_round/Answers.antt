@@ -6,15 +6,15 @@ use Rattle.running_frame.proofs.stack.run_round.Goals as goal
 
 pub run_frame-pc-requires : goal.run_frame-pc-requires
 run_frame-pc-requires g c =
-    let x = c.requires in
+    let x = c.requires.0 in
     let m = x.may in
     let v = value g.g.around.texts in
     let below = g.g.around.context.below in
-    loop_ready g.g _ _ _ _ _ m c.registers_mut-registers.result.now c.args.start x.runs (sym x.at_pc) (c.registers_mut-registers.ensures.registers v below m.top m.is)
+    (loop_ready g.g _ _ _ _ _ m c.registers_mut-registers.result.now c.args.start x.runs (sym x.at_pc) (c.registers_mut-registers.ensures.registers v below m.top m.is), c.requires.1)
 
 pub set_pc-requires : goal.set_pc-requires
 set_pc-requires g c =
-    let x = c.requires in
+    let x = c.requires.0 in
     let m = x.may in
     let v = value g.g.around.texts in
     let below = g.g.around.context.below in
@@ -23,7 +23,7 @@ set_pc-requires g c =
 
 pub returns-clause-reaches : goal.returns-clause-reaches
 returns-clause-reaches g c =
-    let x = c.requires in
+    let x = c.requires.0 in
     let m = x.may in
     let v = value g.g.around.texts in
     let below = g.g.around.context.below in
@@ -36,7 +36,7 @@ returns-clause-reaches g c =
 
 pub returns-clause-runs : goal.returns-clause-runs
 returns-clause-runs g c =
-    let x = c.requires in
+    let x = c.requires.0 in
     let m = x.may in
     let v = value g.g.around.texts in
     let below = g.g.around.context.below in

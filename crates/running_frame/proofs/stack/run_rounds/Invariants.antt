@@ -1,14 +1,15 @@
 use Rattle.std.proofs.Common.{◌≡◌}
 use Rattle.machine_focus.specs.Focus.{Reaches}
 use Rattle.machine_arms_tables.specs.Frame.{AreOpenAlike, code}
+use Rattle.machine_loop.specs.Knowing.{AllHold}
 use Rattle.running_frame.specs.Standing.{RunsAt, standing}
 use Rattle.running_frame.proofs.stack.run_rounds.Given as goal
 
 abbrev pub ghost-run_round : goal.ghost-run_round
 ghost-run_round g a = g.g
 
-abbrev pub ghost-pass_between : goal.ghost-pass_between
-ghost-pass_between g a = g.g
+abbrev pub ghost-go_between : goal.ghost-go_between
+ghost-go_between g a = g.g
 
 abbrev pub invariant-loop : goal.invariant-loop
 invariant-loop g l = record {
@@ -16,4 +17,5 @@ invariant-loop g l = record {
   runs : RunsAt g.g (code l.closure l.strings) l.stack l.tables.objects l.cells.objects l.budget l.pc;
   opened : AreOpenAlike l.initial.cells.objects l.cells.objects;
   listed : l.stack.open_cells ≡ l.initial.stack.open_cells;
+  known : AllHold g.g.around l.closure.upvalues.now l.cells.objects l.memo;
 }
