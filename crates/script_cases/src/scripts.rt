@@ -292,7 +292,7 @@ static REFUSALS: [Case; 3] = [
 ];
 
 /// Functions, their variables, arguments and results.
-static FUNCTIONS: [Case; 10] = [
+static FUNCTIONS: [Case; 12] = [
     Case {
         options: "",
         script: "local f={} for i=1,3 do if i==2 then goto continue end f[#f+1]=function() i=i+1 return i end ::continue:: end print(f[1](),f[1](),f[2]())",
@@ -371,6 +371,22 @@ static FUNCTIONS: [Case; 10] = [
         input: "",
         status: 0,
         out: "1\nclosed\n1\n2\nfalse\ts.lua:1: attempt to call a number value\nreturn\n",
+        err: "",
+    },
+    Case {
+        options: "",
+        script: "local a,b,c,d=1,2,3,4 local function sum(n) local s=0 for i=1,n do s=s+a+b+c+d+a end return s end print(sum(3)) local function bump() a=a+1 end local function both(n) local s=0 for i=1,n do s=s+a+b if i%2==0 then bump() end s=s+a end return s end print(both(4)) a=10 print(sum(2),both(1)) local n=0 local function count(k) for i=1,k do n=n+i if n>5 then n=n-1 end end return n end print(count(4),n)",
+        input: "",
+        status: 0,
+        out: "33\n22\n58\t22\n8\t8\nreturn\n",
+        err: "",
+    },
+    Case {
+        options: "",
+        script: "local x,y=1,2 local co=coroutine.wrap(function() local z=3 local function own() local s=0 for i=1,3 do s=s+x+y+z end return s end for i=1,3 do x=x+i coroutine.yield(x,own()) z=z+1 end end) print(co()) y=20 print(co()) x=100 print(co()) local t={} for i=1,4 do local j=i*2 if i%2==0 then t[#t+1]=function() j=j+1 return j end end end print(t[1](),t[1](),t[2]()) local function deep(n) local s=0 for i=1,n do s=s+x+y if i==2 and n>2 then s=s+deep(n-1) x=x-1 end end return s end print(deep(4),x)",
+        input: "",
+        status: 0,
+        out: "2\t21\n4\t84\n103\t384\n5\t6\t9\n1102\t101\nreturn\n",
         err: "",
     },
 ];
