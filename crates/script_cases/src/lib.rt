@@ -3,4 +3,6 @@
 #![tactic(auto)]
 
 #[cfg(test)]
+mod loads;
+#[cfg(test)]
 mod scripts;
