@@ -4,3 +4,4 @@ pub mod Tries
 pub mod Parts
 pub mod Readings
 pub mod Told
+pub mod Starts

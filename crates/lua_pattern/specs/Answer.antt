@@ -1,5 +1,6 @@
 -- What a search for a pattern at a place answers.
 use Rattle.std.specs.Prelude.{◌≡◌, ◌<◌, ℕ, Bool, true, false, nat_lt, if◌then◌else◌, List, [], slice_get, count_by, Option, Some, None, Result, Ok, Err, ⊤}
+use Rattle.lua_pattern.specs.declared.answer.Capture.{Capture}
 use Rattle.lua_pattern.specs.declared.answer.Match.{Match}
 use Rattle.lua_pattern.specs.declared.answer.PatternFault.{PatternFault}
 use Rattle.lua_pattern.specs.declared.answer.PatternFault.TheVariants.{Malformed, TooComplex, Memory}
@@ -34,6 +35,11 @@ answer_of subject pattern at = answer_by subject (items_of pattern) at
 abbrev pub found_of : Option Match → Option Found
 found_of None = None
 found_of (Some found) = Some (record { end = found.end; captures = found.captures.items })
+
+-- a match by its end and its captures
+abbrev pub found_to : Option ℕ → List Capture → Option Found
+found_to None captures = None
+found_to (Some end) captures = Some (record { end = end; captures = captures })
 
 -- an answer is the one that is told, unless memory ran out
 abbrev pub IsAnswer : Result (Option Match) PatternFault → Result (Option Found) PatternFault → Type 0

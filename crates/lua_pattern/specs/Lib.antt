@@ -9,3 +9,4 @@ pub mod Scope
 pub mod Reading
 pub mod Outcomes
 pub mod Answer
+pub mod Begins

@@ -90,6 +90,7 @@ impl Part {
     }
 
     /// Whether a byte is in the part.
+    #[inline(always)]
     pub fn contains(self, byte: u8) -> bool
         ensures { result ≡ part_has self byte }
     {
@@ -151,6 +152,7 @@ impl Class {
     ghost use Rattle.lua_pattern.specs.ClassBytes.{class_has};
 
     /// Whether a byte is in the class.
+    #[inline(always)]
     pub fn contains(&self, byte: u8) -> bool
         ensures { result ≡ class_has self.now byte }
     {

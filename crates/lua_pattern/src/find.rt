@@ -3,7 +3,8 @@ ghost use Rattle.std.specs.Prelude.{◌≡◌, ◌≤◌, length, count_by, IfOk
 ghost use Rattle.lua_pattern.specs.Answer.{IsAnswer, answer_of, is_counted};
 ghost use Rattle.lua_pattern.specs.Firsts.{IsInside};
 
-use crate::answer::{Match, PatternFault};
+use crate::answer::{Capture, Match, PatternFault};
+use crate::begins::next_start;
 use crate::item::Item;
 use crate::matching::first_match;
 use crate::reading::read_pattern;
@@ -29,8 +30,9 @@ impl Model for Pattern {
 }
 
 impl Pattern {
-    ghost use Rattle.std.specs.Prelude.{◌≡◌, ◌≤◌, length, count_by, Ok, IfOk, IfErr, IfSome};
-    ghost use Rattle.lua_pattern.specs.Answer.{IsFaultOf, first_found, found_of, is_counted};
+    ghost use Rattle.std.specs.Prelude.{◌≡◌, ◌≤◌, ◌+◌, [], length, count_by, Ok, IfOk, IfErr, IfSome, IfNone};
+    ghost use Rattle.lua_pattern.specs.Answer.{IsFaultOf, first_found, found_of, found_to, is_counted};
+    ghost use Rattle.lua_pattern.specs.Begins.{IsPassed};
     ghost use Rattle.lua_pattern.specs.Firsts.{IsInside};
     ghost use Rattle.lua_pattern.specs.Reading.{items_of};
 
@@ -68,6 +70,37 @@ impl Pattern {
             Some(end) => Ok(Some(Match { end, captures })),
             None => Ok(None),
         }
+    }
+
+    /// The end of the first match that begins at a place of the subject, from 0, and its captures in the list, which is empty before. `None` says that
+    /// there is no match at this place; then the list is empty again.
+    pub fn end_at(
+        &self,
+        subject: &[u8],
+        at: usize,
+        captures: &mut Vec<Capture>,
+    ) -> Result<Option<usize>, AllocError>
+        requires place { at ≤ length subject.now }
+        requires empty { captures.old.items ≡ [] }
+        ensures first { IfOk result (λ end. found_to end captures.new.items ≡ first_found subject.now self.now at) }
+        ensures empty { IfOk result (λ end. IfNone end (captures.new.items ≡ [])) }
+        ensures inside { IfOk result (λ end. IfSome end
+            (λ place. IsInside (length subject.now) at place captures.new.items)) }
+    {
+        match first_match(subject, &self.items, at, captures)? {
+            Some(end) => Ok(Some(end)),
+            None => Ok(None),
+        }
+    }
+
+    /// The first place from `at` on, and at most `left` further, before which no match begins.
+    pub fn next_start(&self, subject: &[u8], at: usize, left: usize) -> usize
+        requires { at + left ≤ length subject.now }
+        ensures from { at ≤ result }
+        ensures within { result ≤ at + left }
+        ensures passed { IsPassed subject.now self.now at result }
+    {
+        next_start(subject, &self.items, at, left)
     }
 }
 

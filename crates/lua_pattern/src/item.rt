@@ -45,11 +45,19 @@ pub enum Item {
 impl Item {
     ghost use Rattle.std.specs.Prelude.{◌≡◌};
     ghost use Rattle.lua_pattern.specs.Answer.{is_counted};
+    ghost use Rattle.lua_pattern.specs.Begins.{is_open};
 
     /// Whether it is one of the captures and quantifiers of which a pattern has at most 200.
     pub(crate) fn is_counted(&self) -> bool
         ensures { result ≡ is_counted self.now }
     {
         matches!(self, Item::Repeated(..) | Item::Open | Item::Place)
+    }
+
+    /// Whether a capture begins, which takes no byte.
+    pub(crate) fn is_open(&self) -> bool
+        ensures { result ≡ is_open self.now }
+    {
+        matches!(self, Item::Open)
     }
 }

@@ -11,6 +11,7 @@ pub mod rule;
 mod scope;
 mod set;
 // How it is matched.
+mod begins;
 mod matching;
 mod plain;
 // What is answered.

@@ -35,6 +35,7 @@ pub(crate) fn plain_end(
 }
 
 /// Whether the byte at a place is there and in a class.
+#[inline(always)]
 pub(crate) fn is_class_at(subject: &[u8], class: &Class, at: usize) -> bool
     ensures { result ≡ is_class_at class.now subject.now at }
 {
@@ -45,17 +46,23 @@ pub(crate) fn is_class_at(subject: &[u8], class: &Class, at: usize) -> bool
 }
 
 /// How many bytes of a class stand from a place on.
-#[tactic(auto, using(crate::proofs::Runs::run_more, crate::proofs::Runs::run_none, crate::proofs::Runs::is_there))]
 pub(crate) fn run_at(subject: &[u8], class: &Class, at: usize) -> usize
     requires { at ≤ length subject.now }
     ensures value { result ≡ run_of class.now (drop at subject.now) }
     ensures within { at + result ≤ length subject.now }
 {
-    let mut end = at;
-    while is_class_at(subject, class, end) {
-        end += 1;
-    }
-    end - at
+    let (_, text) = subject.split_at(at);
+    run_in(text, class)
+}
+
+/// How many bytes of a class a text begins with.
+fn run_in(text: &[u8], class: &Class) -> usize
+    ensures value { result ≡ run_of class.now text.now }
+    ensures within { result ≤ length text.now }
+{
+    text.iter()
+        .take_while(|byte| class.contains(**byte))
+        .count()
 }
 
 /// The place behind the balanced text that begins at a place.
