@@ -1,3 +1,4 @@
 mod Readings
 mod Needles
 mod OrdinaryPatterns
+mod Passing

@@ -1,8 +1,9 @@
 // The first match at one of some places.
-ghost use Rattle.std.specs.Prelude.{◌≡◌, ◌≤◌, ◌+◌, length, IfOk, IfSome};
+ghost use Rattle.std.specs.Prelude.{◌≡◌, ◌≤◌, ◌+◌, [], length, IfOk, IfSome, IfNone};
 ghost use Rattle.lua_pattern.specs.Answer.{first_found};
+ghost use Rattle.lua_pattern.specs.Firsts.{IsInside};
 ghost use Rattle.library_rows.specs.Searches.{counts, ends_there, first_hit};
-ghost use Rattle.text_match.specs.Told.{IsWithin, told_hit};
+ghost use Rattle.text_match.specs.Told.{IsWithin, hit_to, told_hit};
 
 use lua_pattern::{Capture, Pattern};
 use std::alloc::{AllocError, Global};
@@ -19,7 +20,7 @@ pub struct Hit {
 }
 
 /// The first match at one of the places from `at` on, the last of which is `left` further. What counts at a place is the
-/// first of all matches there, unless it ends at `barred`.
+/// first of all matches there, unless it ends at `barred`. Places whose byte begins no match are passed over.
 pub fn first_hit(
     alloc: Global,
     subject: &[u8],
@@ -32,43 +33,48 @@ pub fn first_hit(
     ensures first { IfOk result (λ hit. told_hit hit ≡ first_hit barred subject.now items.now at left) }
     ensures inside { IfOk result (λ hit. IfSome hit (IsWithin (length subject.now))) }
 {
-    let mut place = at;
-    let mut more = left;
+    let mut captures = Vec::new(alloc);
+    let mut place = items.next_start(subject, at, left);
+    let mut more = at + left - place;
     loop {
-        if let Some(hit) = hit_at(alloc, subject, items, barred, place)? {
-            return Ok(Some(hit));
+        if let Some(end) = counted_end(subject, items, barred, place, &mut captures)? {
+            return Ok(Some(Hit {
+                start: place,
+                end,
+                captures,
+            }));
         }
         if more == 0 {
             return Ok(None);
         }
-        place += 1;
-        more -= 1;
+        let next = items.next_start(subject, place + 1, more - 1);
+        more -= next - place;
+        place = next;
     }
 }
 
-/// What counts at a place.
-fn hit_at(
-    alloc: Global,
+/// The end of what counts at a place, and its captures in the list, which is empty before; it is empty again where nothing counts.
+fn counted_end(
     subject: &[u8],
     items: &Pattern,
     barred: Option<usize>,
     at: usize,
-) -> Result<Option<Hit>, AllocError>
-    requires { at ≤ length subject.now }
-    ensures first { IfOk result (λ hit. told_hit hit ≡ counts barred at (first_found subject.now items.now at)) }
-    ensures inside { IfOk result (λ hit. IfSome hit (IsWithin (length subject.now))) }
+    captures: &mut Vec<Capture>,
+) -> Result<Option<usize>, AllocError>
+    requires place { at ≤ length subject.now }
+    requires empty { captures.old.items ≡ [] }
+    ensures first { IfOk result (λ end. hit_to at end captures.new.items ≡ counts barred at (first_found subject.now items.now at)) }
+    ensures empty { IfOk result (λ end. IfNone end (captures.new.items ≡ [])) }
+    ensures inside { IfOk result (λ end. IfSome end (λ place. IsInside (length subject.now) at place captures.new.items)) }
 {
-    let Some(found) = items.first_at(alloc, subject, at)? else {
+    let Some(end) = items.end_at(subject, at, captures)? else {
         return Ok(None);
     };
-    if ends_there(barred, found.end) {
+    if ends_there(barred, end) {
+        captures.clear();
         return Ok(None);
     }
-    Ok(Some(Hit {
-        start: at,
-        end: found.end,
-        captures: found.captures,
-    }))
+    Ok(Some(end))
 }
 
 fn ends_there(barred: Option<usize>, end: usize) -> bool
