@@ -13,7 +13,7 @@ use Rattle.lua_heap.specs.Plain.{plain}
 use Rattle.lua_heap.specs.Reading.{value}
 use Rattle.lib_base.specs.Raw.{heap_of}
 use Rattle.lib_base.specs.declared.answer.Answer.{Answer}
-use Rattle.lib_base.specs.declared.answer.Answer.TheVariants.{One, Gives, Raises}
+use Rattle.lib_base.specs.declared.answer.Answer.TheVariants.{One, Two, Gives, Raises}
 
 -- a sound world, in which the arguments are valid
 pub record Stands (W : Memory) (arguments : List Kept) : Type 0 where
@@ -52,6 +52,7 @@ IsArgument arguments at v = (texts : List (List ℕ)) → nth (map (value texts)
 
 abbrev pub told : Memory → Answer → Done
 told W (One v) = done (heap_of W) (value W.strings v ∷ [])
+told W (Two v w) = done (heap_of W) (value W.strings v ∷ value W.strings w ∷ [])
 told W (Gives vs) = done (heap_of W) (map (value W.strings) vs.items)
 told W (Raises v) = raised (heap_of W) (value W.strings v)
 

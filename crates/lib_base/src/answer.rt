@@ -1,5 +1,5 @@
 // What the functions give.
-ghost use Rattle.std.specs.Prelude.{◌≡◌, ◌∷◌, [], IfOk, drop, map};
+ghost use Rattle.std.specs.Prelude.{◌≡◌, IfOk, drop, map};
 ghost use Rattle.library_rows.specs.Look.{done};
 ghost use Rattle.lua_heap.specs.Reading.{value};
 ghost use Rattle.lua_heap.specs.declared.world.World.{World as Memory};
@@ -14,6 +14,8 @@ use table_core::Value;
 pub enum Answer {
     /// One result, which takes no memory.
     One(Value),
+    /// Two results, which take no memory.
+    Two(Value, Value),
     /// Its results.
     Gives(Vec<Value>),
     /// An error whose value is handed on as it is.
@@ -28,16 +30,6 @@ pub(crate) fn argument(arguments: &[Value], at: usize) -> Value
         Some(argument) => *argument,
         None => Value::Nil,
     }
-}
-
-/// Two results.
-pub(crate) fn two(alloc: Global, first: Value, second: Value) -> Result<Answer, AllocError>
-    ensures { IfOk result (λ answer. (W : Memory) → told W answer ≡ done (heap_of W) (value W.strings first ∷ value W.strings second ∷ [])) }
-{
-    let mut results = Vec::with_capacity(alloc, 2)?;
-    results.push_reserved(first);
-    results.push_reserved(second);
-    Ok(Answer::Gives(results))
 }
 
 /// All arguments from a place on, from 0.

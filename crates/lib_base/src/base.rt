@@ -5,7 +5,7 @@ ghost use Rattle.library_rows.specs.Base.{asserts, collects_garbage, is_count, n
 ghost use Rattle.lib_base.specs.Answers.{Answers, Changes, OnlyStrings, Stands};
 ghost use Rattle.lib_base.specs.Select.{IsBorderValue, IsLength, selected_place};
 
-use crate::answer::{Answer, all_from, argument, two};
+use crate::answer::{Answer, all_from, argument};
 use crate::raw;
 use crate::shapes::{argument_shape, table_argument, wrong_type};
 use crate::strings::string;
@@ -101,10 +101,7 @@ pub fn next(world: &World, arguments: &[Value]) -> Result<Answer, Fault>
 {
     let id = table_argument(world, b"next", arguments)?;
     match raw::row_after(world, id, argument(arguments, 1)) {
-        Ok(Some((key, found))) => {
-            let answer = two(world.alloc, key.value(), found)?;
-            Ok(answer)
-        }
+        Ok(Some((key, found))) => Ok(Answer::Two(key.value(), found)),
         Ok(None) => { Ok(Answer::One(Value::Nil)) }
         Err(NoSuchKey) => Err(Fault::Refused(Refusal::Text(b"invalid key to 'next'"))),
     }

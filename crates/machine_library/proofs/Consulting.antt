@@ -15,7 +15,7 @@ use Rattle.lua_heap.specs.declared.world.World.{World as Memory}
 use Rattle.lua_heap.specs.Plain.{plain}
 use Rattle.lua_heap.specs.Reading.{value}
 use Rattle.lib_base.specs.declared.answer.Answer.{Answer}
-use Rattle.lib_base.specs.declared.answer.Answer.TheVariants.{One, Gives, Raises}
+use Rattle.lib_base.specs.declared.answer.Answer.TheVariants.{One, Two, Gives, Raises}
 use Rattle.lib_base.specs.Answers.{Changes, told}
 use Rattle.lib_base.specs.Raw.{heap_of}
 use Rattle.move_laws.specs.Memory.{Makes, Leads, HasStack, ReadsSame}
@@ -63,6 +63,7 @@ hands_on W e l = by (move see_top [] (plain W 0)) (l.is 0)
 pub answered : (row : Look) (arguments : List Kept) (taken new : Memory) (answer : Answer) → Changes taken new arguments → looked row (map (value taken.strings) arguments) (heap_of taken) ≡ told new answer
     → Makes taken new (consult row 0) (map (value taken.strings) arguments) (values_told new answer) (shape_told answer)
 answered row arguments taken new (One v) c e = record { is = λ fuel. ap (consulted (plain taken fuel)) e ∙ ap (λ W. made W (value new.strings v ∷ []) is_given) (sym (c.plain fuel)) }
+answered row arguments taken new (Two v w) c e = record { is = λ fuel. ap (consulted (plain taken fuel)) e ∙ ap (λ W. made W (value new.strings v ∷ value new.strings w ∷ []) is_given) (sym (c.plain fuel)) }
 answered row arguments taken new (Gives vs) c e = record { is = λ fuel. ap (consulted (plain taken fuel)) e ∙ ap (λ W. made W (map (value new.strings) vs.items) is_given) (sym (c.plain fuel)) }
 answered row arguments taken new (Raises v) c e = record { is = λ fuel. ap (consulted (plain taken fuel)) e ∙ ap (λ W. made W (value new.strings v ∷ []) is_raised) (sym (c.plain fuel)) }
 
@@ -121,6 +122,11 @@ pub gives_one : (old new : Memory) (v : Kept) (vs : List Kept) (e : Ending) → 
     → ((env : List Value) (slot : ℕ) → args_of env [] ++ drop slot env ≡ map (value old.strings) vs → Makes old new (give_with [] slot) env [] tt)
     → ((env : List Value) → Leads hand_over env new new e) → (env : List Value) → Leads (after_look (length env) is_given) (env ++ value old.strings v ∷ []) old new e
 gives_one old new v vs e one gives hands env = subst (λ ws. Leads (after_look (length env) is_given) (env ++ map (value old.strings) ws) old new e) one (gives_on old new vs e gives hands env)
+
+pub gives_two : (old new : Memory) (v w : Kept) (vs : List Kept) (e : Ending) → vs ≡ v ∷ w ∷ []
+    → ((env : List Value) (slot : ℕ) → args_of env [] ++ drop slot env ≡ map (value old.strings) vs → Makes old new (give_with [] slot) env [] tt)
+    → ((env : List Value) → Leads hand_over env new new e) → (env : List Value) → Leads (after_look (length env) is_given) (env ++ value old.strings v ∷ value old.strings w ∷ []) old new e
+gives_two old new v w vs e two gives hands env = subst (λ ws. Leads (after_look (length env) is_given) (env ++ map (value old.strings) ws) old new e) two (gives_on old new vs e gives hands env)
 
 nth_seam : (env : List Value) (v : Value) → nth (env ++ v ∷ []) (length env) ≡ v
 nth_seam env v = nth_is (env ++ v ∷ []) (length env) v (get_push_new env v)

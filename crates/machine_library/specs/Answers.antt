@@ -8,7 +8,7 @@ use Rattle.lua_heap.specs.declared.world.World.{World as Memory}
 use Rattle.lua_heap.specs.Plain.{plain}
 use Rattle.lua_heap.specs.Reading.{value}
 use Rattle.lib_base.specs.declared.answer.Answer.{Answer}
-use Rattle.lib_base.specs.declared.answer.Answer.TheVariants.{One, Gives, Raises}
+use Rattle.lib_base.specs.declared.answer.Answer.TheVariants.{One, Two, Gives, Raises}
 use Rattle.move_laws.specs.Memory.{Leads}
 use Rattle.machine_moves.specs.declared.ending.Ending.{Ending as KeptEnding}
 use Rattle.machine_moves.specs.declared.ending.Ending.TheVariants.{Go, Returned, Raised}
@@ -24,11 +24,13 @@ Goes _ = ⊥
 
 abbrev pub shape_told : Answer → LookShape
 shape_told (One v) = is_given
+shape_told (Two v w) = is_given
 shape_told (Gives vs) = is_given
 shape_told (Raises v) = is_raised
 
 abbrev pub values_told : Memory → Answer → List Value
 values_told W (One v) = value W.strings v ∷ []
+values_told W (Two v w) = value W.strings v ∷ value W.strings w ∷ []
 values_told W (Gives vs) = map (value W.strings) vs.items
 values_told W (Raises v) = value W.strings v ∷ []
 

@@ -1,5 +1,5 @@
 // Functions that look at values and tables alone, called with the values on their way (luaD_precall of ldo.c and luaL_error of lauxlib.c).
-ghost use Rattle.std.specs.Prelude.{◌≡◌, ◌∷◌, ◌<◌, [], List, IfOk, IsTrue, OnErr};
+ghost use Rattle.std.specs.Prelude.{◌≡◌, ◌∷◌, ◌<◌, ◌≤◌, [], List, IfOk, IsTrue, OnErr};
 ghost use Rattle.std.specs.Vec.{vec_capacity};
 ghost use Rattle.int_core.specs.Value.{Value as Meant};
 ghost use Rattle.library_arguments.specs.Refusals.{refusal_text};
@@ -48,21 +48,21 @@ pub fn call_function(world: &mut World, function: Function) -> Result<Ending, Al
     }
 }
 
-/// Makes room for one value at least, whatever is there, and says whether memory was left for it.
+/// Makes room for two values at least, whatever is there, and says whether memory was left for it.
 fn make_room(values: &mut Vec<Value>) -> bool
     ensures items { values.new.items ≡ values.old.items }
-    ensures room { IsTrue result → 0 < vec_capacity values.new }
+    ensures room { IsTrue result → 2 ≤ vec_capacity values.new }
 {
-    if values.capacity() > 0 {
+    if values.capacity() > 1 {
         return true;
     }
-    values.reserve(1).is_ok()
+    values.reserve(2).is_ok()
 }
 
-/// Results are for the frame on top, and a raised value is an error. A single value takes the place of the arguments, which have room for one.
+/// Results are for the frame on top, and a raised value is an error. One value or two take the place of the arguments, which have room for them.
 fn tell(world: &mut World, answer: Answer, arguments: Vec<Value>) -> Ending
     requires running { HasStack world.old }
-    requires room { 0 < vec_capacity arguments }
+    requires room { 2 ≤ vec_capacity arguments }
     ensures tells { Tells world.old world.new answer (ending_of result) }
     ensures goes { Goes result }
     ensures rest { world.new ≡ record world.old { moving = world.new.moving } }
@@ -70,6 +70,10 @@ fn tell(world: &mut World, answer: Answer, arguments: Vec<Value>) -> Ending
     match answer {
         Answer::One(given) => {
             give_values(world, alone(given, arguments));
+            hand_over(world)
+        }
+        Answer::Two(first, second) => {
+            give_values(world, both(first, second, arguments));
             hand_over(world)
         }
         Answer::Gives(results) => {
@@ -91,6 +95,18 @@ fn alone(value: Value, others: Vec<Value>) -> Vec<Value>
     let mut values = others;
     values.clear();
     values.push_reserved(value);
+    values
+}
+
+/// Two values in place of others, which have room for them.
+fn both(first: Value, second: Value, others: Vec<Value>) -> Vec<Value>
+    requires { 2 ≤ vec_capacity others }
+    ensures { result.items ≡ first ∷ second ∷ [] }
+{
+    let mut values = others;
+    values.clear();
+    values.push_reserved(first);
+    values.push_reserved(second);
     values
 }
 

@@ -62,6 +62,9 @@ listed W values few = record { ptr = W.moving.ptr; len = length values; cap = 6;
 pub one_is_few : (v : Kept) → length (v ∷ []) ≤ 6
 one_is_few v = omega arith
 
+pub two_are_few : (v w : Kept) → length (v ∷ w ∷ []) ≤ 6
+two_are_few v w = omega arith
+
 -- one step, and two
 
 one_step : (rows : ℕ → Row) {from to : Ending} {old new : Memory} {fuel left : ℕ} → Does rows from old fuel new left to → steps rows (suc zero) from (plain old fuel) ≡ ends to (plain new left)

@@ -39,6 +39,10 @@ pub(crate) fn take_answer(
             set_wait(world, Wait::Running);
             go_on(world, here, iterates, &[value])
         }
+        Answer::Two(first, second) => {
+            set_wait(world, Wait::Running);
+            go_on(world, here, iterates, &[first, second])
+        }
         Answer::Gives(values) => {
             set_wait(world, Wait::Running);
             go_on(world, here, iterates, values.as_slice())

@@ -6,11 +6,14 @@ use Rattle.machine_moves.specs.Ending.{ending_of}
 use Rattle.machine_library.specs.Answers.{shape_told, values_told}
 use Rattle.machine_step.specs.Places.{GoesOnSo, IsAwake}
 use Rattle.machine_library_calls.specs.Calls.{Comes, wait_by}
-use Rattle.machine_library_calls.proofs.Calling.{awake_with, comes_raised, comes_with, frame_there, listed, listed_there, one_is_few, order_raised, solid_with}
+use Rattle.machine_library_calls.proofs.Calling.{awake_with, comes_raised, comes_with, frame_there, listed, listed_there, one_is_few, order_raised, solid_with, two_are_few}
 use Rattle.machine_library_calls.proofs.answering.take_answer.Goals as goal
 
 pub set_wait-requires : goal.set_wait-requires
 set_wait-requires g c = frame_there c.requires c.loading_is_safe.ensures.safe
+
+pub set_wait-requires-in-Two : goal.set_wait-requires-in-Two
+set_wait-requires-in-Two g c = frame_there c.requires c.loading_is_safe.ensures.safe
 
 pub set_wait-requires-in-Gives : goal.set_wait-requires-in-Gives
 set_wait-requires-in-Gives g c = frame_there c.requires c.loading_is_safe.ensures.safe
@@ -38,6 +41,30 @@ returns-in-One-clause-comes g c =
     comes_with c.requires law (listed X (c.in-One.value ∷ []) (one_is_few c.in-One.value)) (ap shape_told c.in-One.is) (ap (values_told X) c.in-One.is) c.set_wait.new.world
     c.set_wait.ensures.waits c.set_wait.ensures.rest (c.set_wait.ensures.listed (listed_there c.requires law)) c.go_on.new.world ending q builds)
     c.go_on.ensures.goes
+
+pub go_on-requires-in-Two-clause-solid : goal.go_on-requires-in-Two-clause-solid
+go_on-requires-in-Two-clause-solid g c =
+    let X = c.args.world.now in
+    let law = c.loading_is_safe.ensures.safe in
+    solid_with c.requires law (listed X (c.in-Two.first ∷ c.in-Two.second ∷ []) (two_are_few c.in-Two.first c.in-Two.second)) (ap shape_told c.in-Two.is) (ap (values_told X) c.in-Two.is) c.set_wait-in-Two.new.world
+    c.set_wait-in-Two.ensures.waits c.set_wait-in-Two.ensures.rest (c.set_wait-in-Two.ensures.listed (listed_there c.requires law))
+
+pub go_on-requires-in-Two-clause-awake : goal.go_on-requires-in-Two-clause-awake
+go_on-requires-in-Two-clause-awake g c =
+    let X = c.args.world.now in
+    let law = c.loading_is_safe.ensures.safe in
+    awake_with c.requires law (listed X (c.in-Two.first ∷ c.in-Two.second ∷ []) (two_are_few c.in-Two.first c.in-Two.second)) (ap shape_told c.in-Two.is) (ap (values_told X) c.in-Two.is) c.set_wait-in-Two.new.world
+    c.set_wait-in-Two.ensures.waits c.set_wait-in-Two.ensures.rest (c.set_wait-in-Two.ensures.listed (listed_there c.requires law))
+
+pub returns-in-Two-clause-comes : goal.returns-in-Two-clause-comes
+returns-in-Two-clause-comes g c =
+    let X = c.args.world.now in
+    let law = c.loading_is_safe.ensures.safe in
+    IfOk-weaker c.go_on-in-Two.result _ _
+    (λ ending q builds are.
+    comes_with c.requires law (listed X (c.in-Two.first ∷ c.in-Two.second ∷ []) (two_are_few c.in-Two.first c.in-Two.second)) (ap shape_told c.in-Two.is) (ap (values_told X) c.in-Two.is) c.set_wait-in-Two.new.world
+    c.set_wait-in-Two.ensures.waits c.set_wait-in-Two.ensures.rest (c.set_wait-in-Two.ensures.listed (listed_there c.requires law)) c.go_on-in-Two.new.world ending q builds)
+    c.go_on-in-Two.ensures.goes
 
 pub go_on-requires-in-Gives-clause-solid : goal.go_on-requires-in-Gives-clause-solid
 go_on-requires-in-Gives-clause-solid g c =
