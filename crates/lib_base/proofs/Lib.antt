@@ -9,6 +9,7 @@ mod ListRows
 mod Meaning
 mod MetatableRows
 mod PackRows
+mod QuickRows
 mod SeekRows
 mod Sorted
 mod SortRows

@@ -29,7 +29,7 @@ use Rattle.lib_base.proofs.PackRows.{added_rows, drop_next, last, last_is, set_l
 
 -- what the row sees of its first arguments is what its function takes from all of them
 
-argument_is : (vs : List Value) (i : ℕ) → argument (map shape vs) (suc i) ≡ shape (nth vs i)
+pub argument_is : (vs : List Value) (i : ℕ) → argument (map shape vs) (suc i) ≡ shape (nth vs i)
 argument_is vs i = ap {A = Option Shape} (λ o. elim o as (λ _. Shape) [ None ↦ no_word | Some s ↦ s ]) (slice_get-map shape vs i) ∙ go (slice_get vs i)
   where
     go : (o : Option Value) → elim (option_map shape o) as (λ _. Shape) [ None ↦ no_word | Some s ↦ s ] ≡ shape (elim o [ None ↦ known nil | Some v ↦ v ])

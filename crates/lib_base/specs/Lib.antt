@@ -11,3 +11,4 @@ pub mod Math
 pub mod Functions
 pub mod Expanding
 pub mod Matches
+pub mod QuickAnswers

@@ -6,10 +6,11 @@ ghost use Rattle.library_arguments.specs.Shapes.{shapes_of};
 ghost use Rattle.library_rows.specs.Plainly.{plainly};
 ghost use Rattle.lua_heap.specs.Reading.{value};
 ghost use Rattle.lib_base.specs.Answers.{Answers, Changes, OnlyStrings, Stands};
-ghost use Rattle.lib_base.specs.Functions.{function_row, plain_row};
+ghost use Rattle.lib_base.specs.Functions.{function_row, plain_row, text_row};
 
 use crate::answer::Answer;
 use crate::plain::{all_shapes, given};
+use crate::quick::quick_answer;
 use crate::shapes::argument_shape;
 use crate::{
     base, expanding, joining, lists, math, metatables, packing, seeking, sorting, text, texts,
@@ -79,9 +80,23 @@ pub fn call(world: &mut World, function: Function, arguments: &[Value]) -> Resul
         Function::Text => text::text(world, arguments),
         Function::Expand => expanding::expand(world, arguments),
         Function::Seek => seeking::seek(world, arguments),
-        Function::OverTexts(function) => {
-            plain_function(world, Plain::OverTexts(function), arguments)
-        }
+        Function::OverTexts(function) => over_texts(world, function, arguments),
+    }
+}
+
+/// Calls a function that sees texts and integers alone.
+fn over_texts(
+    world: &mut World,
+    function: texts::Function,
+    arguments: &[Value],
+) -> Result<Answer, Fault>
+    requires { Stands world.old arguments.now }
+    ensures answers { Answers (plainly (text_row function)) arguments.now world.old world.new result }
+    ensures kept { OnlyStrings world.old world.new arguments.now }
+{
+    match quick_answer(world, function, arguments) {
+        Some(answer) => Ok(answer),
+        None => plain_function(world, Plain::OverTexts(function), arguments),
     }
 }
 

@@ -13,6 +13,7 @@ pub mod math;
 mod metatables;
 mod packing;
 pub mod plain;
+mod quick;
 pub mod raw;
 mod seeking;
 mod shapes;

@@ -2,3 +2,4 @@ pub mod Bytes
 pub mod Faults
 pub mod Searches
 pub mod Pieces
+pub mod Quick

@@ -11,6 +11,7 @@ mod format_reading;
 mod formatting;
 mod matching;
 mod numbers;
+mod quick;
 mod repeating;
 mod seeking;
 
@@ -19,5 +20,6 @@ pub use expanding::expand;
 pub use filling::{kinds, layout};
 pub use matching::{find, match_pattern};
 pub use numbers::{from, toint, tonumber};
+pub use quick::{Quick, quick_byte, quick_find, quick_sub};
 pub use repeating::rep;
 pub use seeking::{Sought, seek};

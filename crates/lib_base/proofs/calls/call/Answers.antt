@@ -15,7 +15,7 @@ pub returns-in-Math-clause-changes : goal.returns-in-Math-clause-changes
 returns-in-Math-clause-changes c = changes_strings c.args.world.now c.plain_function.new.world c.args.arguments.now c.plain_function.ensures.kept
 
 pub returns-in-OverTexts-clause-changes : goal.returns-in-OverTexts-clause-changes
-returns-in-OverTexts-clause-changes c = changes_strings c.args.world.now c.plain_function-in-OverTexts.new.world c.args.arguments.now c.plain_function-in-OverTexts.ensures.kept
+returns-in-OverTexts-clause-changes c = changes_strings c.args.world.now c.over_texts.new.world c.args.arguments.now c.over_texts.ensures.kept
 
 pub returns-in-Expand-clause-changes : goal.returns-in-Expand-clause-changes
 returns-in-Expand-clause-changes c = changes_strings c.args.world.now c.expand.new.world c.args.arguments.now c.expand.ensures.kept
