@@ -1,5 +1,5 @@
 -- What a replacement comes to, before it becomes values.
-use Rattle.std.specs.Prelude.{◌≡◌, true, List, map, Result, Ok, Err}
+use Rattle.std.specs.Prelude.{◌≡◌, ◌==◌, ℕ, Bool, true, List, map, Result, Ok, Err}
 use Rattle.std.specs.List.{list_all}
 use Rattle.int_core.specs.Heap.{Heap}
 use Rattle.int_core.specs.Value.{Value, known}
@@ -17,3 +17,7 @@ abbrev pub IsExpanded : List Value → Heap → Result Results Fault → Type 0
 IsExpanded vs H (Ok results) = (looked expand vs H ≡ done H (map known (results_of results))) × (list_all fits_length (results_of results) ≡ true)
 IsExpanded vs H (Err (Refused why)) = looked expand vs H ≡ refused (refusal_text why)
 IsExpanded vs H (Err Memory) = Unit {0}
+
+-- a `%` stands for no byte of its own in a replacement
+abbrev pub is_escape : ℕ → Bool
+is_escape byte = byte == 37

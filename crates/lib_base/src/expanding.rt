@@ -1,12 +1,15 @@
 // A replacement with captures from a table, for `string.gsub` of the prelude (Lua 5.4 manual, 6.4).
 ghost use Rattle.std.specs.Prelude.{◌≡◌, IfOk, map};
+ghost use Rattle.std.specs.List.{list_any};
 ghost use Rattle.int_core.specs.Value.{a_table, object, shape};
 ghost use Rattle.library_arguments.specs.Shapes.{shapes_of};
 ghost use Rattle.library_rows.specs.Base.{expand};
+ghost use Rattle.table_core.specs.declared.value.Value.TheVariants.{Str, Table};
 ghost use Rattle.lua_heap.specs.Reading.{value};
-ghost use Rattle.lib_base.specs.Answers.{Answers, OnlyStrings, Stands};
-ghost use Rattle.lib_base.specs.Expanding.{IsExpanded};
+ghost use Rattle.lib_base.specs.Answers.{Answers, IsArgument, OnlyStrings, Stands};
+ghost use Rattle.lib_base.specs.Expanding.{IsExpanded, is_escape};
 ghost use Rattle.lib_base.specs.Lists.{items_from};
+ghost use Rattle.lib_base.specs.QuickAnswers.{IsQuickAnswer};
 ghost use Rattle.lib_base.specs.Raw.{heap_of};
 
 use crate::answer::{Answer, argument};
@@ -19,7 +22,7 @@ use library_arguments::{
 use lua_heap::World;
 use lua_heap::law::strings_are_there;
 use std::alloc::AllocError;
-use table_core::{TableId, Value};
+use table_core::{StrId, TableId, Value};
 
 /// The replacement that is the first argument, with the captures of the table that is the second one.
 pub fn expand(world: &mut World, arguments: &[Value]) -> Result<Answer, Fault>
@@ -27,9 +30,55 @@ pub fn expand(world: &mut World, arguments: &[Value]) -> Result<Answer, Fault>
     ensures answers { Answers expand arguments.now world.old world.new result }
     ensures kept { OnlyStrings world.old world.new arguments.now }
 {
+    if let Some(answer) = unescaped(world, arguments) {
+        return Ok(answer);
+    }
     let results = expanded(world, arguments)?;
     let answer = given(world, arguments, &results)?;
     Ok(answer)
+}
+
+/// A replacement that is a string without a `%`, which stands for itself. `None` says nothing.
+fn unescaped(world: &World, arguments: &[Value]) -> Option<Answer>
+    requires { Stands world.now arguments.now }
+    ensures { IsQuickAnswer expand arguments.now world.now result }
+{
+    match argument(arguments, 0) {
+        Value::Str(id) => unescaped_string(world, arguments, id),
+        _ => None,
+    }
+}
+
+fn unescaped_string(world: &World, arguments: &[Value], id: StrId) -> Option<Answer>
+    requires stands { Stands world.now arguments.now }
+    requires first { IsArgument arguments.now 0 (Str id) }
+    ensures { IsQuickAnswer expand arguments.now world.now result }
+{
+    match argument(arguments, 1) {
+        Value::Table(captures) => own_text(world, arguments, id, captures),
+        _ => None,
+    }
+}
+
+/// A string without a `%`, where captures are in a table.
+fn own_text(world: &World, arguments: &[Value], id: StrId, captures: TableId) -> Option<Answer>
+    requires stands { Stands world.now arguments.now }
+    requires first { IsArgument arguments.now 0 (Str id) }
+    requires second { IsArgument arguments.now 1 (Table captures) }
+    ensures { IsQuickAnswer expand arguments.now world.now result }
+{
+    strings_are_there();
+    world.strings.len();
+    if has_escape(world.bytes(id)) {
+        return None;
+    }
+    Some(Answer::One(Value::Str(id)))
+}
+
+fn has_escape(text: &[u8]) -> bool
+    ensures { result ≡ list_any is_escape text.now }
+{
+    text.iter().any(|byte| *byte == b'%')
 }
 
 /// What it gives, before it becomes values.
