@@ -1,30 +1,30 @@
 -- Places at which no match begins, by the class of the byte that each match begins with.
-use Rattle.std.proofs.Common.{◌≡◌, ℕ, suc, ◌+◌, ◌-◌, ◌<◌, ◌≤◌, Bool, true, false, cond, not, List, [], ◌∷◌, ◌++◌, length, take, drop, reverse, get_or, get_or-take, get_or-drop, length-take, Some, None, refl, sym, ap, subst, ◌∙◌, arith}
+use Rattle.std.proofs.Common.{◌≡◌, ℕ, suc, ◌+◌, ◌-◌, ◌<◌, ◌≤◌, Bool, true, false, cond, not, List, [], ◌∷◌, ◌++◌, length, take, drop, reverse, get_or, get_or-take, get_or-drop, length-take, Option, Some, None, refl, sym, ap, subst, ◌∙◌, arith}
 use Rattle.std.specs.Prelude.{slice_get}
 use Rattle.std.specs.List.{flat_map, range_with_len, prefix_len}
 use Rattle.std.specs.Option.{option_and_then, option_map_or}
 use Rattle.std.proofs.lemmas.List.Sums.{prefix_len_passes, prefix_len-le-length}
 use Rattle.std.proofs.lemmas.Option.{slice_get-get_or}
 use Rattle.lua_pattern.specs.declared.answer.Capture.{Capture}
-use Rattle.lua_pattern.specs.declared.answer.Capture.TheVariants.{Text}
+use Rattle.lua_pattern.specs.declared.answer.Capture.TheVariants.{Text, Position}
 use Rattle.lua_pattern.specs.declared.class.Class.{Class}
 use Rattle.lua_pattern.specs.declared.item.Item.{Item}
 use Rattle.lua_pattern.specs.declared.item.Item.TheVariants.{Plain, Repeated, Open, Close, Place}
 use Rattle.lua_pattern.specs.declared.item.Plain.TheVariants.{Single, Balanced, Frontier, Reference, AtEnd}
 use Rattle.lua_pattern.specs.declared.item.Repeat.TheVariants.{Optional, ZeroOrMore, OneOrMore, Lazy}
 use Rattle.lua_pattern.specs.Answer.{first_found}
-use Rattle.lua_pattern.specs.Begins.{IsPassed, first_class, is_open, needed_class}
+use Rattle.lua_pattern.specs.Begins.{IsPassed, first_class, is_capture, needed_class, rules_out}
 use Rattle.lua_pattern.specs.ClassBytes.{class_has}
 use Rattle.lua_pattern.specs.Ends.{ends}
-use Rattle.lua_pattern.specs.Ways.{is_class_at, run_of}
+use Rattle.lua_pattern.specs.Ways.{ended, is_class_at, run_of}
 use Rattle.lua_pattern.proofs.Runs.{run_none}
-use Rattle.lua_pattern.proofs.Tries.{ends-plain_none, ends-open, ends-repeated}
+use Rattle.lua_pattern.proofs.Tries.{ends-plain_none, ends-open, ends-place, ends-close, ends-repeated}
 
--- the class behind the beginning of a capture
-behind_open : (rest : List Item) → first_class (Open ∷ rest) ≡ first_class rest
-behind_open rest =
-    let one_more : 1 + prefix_len is_open rest ≡ suc (prefix_len is_open rest) = omega arith in
-    ap (λ n. option_and_then needed_class (slice_get (Open ∷ rest) n)) one_more
+-- the class behind a capture
+behind : (item : Item) (rest : List Item) → is_capture item ≡ true → first_class (item ∷ rest) ≡ first_class rest
+behind item rest is =
+    let one_more : 1 + prefix_len is_capture rest ≡ suc (prefix_len is_capture rest) = omega arith in
+    ap (λ b. option_and_then needed_class (slice_get (item ∷ rest) (cond b (1 + prefix_len is_capture rest) 0))) is ∙ ap (λ n. option_and_then needed_class (slice_get (item ∷ rest) n)) one_more
 
 none_some : (class : Class) → None ≡ Some class → ⊥
 none_some class e = cc
@@ -50,13 +50,20 @@ begins_none subject class (Repeated own OneOrMore ∷ rest) at captures is fails
     ends-repeated subject rest at captures own OneOrMore ∙ ap (λ run. flat_map (λ place. ends subject rest place captures) (reverse (range_with_len (at + 1) run))) none
 begins_none subject class (Repeated own Lazy ∷ rest) at captures is fails = absurd (none_some class is)
 begins_none subject class (Open ∷ rest) at captures is fails =
-    ends-open subject rest at captures ∙ begins_none subject class rest at (captures ++ Text at at ∷ []) (sym (behind_open rest) ∙ is) fails
-begins_none subject class (Close number ∷ rest) at captures is fails = absurd (none_some class is)
-begins_none subject class (Place ∷ rest) at captures is fails = absurd (none_some class is)
+    ends-open subject rest at captures ∙ begins_none subject class rest at (captures ++ Text at at ∷ []) (sym (behind Open rest refl) ∙ is) fails
+begins_none subject class (Close number ∷ rest) at captures is fails =
+    ends-close subject rest at captures number ∙ begins_none subject class rest at (ended captures number at) (sym (behind (Close number) rest refl) ∙ is) fails
+begins_none subject class (Place ∷ rest) at captures is fails =
+    ends-place subject rest at captures ∙ begins_none subject class rest at (captures ++ Position at ∷ []) (sym (behind Place rest refl) ∙ is) fails
 
 not_so : (b : Bool) → not b ≡ true → b ≡ false
 not_so true h = absurd (cc)
 not_so false h = refl
+
+-- so do no items whose class rules a place out
+pub ruled_out : (subject : List ℕ) (class : Option Class) (items : List Item) (at : ℕ) (captures : List Capture) → class ≡ first_class items → rules_out class subject at ≡ true → ends subject items at captures ≡ []
+ruled_out subject None items at captures is out = absurd (cc)
+ruled_out subject (Some class) items at captures is out = begins_none subject class items at captures (sym is) (not_so (is_class_at class subject at) out)
 
 abbrev pub other : Class → ℕ → Bool
 other class byte = not (class_has class byte)
@@ -72,7 +79,7 @@ module _ (subject : List ℕ) (class : Class) (at left : ℕ) (fits : at + left 
       let within : k < left = omega (arith, passed, prefix_len-le-length (other class) (take left (drop at subject)), length-take left (drop at subject)) in
       let here : slice_get subject (at + k) ≡ Some (get_or subject (at + k) 0) = slice_get-get_or subject (at + k) 0 (omega (arith, within, fits)) in
       let fails : class_has class (get_or subject (at + k) 0) ≡ false
-      = ap (class_has class) (sym (byte_of_part subject at left k within)) ∙ not_so (class_has class (get_or (take left (drop at subject)) k 0)) (prefix_len_passes (other class) text k 0 passed) in
+      = ap (class_has class) (sym (byte_of_part subject at left k within)) ∙ not_so (class_has class (get_or (take left (drop at subject)) k 0)) (prefix_len_passes (other class) (take left (drop at subject)) k 0 passed) in
       ap (λ o. option_map_or (class_has class) o false) here ∙ fails
 
   none_before : (items : List Item) (n : ℕ) → first_class items ≡ Some class → n ≡ prefix_len (other class) (take left (drop at subject)) → (place : ℕ) → at ≤ place → place < at + n → first_found subject items place ≡ None

@@ -1,5 +1,5 @@
 -- Where a match of the items of a pattern can begin.
-use Rattle.std.specs.Prelude.{◌≡◌, ℕ, ◌≤◌, ◌<◌, Bool, true, false, List, slice_get, Option, Some, None}
+use Rattle.std.specs.Prelude.{◌≡◌, ℕ, ◌≤◌, ◌<◌, Bool, true, false, not, List, slice_get, Option, Some, None}
 use Rattle.std.specs.List.{prefix_len}
 use Rattle.std.specs.Option.{option_and_then}
 use Rattle.lua_pattern.specs.declared.class.Class.{Class}
@@ -10,14 +10,15 @@ use Rattle.lua_pattern.specs.declared.item.Plain.TheVariants.{Single, Balanced, 
 use Rattle.lua_pattern.specs.declared.item.Repeat.{Repeat}
 use Rattle.lua_pattern.specs.declared.item.Repeat.TheVariants.{Optional, ZeroOrMore, OneOrMore, Lazy}
 use Rattle.lua_pattern.specs.Answer.{first_found}
+use Rattle.lua_pattern.specs.Ways.{is_class_at}
 
--- a capture begins, which takes no byte
-abbrev pub is_open : Item → Bool
-is_open (Plain plain) = false
-is_open (Repeated class repeat) = false
-is_open Open = true
-is_open (Close number) = false
-is_open Place = false
+-- a capture begins or ends, which takes no byte
+abbrev pub is_capture : Item → Bool
+is_capture (Plain plain) = false
+is_capture (Repeated class repeat) = false
+is_capture Open = true
+is_capture (Close number) = true
+is_capture Place = true
 
 -- the class of the byte that an item takes in any case
 
@@ -41,9 +42,14 @@ needed_class Open = None
 needed_class (Close number) = None
 needed_class Place = None
 
--- the class of the byte that each match of some items begins with, where the first item that begins no capture tells it
+-- the class of the byte that each match of some items begins with, where the first item that is no capture tells it
 abbrev pub first_class : List Item → Option Class
-first_class items = option_and_then needed_class (slice_get items (prefix_len is_open items))
+first_class items = option_and_then needed_class (slice_get items (prefix_len is_capture items))
+
+-- the byte of a place is not in such a class
+abbrev pub rules_out : Option Class → List ℕ → ℕ → Bool
+rules_out None subject at = false
+rules_out (Some class) subject at = not (is_class_at class subject at)
 
 -- no match begins from one place up to another one, which is left out
 pub record IsPassed (subject : List ℕ) (items : List Item) (from to : ℕ) : Type 0 where

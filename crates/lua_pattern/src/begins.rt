@@ -2,11 +2,12 @@
 ghost use Rattle.std.specs.Prelude.{◌≡◌, ◌+◌, ◌≤◌, length, take, drop, not};
 ghost use Rattle.std.specs.List.{prefix_len};
 ghost use Rattle.std.specs.Option.{option_map};
-ghost use Rattle.lua_pattern.specs.Begins.{IsPassed, first_class, is_open, needed_class, repeated_class, single_class};
+ghost use Rattle.lua_pattern.specs.Begins.{IsPassed, first_class, is_capture, needed_class, repeated_class, rules_out, single_class};
 ghost use Rattle.lua_pattern.specs.ClassBytes.{class_has};
 
 use crate::class::Class;
 use crate::item::{Item, Plain, Repeat};
+use crate::plain::is_class_at;
 
 /// The first place from `at` on, and at most `left` further, before which no match of the items begins. Places whose byte begins no match are passed over.
 pub(crate) fn next_start(subject: &[u8], items: &[Item], at: usize, left: usize) -> usize
@@ -39,19 +40,30 @@ fn span(subject: &[u8], at: usize, count: usize) -> &[u8]
     &subject[at..at + count]
 }
 
-/// The class of the byte that each match of the items begins with, where the first item that begins no capture tells it.
-fn first_class(items: &[Item]) -> Option<&Class>
+/// Whether the byte of a place is not in the class of the byte that each match begins with.
+#[inline(always)]
+pub(crate) fn rules_out(class: Option<&Class>, subject: &[u8], at: usize) -> bool
+    ensures { result ≡ rules_out (option_map (λ class. class.now) class) subject.now at }
+{
+    match class {
+        Some(class) => !is_class_at(subject, class, at),
+        None => false,
+    }
+}
+
+/// The class of the byte that each match of the items begins with, where the first item that is no capture tells it.
+pub(crate) fn first_class(items: &[Item]) -> Option<&Class>
     ensures { option_map (λ class. class.now) result ≡ first_class items.now }
 {
-    let item = items.get(opened(items))?;
+    let item = items.get(captures(items))?;
     needed_class(item)
 }
 
-/// How many captures begin before any other item.
-fn opened(items: &[Item]) -> usize
-    ensures { result ≡ prefix_len is_open items.now }
+/// How many captures begin or end before any other item.
+fn captures(items: &[Item]) -> usize
+    ensures { result ≡ prefix_len is_capture items.now }
 {
-    items.iter().take_while(|item| item.is_open()).count()
+    items.iter().take_while(|item| item.is_capture()).count()
 }
 
 /// The class of the byte that an item takes in any case.

@@ -45,7 +45,7 @@ pub enum Item {
 impl Item {
     ghost use Rattle.std.specs.Prelude.{◌≡◌};
     ghost use Rattle.lua_pattern.specs.Answer.{is_counted};
-    ghost use Rattle.lua_pattern.specs.Begins.{is_open};
+    ghost use Rattle.lua_pattern.specs.Begins.{is_capture};
 
     /// Whether it is one of the captures and quantifiers of which a pattern has at most 200.
     pub(crate) fn is_counted(&self) -> bool
@@ -54,10 +54,10 @@ impl Item {
         matches!(self, Item::Repeated(..) | Item::Open | Item::Place)
     }
 
-    /// Whether a capture begins, which takes no byte.
-    pub(crate) fn is_open(&self) -> bool
-        ensures { result ≡ is_open self.now }
+    /// Whether a capture begins or ends, which takes no byte.
+    pub(crate) fn is_capture(&self) -> bool
+        ensures { result ≡ is_capture self.now }
     {
-        matches!(self, Item::Open)
+        matches!(self, Item::Open | Item::Close(_) | Item::Place)
     }
 }

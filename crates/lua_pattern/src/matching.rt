@@ -1,12 +1,15 @@
 // The first match of a list of items, found by going back over single tries.
 ghost use Rattle.std.specs.Prelude.{◌≡◌, ℕ, ◌+◌, ◌≤◌, List, [], ◌∷◌, ◌++◌, length, reverse, drop, slice_get, IfOk, IfSome};
 ghost use Rattle.std.specs.List.{range_with_len};
+ghost use Rattle.std.specs.Option.{option_map};
+ghost use Rattle.lua_pattern.specs.Begins.{first_class};
 ghost use Rattle.lua_pattern.specs.Ends.{ends, ends_at};
 ghost use Rattle.lua_pattern.specs.Firsts.{AreBefore, IsBefore, IsFirst, IsInside};
 ghost use Rattle.lua_pattern.specs.Ways.{ended, run_of};
 ghost use Rattle.lua_pattern.specs.declared.item.Item.TheVariants.{Repeated};
 
 use crate::answer::Capture;
+use crate::begins::{first_class, rules_out};
 use crate::class::Class;
 use crate::item::{Item, Repeat};
 use crate::plain::{is_class_at, plain_end, run_at};
@@ -106,10 +109,11 @@ fn longest_first(
     ensures inside { IfOk result (λ end. IfSome end
         (λ place. IsInside (length subject.now) first place captures.new.items)) }
 {
+    let class = first_class(rest);
     let mut tries = tries;
     while tries > 0 {
         tries -= 1;
-        let end = first_match(subject, rest, first + tries, captures)?;
+        let end = tried(subject, class, rest, first + tries, captures)?;
         if end.is_some() {
             return Ok(end);
         }
@@ -135,9 +139,10 @@ fn shortest_first(
     ensures inside { IfOk result (λ end. IfSome end
         (λ place. IsInside (length subject.now) at place captures.new.items)) }
 {
+    let next = first_class(rest);
     let mut place = at;
     loop {
-        let end = first_match(subject, rest, place, captures)?;
+        let end = tried(subject, next, rest, place, captures)?;
         if end.is_some() {
             return Ok(end);
         }
@@ -146,6 +151,31 @@ fn shortest_first(
         }
         place += 1;
     }
+}
+
+/// The first match of items at a place, where the class of the byte that each match begins with is known. There is none where it rules the place out.
+#[cycle(matching)]
+#[inline(always)]
+fn tried(
+    subject: &[u8],
+    class: Option<&Class>,
+    rest: &[Item],
+    at: usize,
+    captures: &mut Vec<Capture>,
+) -> Result<Option<usize>, AllocError>
+    requires place { at ≤ length subject.now }
+    requires captured { AreBefore at captures.old.items }
+    requires told { option_map (λ class. class.now) class ≡ first_class rest.now }
+    ensures first { IfOk result
+        (λ end. IsFirst (ends subject.now rest.now at captures.old.items)
+        end captures.old.items captures.new.items) }
+    ensures inside { IfOk result (λ end. IfSome end
+        (λ place. IsInside (length subject.now) at place captures.new.items)) }
+{
+    if rules_out(class, subject, at) {
+        return Ok(None);
+    }
+    first_match(subject, rest, at, captures)
 }
 
 /// The first match of items with one more capture before it, which is taken off where there is none.

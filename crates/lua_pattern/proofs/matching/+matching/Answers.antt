@@ -4,10 +4,13 @@ use Rattle.std.proofs.lemmas.List.{nil_from_length}
 use Rattle.lua_pattern.specs.Ends.{ends}
 use Rattle.lua_pattern.specs.Firsts.{IsFirst}
 use Rattle.std.specs.List.{range_with_len}
+use Rattle.std.specs.Option.{option_map}
+use Rattle.lua_pattern.specs.Begins.{rules_out}
 use Rattle.lua_pattern.specs.Ways.{Found, is_class_at, run_of, places, plain_end}
 use Rattle.lua_pattern.specs.declared.item.Repeat.TheVariants.{Optional, ZeroOrMore, OneOrMore}
 use Rattle.lua_pattern.specs.declared.answer.Capture.TheVariants.{Text, Position}
 use Rattle.lua_pattern.proofs.Runs.{run_more, run_none, is_there}
+use Rattle.lua_pattern.proofs.Starts.{ruled_out}
 use Rattle.lua_pattern.proofs.Tries.{retold, from_left, ends-plain_none, ends-open, ends-place, ends-close, repeated_by, longest_found, longest_more, shortest_more, shortest_none, optional_tries, ended-text, ended-position, ended-none, put_back, given_up, inside_later, kept_found}
 use Rattle.lua_pattern.proofs.matching.+matching.Goals as goal
 use Rattle.lua_pattern.proofs.matching.+matching.Goals.{repeated-then-is_class_at, repeated-else-is_class_at}
@@ -78,17 +81,17 @@ pub longest_first-returns-then-is_some-clause-first : goal.longest_first-returns
 longest_first-returns-then-is_some-clause-first t c =
     let i = c.loop-tries.invariant in
     let behind : ℕ → List Found = λ place. ends c.args.subject.now c.args.rest.now place c.args.captures.now.items in
-    let is : IsFirst (behind (c.args.first + (c.loop-tries.tries - 1))) c.in_ok-end.end c.args.captures.now.items c.first_match.new.captures.items =
-    subst (λ captures. IsFirst (ends c.args.subject.now c.args.rest.now (c.args.first + (c.loop-tries.tries - 1)) captures) c.in_ok-end.end captures c.first_match.new.captures.items) i.1 c.in_ok-end.ensures.first in
-    longest_found behind c.args.captures.now.items c.first_match.new.captures.items c.args.first c.loop-tries.tries c.in_ok-end.end c.loop-tries-test.true i.2 (sym c.if-is_some.ensures) is
+    let is : IsFirst (behind (c.args.first + (c.loop-tries.tries - 1))) c.in_ok-end.end c.args.captures.now.items c.tried.new.captures.items =
+    subst (λ captures. IsFirst (ends c.args.subject.now c.args.rest.now (c.args.first + (c.loop-tries.tries - 1)) captures) c.in_ok-end.end captures c.tried.new.captures.items) i.1 c.in_ok-end.ensures.first in
+    longest_found behind c.args.captures.now.items c.tried.new.captures.items c.args.first c.loop-tries.tries c.in_ok-end.end c.loop-tries-test.true i.2 (sym c.if-is_some.ensures) is
 
 pub longest_first-loop-tries-preserved : goal.longest_first-loop-tries-preserved
 longest_first-loop-tries-preserved t c =
     let i = c.loop-tries.invariant in
     let behind : ℕ → List Found = λ place. ends c.args.subject.now c.args.rest.now place c.args.captures.now.items in
-    let is : IsFirst (behind (c.args.first + (c.loop-tries.tries - 1))) c.in_ok-end.end c.args.captures.now.items c.first_match.new.captures.items =
-    subst (λ captures. IsFirst (ends c.args.subject.now c.args.rest.now (c.args.first + (c.loop-tries.tries - 1)) captures) c.in_ok-end.end captures c.first_match.new.captures.items) i.1 c.in_ok-end.ensures.first in
-    let left = longest_more behind c.args.captures.now.items c.first_match.new.captures.items c.args.first c.loop-tries.tries c.in_ok-end.end c.loop-tries-test.true i.2 (sym c.if-is_some.ensures) is in
+    let is : IsFirst (behind (c.args.first + (c.loop-tries.tries - 1))) c.in_ok-end.end c.args.captures.now.items c.tried.new.captures.items =
+    subst (λ captures. IsFirst (ends c.args.subject.now c.args.rest.now (c.args.first + (c.loop-tries.tries - 1)) captures) c.in_ok-end.end captures c.tried.new.captures.items) i.1 c.in_ok-end.ensures.first in
+    let left = longest_more behind c.args.captures.now.items c.tried.new.captures.items c.args.first c.loop-tries.tries c.in_ok-end.end c.loop-tries-test.true i.2 (sym c.if-is_some.ensures) is in
     (omega (arith, i.0), left.0, left.1)
 
 pub repeated-returns-after-is_class_at-clause-first : goal.repeated-returns-after-is_class_at-clause-first
@@ -125,9 +128,9 @@ shortest_first-returns-then-not-is_class_at-clause-first t c =
     let subject = c.args.subject.now in
     let place = c.loop-end.place in
     let behind : ℕ → List Found = λ place. ends subject c.args.rest.now place c.args.captures.now.items in
-    let is : IsFirst (behind place) c.in_ok-end.end c.args.captures.now.items c.first_match.new.captures.items =
-    subst (λ captures. IsFirst (ends subject c.args.rest.now place captures) c.in_ok-end.end captures c.first_match.new.captures.items) i.2 c.in_ok-end.ensures.first in
-    shortest_none behind c.args.captures.now.items c.first_match.new.captures.items place _ c.in_ok-end.end (run_none class subject place (sym c.if-not-is_class_at.ensures)) i.3 (sym c.if-is_some.ensures) is
+    let is : IsFirst (behind place) c.in_ok-end.end c.args.captures.now.items c.tried.new.captures.items =
+    subst (λ captures. IsFirst (ends subject c.args.rest.now place captures) c.in_ok-end.end captures c.tried.new.captures.items) i.2 c.in_ok-end.ensures.first in
+    shortest_none behind c.args.captures.now.items c.tried.new.captures.items place _ c.in_ok-end.end (run_none class subject place (sym c.if-not-is_class_at.ensures)) i.3 (sym c.if-is_some.ensures) is
 
 pub shortest_first-loop-end-preserved : goal.shortest_first-loop-end-preserved
 shortest_first-loop-end-preserved t c =
@@ -136,11 +139,11 @@ shortest_first-loop-end-preserved t c =
     let subject = c.args.subject.now in
     let place = c.loop-end.place in
     let behind : ℕ → List Found = λ place. ends subject c.args.rest.now place c.args.captures.now.items in
-    let is : IsFirst (behind place) c.in_ok-end.end c.args.captures.now.items c.first_match.new.captures.items =
-    subst (λ captures. IsFirst (ends subject c.args.rest.now place captures) c.in_ok-end.end captures c.first_match.new.captures.items) i.2 c.in_ok-end.ensures.first in
+    let is : IsFirst (behind place) c.in_ok-end.end c.args.captures.now.items c.tried.new.captures.items =
+    subst (λ captures. IsFirst (ends subject c.args.rest.now place captures) c.in_ok-end.end captures c.tried.new.captures.items) i.2 c.in_ok-end.ensures.first in
     let holds : is_class_at class subject place ≡ true = sym c.if-not-is_class_at.ensures in
     let inside = is_there class subject place holds in
-    let left = shortest_more behind c.args.captures.now.items c.first_match.new.captures.items place _ _ c.in_ok-end.end (run_more class subject place holds) i.3 (sym c.if-is_some.ensures) is in
+    let left = shortest_more behind c.args.captures.now.items c.tried.new.captures.items place _ _ c.in_ok-end.end (run_more class subject place holds) i.3 (sym c.if-is_some.ensures) is in
     (omega (arith, i.0), omega (arith, inside), left.0, left.1)
 
 pub first_match-returns-in-Repeated-clause-inside : goal.first_match-returns-in-Repeated-clause-inside
@@ -154,3 +157,8 @@ first_match-returns-in-Place-clause-inside t c = inside_later c.captured-in-Plac
 
 pub first_match-returns-in-Close-clause-inside : goal.first_match-returns-in-Close-clause-inside
 first_match-returns-in-Close-clause-inside t c = inside_later c.closed.result (length c.args.subject.now) c.args.at c.loop-item.at _ c.loop-item.invariant.5 c.closed.ensures.inside
+
+pub tried-returns-then-rules_out-clause-first : goal.tried-returns-then-rules_out-clause-first
+tried-returns-then-rules_out-clause-first t c =
+    let out : rules_out (option_map (λ class. class.now) c.args.class) c.args.subject.now c.args.at ≡ true = sym c.rules_out.ensures ∙ c.if-rules_out.true in
+    (ruled_out c.args.subject.now _ c.args.rest.now c.args.at c.args.captures.now.items c.requires.told out, refl)

@@ -8,22 +8,25 @@ use Rattle.lua_pattern.proofs.matching.+matching.Given as goal
 -- Each call of the circle has fewer items before it, or the same and a step less to the try of all of them.
 
 abbrev pub decreases-first_match : goal.decreases-first_match
-decreases-first_match l = 3 * length l.items.now + 1
+decreases-first_match l = 4 * length l.items.now + 1
+
+abbrev pub decreases-tried : goal.decreases-tried
+decreases-tried l = 4 * length l.rest.now + 2
 
 abbrev pub decreases-longest_first : goal.decreases-longest_first
-decreases-longest_first l = 3 * length l.rest.now + 2
+decreases-longest_first l = 4 * length l.rest.now + 3
 
 abbrev pub decreases-shortest_first : goal.decreases-shortest_first
-decreases-shortest_first l = 3 * length l.rest.now + 2
+decreases-shortest_first l = 4 * length l.rest.now + 3
 
 abbrev pub decreases-captured : goal.decreases-captured
-decreases-captured l = 3 * length l.rest.now + 2
+decreases-captured l = 4 * length l.rest.now + 2
 
 abbrev pub decreases-closed : goal.decreases-closed
-decreases-closed l = 3 * length l.rest.now + 2
+decreases-closed l = 4 * length l.rest.now + 2
 
 abbrev pub decreases-repeated : goal.decreases-repeated
-decreases-repeated l = 3 * length l.rest.now + 3
+decreases-repeated l = 4 * length l.rest.now + 4
 
 -- the items that are left have the same matches from here as all have from the start
 abbrev pub invariant-first_match-loop-item : goal.invariant-first_match-loop-item
