@@ -1,10 +1,11 @@
 -- The first place at which a text stands.
 use Rattle.std.proofs.Common.{◌≡◌, ℕ, zero, suc, ◌+◌, ◌<◌, ◌≤◌, Bool, true, false, List, [], ◌∷◌, length, take, drop, get_or, length-take, length-drop, get_or-take, Option, Some, None, refl, sym, ap, ◌∙◌, arith}
-use Rattle.std.specs.Prelude.{nat_eq}
+use Rattle.std.specs.Prelude.{nat_eq, slice_get, slice_index}
 use Rattle.std.specs.List.{starts_with}
 use Rattle.std.specs.Cmp.Lexicographic.{pointwise, same_text, other_text}
+use Rattle.std.proofs.lemmas.Bool.{eq-eqb}
 use Rattle.std.proofs.lemmas.List.{get_or-drop}
-use Rattle.memchr.specs.Find.{OccursAt, FindsNeedle}
+use Rattle.memchr.specs.Find.{OccursAt, FindsNeedle, IsFirstByte, Passes, is_byte}
 use Rattle.memchr.proofs.lemmas.MatchLemmas.{OccursAt-part}
 use Rattle.library_rows.specs.Searches.{text_from}
 
@@ -55,3 +56,30 @@ found_there hay t at k found =
 
 pub found_nowhere : (hay t : List ℕ) (at : ℕ) → FindsNeedle hay t 0 None → None ≡ text_from t at hay
 found_nowhere hay t at none = sym (stands_nowhere t hay at (λ j h e. none j (omega arith) (omega arith) (occurs hay t j h e)))
+
+-- Places of the first byte.
+
+first_is : (t : List ℕ) (first : ℕ) → slice_get t 0 ≡ Some first → (0 < length t) × (slice_index t 0 ≡ first)
+first_is [] first e = absurd (cc)
+first_is (b ∷ t) first e = let given : Some b ≡ Some first = e in let same : b ≡ first = cc in (omega arith, same)
+
+-- the first byte stands where the text stands
+byte_there : (hay t : List ℕ) (first k : ℕ) → slice_get t 0 ≡ Some first → OccursAt hay t k → (k < length hay) × Passes (is_byte first) hay k
+byte_there hay t first k e occurs =
+    let f = first_is t first e in
+    let here : k + 0 ≡ k = omega arith in
+    (omega (arith, f.0, occurs.fits), eq-eqb (slice_index hay k) first (ap (slice_index hay) (sym here) ∙ occurs.reads 0 f.0 ∙ f.1))
+
+pub no_byte : (hay t : List ℕ) (first : ℕ) → slice_get t 0 ≡ Some first → IsFirstByte (is_byte first) hay None → FindsNeedle hay t 0 None
+no_byte hay t first e none = λ k low high stands. let b = byte_there hay t first k e stands in none k low b.0 b.1
+
+pub byte_first : (hay t : List ℕ) (first k : ℕ) → slice_get t 0 ≡ Some first → IsFirstByte (is_byte first) hay (Some k) → starts_with nat_eq (drop k hay) t ≡ true → FindsNeedle hay t 0 (Some k)
+byte_first hay t first k e found stands =
+    let within : k ≤ length hay = let h = found.0.high in omega (arith, h) in (
+      record {
+        low = omega arith;
+        high = omega (arith, within);
+        before = λ j low high there. found.0.before j low high (byte_there hay t first j e there).1;
+      },
+      occurs hay t k within (sym (same_text t (take (length t) (drop k hay)) (sym stands))),
+    )
