@@ -43,7 +43,7 @@ fn span(subject: &[u8], at: usize, count: usize) -> &[u8]
 /// Whether the byte of a place is not in the class of the byte that each match begins with.
 #[inline(always)]
 pub(crate) fn rules_out(class: Option<&Class>, subject: &[u8], at: usize) -> bool
-    ensures { result ≡ rules_out (option_map (λ class. class.now) class) subject.now at }
+    ensures { result ≡ rules_out (option_map (λ kept. kept.now) class.entry) subject.now at }
 {
     match class {
         Some(class) => !is_class_at(subject, class, at),

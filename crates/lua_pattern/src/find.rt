@@ -83,7 +83,7 @@ impl Pattern {
         requires place { at ≤ length subject.now }
         requires empty { captures.old.items ≡ [] }
         ensures first { IfOk result (λ end. found_to end captures.new.items ≡ first_found subject.now self.now at) }
-        ensures empty { IfOk result (λ end. IfNone end (captures.new.items ≡ [])) }
+        ensures none { IfOk result (λ end. IfNone end (captures.new.items ≡ [])) }
         ensures inside { IfOk result (λ end. IfSome end
             (λ place. IsInside (length subject.now) at place captures.new.items)) }
     {

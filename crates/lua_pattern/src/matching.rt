@@ -165,7 +165,7 @@ fn tried(
 ) -> Result<Option<usize>, AllocError>
     requires place { at ≤ length subject.now }
     requires captured { AreBefore at captures.old.items }
-    requires told { option_map (λ class. class.now) class ≡ first_class rest.now }
+    requires told { option_map (λ kept. kept.now) class ≡ first_class rest.now }
     ensures first { IfOk result
         (λ end. IsFirst (ends subject.now rest.now at captures.old.items)
         end captures.old.items captures.new.items) }

@@ -36,8 +36,9 @@ pub fn first_hit(
     let mut captures = Vec::new(alloc);
     let mut place = items.next_start(subject, at, left);
     let mut more = at + left - place;
-    loop {
-        if let Some(end) = counted_end(subject, items, barred, place, &mut captures)? {
+    'places: loop {
+        let found = counted_end(subject, items, barred, place, &mut captures)?;
+        if let Some(end) = found {
             return Ok(Some(Hit {
                 start: place,
                 end,
@@ -64,7 +65,7 @@ fn counted_end(
     requires place { at ≤ length subject.now }
     requires empty { captures.old.items ≡ [] }
     ensures first { IfOk result (λ end. hit_to at end captures.new.items ≡ counts barred at (first_found subject.now items.now at)) }
-    ensures empty { IfOk result (λ end. IfNone end (captures.new.items ≡ [])) }
+    ensures none { IfOk result (λ end. IfNone end (captures.new.items ≡ [])) }
     ensures inside { IfOk result (λ end. IfSome end (λ place. IsInside (length subject.now) at place captures.new.items)) }
 {
     let Some(end) = items.end_at(subject, at, captures)? else {
