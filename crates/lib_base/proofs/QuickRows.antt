@@ -7,7 +7,7 @@ use Rattle.int_core.specs.Value.{Plain, Value, known, string, Shape, shape, nth,
 use Rattle.library_rows.specs.Arguments.{argument}
 use Rattle.library_rows.specs.Look.{Done, done, refused}
 use Rattle.library_rows.specs.Plainly.{Outcome, PlainRowsAreFunctions, done_as, plainly, results, too_large}
-use Rattle.library_rows.specs.Searches.{find_row}
+use Rattle.library_rows.specs.Searches.{find_row, match_row}
 use Rattle.library_rows.specs.Strings.{byte_row, sub_row}
 use Rattle.table_core.specs.declared.value.StrId.{StrId}
 use Rattle.table_core.specs.declared.value.Value.{Value as Kept}
@@ -34,6 +34,12 @@ module _ (vs : List Value) where
       ap (λ x. sub_row (x ∷ b ∷ d ∷ [])) (p ∙ sym (argument_is vs 0))
       ∙ ap (λ x. sub_row (argument (map shape vs) 1 ∷ x ∷ d ∷ [])) (q ∙ sym (argument_is vs 1))
       ∙ ap (λ x. sub_row (argument (map shape vs) 1 ∷ argument (map shape vs) 2 ∷ x ∷ [])) (r ∙ sym (argument_is vs 2))
+
+  pub match_sees : (a b d : Shape) → a ≡ shape (nth vs 0) → b ≡ shape (nth vs 1) → d ≡ shape (nth vs 2) → match_row (a ∷ b ∷ d ∷ []) ≡ match_row (map shape vs)
+  match_sees a b d p q r =
+      ap (λ x. match_row (x ∷ b ∷ d ∷ [])) (p ∙ sym (argument_is vs 0))
+      ∙ ap (λ x. match_row (argument (map shape vs) 1 ∷ x ∷ d ∷ [])) (q ∙ sym (argument_is vs 1))
+      ∙ ap (λ x. match_row (argument (map shape vs) 1 ∷ argument (map shape vs) 2 ∷ x ∷ [])) (r ∙ sym (argument_is vs 2))
 
   pub find_sees : (a b d e : Shape) → a ≡ shape (nth vs 0) → b ≡ shape (nth vs 1) → d ≡ shape (nth vs 2) → e ≡ shape (nth vs 3) → find_row (a ∷ b ∷ d ∷ e ∷ []) ≡ find_row (map shape vs)
   find_sees a b d e p q r s =

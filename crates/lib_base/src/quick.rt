@@ -2,7 +2,7 @@
 ghost use Rattle.std.specs.Prelude.{◌∷◌, [], map};
 ghost use Rattle.int_core.specs.Value.{shape, string};
 ghost use Rattle.library_rows.specs.Plainly.{plainly};
-ghost use Rattle.library_rows.specs.Searches.{find_row};
+ghost use Rattle.library_rows.specs.Searches.{find_row, match_row};
 ghost use Rattle.library_rows.specs.Strings.{byte_row, sub_row};
 ghost use Rattle.lib_string.specs.Quick.{IsQuick, quick_of};
 ghost use Rattle.lua_heap.specs.Reading.{value};
@@ -13,7 +13,7 @@ ghost use Rattle.lib_base.specs.QuickAnswers.{IsQuickAnswer, IsToldAs};
 use crate::answer::Answer;
 use crate::shapes::argument_shape;
 use crate::texts::Function;
-use lib_string::{Quick, quick_byte, quick_find, quick_sub};
+use lib_string::{Quick, quick_byte, quick_find, quick_match, quick_sub};
 use library_rows::plain_rows_are_functions;
 use lua_heap::World;
 use table_core::Value;
@@ -38,6 +38,7 @@ fn quick<'a>(world: &'a World, function: Function, arguments: &[Value]) -> Optio
     match function {
         Function::Byte => byte(world, arguments),
         Function::Find => find(world, arguments),
+        Function::Match => match_pattern(world, arguments),
         Function::Sub => sub(world, arguments),
         _ => None,
     }
@@ -61,7 +62,17 @@ fn find<'a>(world: &'a World, arguments: &[Value]) -> Option<Quick<'a>>
     let pattern = argument_shape(world, arguments, 1);
     let place = argument_shape(world, arguments, 2);
     let plain = argument_shape(world, arguments, 3);
-    quick_find(text, pattern, place, plain)
+    quick_find(world.alloc, text, pattern, place, plain)
+}
+
+fn match_pattern<'a>(world: &'a World, arguments: &[Value]) -> Option<Quick<'a>>
+    requires { Stands world.now arguments.now }
+    ensures { IsQuick result (match_row (map shape (map (value world.now.strings) arguments.now))) }
+{
+    let text = argument_shape(world, arguments, 0);
+    let pattern = argument_shape(world, arguments, 1);
+    let place = argument_shape(world, arguments, 2);
+    quick_match(world.alloc, text, pattern, place)
 }
 
 fn sub<'a>(world: &'a World, arguments: &[Value]) -> Option<Quick<'a>>

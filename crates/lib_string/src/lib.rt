@@ -12,6 +12,7 @@ mod formatting;
 mod matching;
 mod numbers;
 mod quick;
+mod quick_searches;
 mod repeating;
 mod seeking;
 
@@ -20,6 +21,7 @@ pub use expanding::expand;
 pub use filling::{kinds, layout};
 pub use matching::{find, match_pattern};
 pub use numbers::{from, toint, tonumber};
-pub use quick::{Quick, quick_byte, quick_find, quick_sub};
+pub use quick::{Quick, quick_byte, quick_sub};
+pub use quick_searches::{quick_find, quick_match};
 pub use repeating::rep;
 pub use seeking::{Sought, seek};
