@@ -36,7 +36,7 @@ told_is (results ps) env H = by (list_all fits_length ps)
 abbrev Made : Type 0
 Made = Result (List ℕ) (List ℕ)
 
-within : (m n : ℕ) → m ≤ n → nat_le m n ≡ true
+pub within : (m n : ℕ) → m ≤ n → nat_le m n ≡ true
 within m n h = grind (arith, nat_tests)
 
 unescaped : (ss : List Shape) (text : List ℕ) (room : ℕ) → list_any is_escape text ≡ false → length text ≤ room → expanded ss false text room ≡ Ok text
@@ -52,7 +52,7 @@ unescaped ss (b ∷ text) room none fits =
 unescaped_expansion : (ss : List Shape) (text : List ℕ) → list_any is_escape text ≡ false → length text ≤ greatest_string → expansion text ss ≡ results (string text ∷ [])
 unescaped_expansion ss text none short = ap (λ r. with r (λ bytes. one (string bytes))) (unescaped ss text greatest_string none short)
 
-abbrev by_limit : Heap → List Plain → Bool → Done
+abbrev pub by_limit : Heap → List Plain → Bool → Done
 by_limit H ps b = cond b (done H (map known ps)) (refused too_large)
 
 module _ (vs : List Value) (H : Heap) where

@@ -1,12 +1,10 @@
 -- Rows of functions of texts, by the arguments that they look at, and answers that take no memory.
-use Rattle.std.proofs.Common.{◌≡◌, ℕ, ◌≤◌, List, [], ◌∷◌, length, map, Option, Some, None, Bool, true, ap, sym, ◌∙◌, arith}
-use Rattle.std.specs.Prelude.{cond, ◌&&◌, nat_le, slice_get}
-use Rattle.std.proofs.lemmas.Bool.Decides.{nat_tests}
-use Rattle.int_core.specs.Heap.{Heap}
+use Rattle.std.proofs.Common.{◌≡◌, ℕ, List, [], ◌∷◌, length, map, Option, Some, None, true, ap, sym, ◌∙◌}
+use Rattle.std.specs.Prelude.{◌&&◌, slice_get}
 use Rattle.int_core.specs.Value.{Plain, Value, known, string, Shape, shape, nth, greatest_string}
 use Rattle.library_rows.specs.Arguments.{argument}
-use Rattle.library_rows.specs.Look.{Done, done, refused}
-use Rattle.library_rows.specs.Plainly.{Outcome, PlainRowsAreFunctions, done_as, plainly, results, too_large}
+use Rattle.library_rows.specs.Look.{done}
+use Rattle.library_rows.specs.Plainly.{Outcome, PlainRowsAreFunctions, done_as, plainly, results}
 use Rattle.library_rows.specs.Searches.{find_row, match_row}
 use Rattle.library_rows.specs.Strings.{byte_row, sub_row}
 use Rattle.table_core.specs.declared.value.StrId.{StrId}
@@ -19,6 +17,7 @@ use Rattle.lib_base.specs.declared.answer.Answer.{Answer}
 use Rattle.lib_base.specs.declared.answer.Answer.TheVariants.{One}
 use Rattle.lib_base.specs.QuickAnswers.{IsQuickAnswer, IsToldAs}
 use Rattle.lib_base.specs.Raw.{heap_of}
+use Rattle.lib_base.proofs.ExpandRows.{by_limit, within}
 use Rattle.lib_base.proofs.SeekRows.{argument_is}
 
 -- what a row sees of its first arguments is what its function takes from all of them
@@ -48,18 +47,12 @@ module _ (vs : List Value) where
       ∙ ap (λ x. find_row (argument (map shape vs) 1 ∷ argument (map shape vs) 2 ∷ x ∷ e ∷ [])) (r ∙ sym (argument_is vs 2))
       ∙ ap (λ x. find_row (argument (map shape vs) 1 ∷ argument (map shape vs) 2 ∷ argument (map shape vs) 3 ∷ x ∷ [])) (s ∙ sym (argument_is vs 3))
 
-within : (m n : ℕ) → m ≤ n → nat_le m n ≡ true
-within m n h = grind (arith, nat_tests)
-
 -- a string that is there is within the limit
 pub text_told : (W : Memory) (id : StrId) (bytes : List ℕ) → slice_get W.strings id.0 ≡ Some bytes → AreShort W.strings → IsToldAs W (string bytes ∷ []) (Some (One (Str id)))
 text_told W id bytes e short = (
   ap (λ o. done (heap_of W) (known (string (text_or id.0 o)) ∷ [])) e,
   ap (λ b. b && true) (within (length bytes) greatest_string (short id.0 bytes e)),
 )
-
-abbrev by_limit : Heap → List Plain → Bool → Done
-by_limit H ps b = cond b (done H (map known ps)) (refused too_large)
 
 -- results that a function gives are those of its row
 pub quick_row : PlainRowsAreFunctions → (f : List Shape → Outcome) (arguments : List Kept) (W : Memory) (ps : List Plain) (o : Option Answer) → f (map shape (map (value W.strings) arguments)) ≡ results ps → IsToldAs W ps o
