@@ -16,6 +16,9 @@ use std::alloc::Global;
 /// How many captures a pattern can have.
 const MAX_CAPTURES: usize = 32;
 
+/// For how many items there is room at first: most patterns have no more, and a large list costs more to be made and given up.
+const FEW_ITEMS: usize = 16;
+
 /// The items of a pattern, or the first rule that it breaks.
 pub(crate) fn read_pattern(alloc: Global, pattern: &[u8]) -> Result<Vec<Item>, PatternFault>
     ensures read { IfOk result (λ items. items_of pattern.now ≡ Ok items.items) }
@@ -23,7 +26,7 @@ pub(crate) fn read_pattern(alloc: Global, pattern: &[u8]) -> Result<Vec<Item>, P
 {
     let mut cursor = Cursor::new(pattern);
     let mut scope = Scope::new(alloc);
-    let mut items = Vec::with_capacity(alloc, pattern.len())?;
+    let mut items = Vec::with_capacity(alloc, pattern.len().min(FEW_ITEMS))?;
     while let Some(byte) = cursor.next_byte() {
         let item = read_item(alloc, byte, &mut cursor, &mut scope)?;
         items.push(item)?;
