@@ -1,4 +1,4 @@
-use Rattle.std.proofs.Common.{set, ◌≡◌, ℕ, ◌+◌, ◌-◌, List, [], length, reverse, drop, Some, None, true, refl, sym, ap, ◌∙◌, subst, inl, inr, arith}
+use Rattle.std.proofs.Common.{rules, set, ◌≡◌, ℕ, ◌+◌, ◌-◌, List, [], length, reverse, drop, Some, None, true, refl, sym, ap, ◌∙◌, subst, inl, inr, arith}
 use Rattle.std.specs.Prelude.{slice_get}
 use Rattle.std.proofs.lemmas.List.{nil_from_length}
 use Rattle.lua_pattern.specs.Ends.{ends}
@@ -160,5 +160,5 @@ first_match-returns-in-Close-clause-inside t c = inside_later c.closed.result (l
 
 pub tried-returns-then-rules_out-clause-first : goal.tried-returns-then-rules_out-clause-first
 tried-returns-then-rules_out-clause-first t c =
-    let out : rules_out (option_map (λ kept. kept.now) c.args.class) c.args.subject.now c.args.at ≡ true = sym c.rules_out.ensures ∙ c.if-rules_out.true in
+    let out : rules_out (option_map (λ kept. kept.now) c.args.class) c.args.subject.now c.args.at ≡ true = search rules in
     (ruled_out c.args.subject.now _ c.args.rest.now c.args.at c.args.captures.now.items c.requires.told out, refl)
