@@ -1,16 +1,19 @@
 -- A format that is filled in, a piece at a time.
-use Rattle.std.proofs.Common.{◌≡◌, ℕ, ◌+◌, ◌-◌, ◌<◌, ◌≤◌, ◌⊎◌, inl, inr, Bool, true, false, List, [], ◌∷◌, ◌++◌, length, length-append, Result, Ok, Err, refl, sym, ap, subst, ◌∙◌, arith}
+use Rattle.std.proofs.Common.{◌≡◌, ℕ, ◌+◌, ◌-◌, ◌<◌, ◌≤◌, ◌⊎◌, inl, inr, Bool, true, false, List, [], ◌++◌, length, length-append, Result, Ok, Err, refl, sym, ap, subst, ◌∙◌, arith}
 use Rattle.std.specs.Prelude.{nat_le}
 use Rattle.std.proofs.lemmas.Bool.Decides.{nat_tests}
 use Rattle.int_core.specs.Value.{Shape, greatest_string}
-use Rattle.library_rows.specs.Formats.{Piece, literal, conversion, broken, filled_in, onto, pieces, then_ok}
+use Rattle.library_rows.specs.Formats.{Piece as Part, filled_in, onto, pieces, then_ok}
 use Rattle.library_rows.specs.Plainly.{too_large}
 use Rattle.text_functions.proofs.Pieces.{Made, after, IsSoFar, at_first, piece_fits, piece_is_refused, all_there}
 use Rattle.library_arguments.specs.declared.refusal.Fault.{Fault}
 use Rattle.library_arguments.specs.declared.refusal.Fault.TheVariants.{Refused, Memory}
 use Rattle.library_arguments.specs.Refusals.{refusal_text}
-use Rattle.lib_string.specs.Pieces.{IsText, next_place, piece_text, with_more, with_room}
+use Rattle.lib_string.specs.declared.format_reading.Piece.{Piece}
+use Rattle.lib_string.specs.declared.format_reading.Piece.TheVariants as a_piece
+use Rattle.lib_string.specs.Pieces.{IsFilled, IsText, next_place, parts_of, piece_text, with_more, with_room}
 use Rattle.lib_string.proofs.Expansions.{same_rest}
+use Rattle.lib_string.proofs.Runs.{run_is}
 
 abbrev by_room : List ℕ → List ℕ → Bool → Made
 by_room text bytes b = elim b as (λ _. Made) [ true ↦ Ok (text ++ bytes) | false ↦ Err too_large ]
@@ -42,10 +45,11 @@ pub fault_stays : (A B : Type 0) (fault : Fault) (old new new' : List ℕ) (r : 
 fault_stays A B (Refused why) old new new' r e = room_refused old (refusal_text why) r e
 fault_stays A B Memory old new new' r e = tt
 
-filled_first : (p : Piece) (ps : List Piece) (ss : List Shape) (i room : ℕ) → filled_in (p ∷ ps) ss i room ≡ then_ok (piece_text p ss i) (λ text. onto room text (λ left. filled_in ps ss (next_place p i) left))
-filled_first (literal b) ps ss i room = refl
-filled_first (conversion c) ps ss i room = refl
-filled_first broken ps ss i room = refl
+filled_first : (p : Piece) (ps : List Part) (ss : List Shape) (i room : ℕ) → filled_in (parts_of p ++ ps) ss i room ≡ then_ok (piece_text p ss i) (λ text. onto room text (λ left. filled_in ps ss (next_place p i) left))
+filled_first (a_piece.Literal b) ps ss i room = refl
+filled_first (a_piece.Literals bytes) ps ss i room = run_is bytes.now ps ss i room
+filled_first (a_piece.Conversion c) ps ss i room = refl
+filled_first a_piece.Broken ps ss i room = refl
 
 -- the text so far, and the format that is left
 pub record IsFilledSoFar (ss : List Shape) (all rest text : List ℕ) (place : ℕ) : Type 0 where
@@ -58,7 +62,7 @@ pub all_filled : (ss : List Shape) (all rest text : List ℕ) (place : ℕ) → 
 all_filled ss all rest text place so e =
     all_there _ text (subst (λ bytes. IsSoFar (filled_in (pieces 0 all) ss 2 greatest_string) text (λ room. filled_in (pieces 0 bytes) ss place room)) e so.so_far)
 
-module _ (ss : List Shape) (all rest text : List ℕ) (place : ℕ) (so : IsFilledSoFar ss all rest text place) (p : Piece) (behind : List ℕ) (front : pieces 0 rest ≡ p ∷ pieces 0 behind) where
+module _ (ss : List Shape) (all rest text : List ℕ) (place : ℕ) (so : IsFilledSoFar ss all rest text place) (p : Piece) (behind : List ℕ) (front : pieces 0 rest ≡ parts_of p ++ pieces 0 behind) where
   abbrev Whole : Made
   Whole = filled_in (pieces 0 all) ss 2 greatest_string
 
@@ -100,3 +104,12 @@ module _ (ss : List Shape) (all rest text : List ℕ) (place : ℕ) (so : IsFill
       by : (r : Made) → piece_text p ss place ≡ r → with_room text r ≡ Err why → Whole ≡ Err why
       by (Err other) is e = (told (Err other) is).whole_is ∙ e
       by (Ok bytes) is e = refused_by bytes why (nat_le (length text + length bytes) greatest_string) refl e (told (Ok bytes) is)
+
+  -- a piece that is refused, or for which there is no memory
+  pub piece_fails : (A : Type 0) (fault : Fault) (new : List ℕ) → IsText {A = A} (Err fault) new (with_room text (piece_text p ss place)) → IsFilled (Err fault) Whole
+  piece_fails A (Refused why) new e = piece_refused (refusal_text why) e
+  piece_fails A Memory new e = tt
+
+  -- the number of the next argument by another name
+  pub piece_filled_at : (new : List ℕ) (next : ℕ) → next ≡ next_place p place → with_room text (piece_text p ss place) ≡ Ok new → IsFilledSoFar ss all behind new next
+  piece_filled_at new next is e = subst (λ n. IsFilledSoFar ss all behind new n) (sym is) (piece_filled new e)

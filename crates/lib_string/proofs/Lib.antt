@@ -3,4 +3,5 @@ mod Expansions
 mod Given
 mod Digits
 mod Parts
+mod Runs
 mod Fillings

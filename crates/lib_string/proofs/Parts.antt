@@ -1,9 +1,9 @@
 -- The pieces of a format, one after another.
-use Rattle.std.proofs.Common.{◌≡◌, ℕ, zero, suc, ◌+◌, ◌≤◌, ◌<◌, Bool, true, false, List, [], ◌∷◌, ◌++◌, length, drop, take, Option, Some, None, refl, sym, ap, ◌∙◌, arith}
+use Rattle.std.proofs.Common.{◌≡◌, ℕ, zero, suc, ◌+◌, ◌≤◌, ◌<◌, Bool, true, false, List, [], ◌∷◌, length, drop, take, Option, Some, None, refl, sym, ap, ◌∙◌, arith}
 use Rattle.std.specs.Prelude.{◌==◌, cond}
 use Rattle.std.specs.List.{prefix_len}
 use Rattle.lua_pattern.specs.Bytes.{begins_with}
-use Rattle.library_rows.specs.Formats.{Piece, Read, literal, conversion, broken, letters, pieces, read_conversion}
+use Rattle.library_rows.specs.Formats.{Piece, Read, literal, conversion, broken, pieces, read_conversion}
 
 passed : (more : ℕ) (text : List ℕ) → more ≤ length text → pieces more text ≡ pieces 0 (drop more text)
 passed zero text h = refl
@@ -44,8 +44,3 @@ conversion_first b text r same once is inside =
 
 pub broken_first : (b : ℕ) (text : List ℕ) → (b == 37) ≡ true → begins_with 37 text ≡ false → None ≡ read_conversion text → pieces 0 (b ∷ text) ≡ broken ∷ pieces 0 []
 broken_first b text same once is = ap (by_first b text) same ∙ ap (by_second text) (escapes_not text once) ∙ ap (by_read text) (sym is)
-
-pub letters_first : (p : Piece) (ps : List Piece) → letters (p ∷ ps) ≡ letters (p ∷ []) ++ letters ps
-letters_first (literal b) ps = refl
-letters_first (conversion c) ps = refl
-letters_first broken ps = refl

@@ -1,5 +1,5 @@
 -- The pieces of a format, as the rows see them, and how they are filled in.
-use Rattle.std.specs.Prelude.{◌≡◌, ◌≤◌, ◌<◌, ◌+◌, ◌-◌, ℕ, true, false, nat_le, List, [], ◌∷◌, ◌++◌, length, Option, Some, None, Result, Ok, Err}
+use Rattle.std.specs.Prelude.{◌≡◌, ◌≤◌, ◌<◌, ◌+◌, ◌-◌, ◌==◌, ℕ, Bool, true, false, not, nat_le, List, [], ◌∷◌, ◌++◌, length, map, Option, Some, None, Result, Ok, Err}
 use Rattle.std.specs.declared.alloc.Global.{Global}
 use Rattle.std.specs.declared.vec.Vec.{Vec}
 use Rattle.int_core.specs.Value.{Shape as Seen, greatest_string}
@@ -18,10 +18,16 @@ use Rattle.lib_string.specs.declared.format_reading.Read.{Read}
 use Rattle.lib_string.specs.declared.formatting.Sort.{Sort}
 use Rattle.lib_string.specs.declared.formatting.Sort.TheVariants.{Decimal, InBase, Byte, Text, Quoted}
 
-abbrev pub piece_of : Piece → Part
-piece_of (a_piece.Literal b) = literal b
-piece_of (a_piece.Conversion c) = conversion (told_conversion c)
-piece_of a_piece.Broken = broken
+-- the pieces of the definition that are read at once
+abbrev pub parts_of : Piece → List Part
+parts_of (a_piece.Literal b) = literal b ∷ []
+parts_of (a_piece.Literals bytes) = map literal bytes.now
+parts_of (a_piece.Conversion c) = conversion (told_conversion c) ∷ []
+parts_of a_piece.Broken = broken ∷ []
+
+-- a byte that stands for itself wherever it stands
+abbrev pub is_literal : ℕ → Bool
+is_literal b = not (b == 37)
 
 abbrev pub told_read : Option Read → Option Reading
 told_read None = None
@@ -35,7 +41,7 @@ first_digit (b ∷ text) = elim (is_decimal b) [ true ↦ Some (b - 48) | false 
 -- the first piece of a format and what follows it, which is shorter
 abbrev pub IsNext : Option Next → List ℕ → Type 0
 IsNext None text = text ≡ []
-IsNext (Some n) text = (pieces 0 text ≡ piece_of n.piece ∷ pieces 0 n.rest.now) × (length n.rest.now < length text)
+IsNext (Some n) text = (pieces 0 text ≡ parts_of n.piece ++ pieces 0 n.rest.now) × (length n.rest.now < length text)
 
 abbrev pub sort_told : Sort → Kind
 sort_told Decimal = in_decimal
@@ -48,14 +54,20 @@ abbrev pub told_sort : Option Sort → Option Kind
 told_sort None = None
 told_sort (Some sort) = Some (sort_told sort)
 
--- the text that a piece comes to, where the next argument has the number i, and the number of the one behind
-abbrev pub piece_text : Part → List Seen → ℕ → Result (List ℕ) (List ℕ)
-piece_text (literal b) ss i = Ok (b ∷ [])
-piece_text (conversion c) ss i = converts c i (argument ss i)
-piece_text broken ss i = Err invalid
+-- the letter of a conversion
+abbrev pub letter_in : Piece → List ℕ
+letter_in (a_piece.Conversion c) = c.letter ∷ []
+letter_in _ = []
 
-abbrev pub next_place : Part → ℕ → ℕ
-next_place (conversion c) i = i + 1
+-- the text that a piece comes to, where the next argument has the number i, and the number of the one behind
+abbrev pub piece_text : Piece → List Seen → ℕ → Result (List ℕ) (List ℕ)
+piece_text (a_piece.Literal b) ss i = Ok (b ∷ [])
+piece_text (a_piece.Literals bytes) ss i = Ok bytes.now
+piece_text (a_piece.Conversion c) ss i = converts (told_conversion c) i (argument ss i)
+piece_text a_piece.Broken ss i = Err invalid
+
+abbrev pub next_place : Piece → ℕ → ℕ
+next_place (a_piece.Conversion c) i = i + 1
 next_place _ i = i
 
 -- a text with another one behind it

@@ -1,11 +1,11 @@
 // The text of a format, for `string.format`, which is Lua text.
-ghost use Rattle.std.specs.Prelude.{◌≡◌, ◌<◌, ◌-◌, ◌^◌, ◌++◌, ◌∷◌, [], length, IfOk, OnOk};
+ghost use Rattle.std.specs.Prelude.{◌≡◌, ◌<◌, ◌≤◌, ◌+◌, ◌-◌, ◌^◌, ◌++◌, length, IfOk, Ok, OnOk};
 ghost use Rattle.int_core.specs.Value.{greatest_string};
 ghost use Rattle.library_rows.specs.Formats.{converts, filled_in, kinds_row, layout_row, letters, pieces};
 ghost use Rattle.library_arguments.specs.Answers.{IsAnswer};
 ghost use Rattle.library_arguments.specs.Shapes.{shape_of, shapes_of};
 ghost use Rattle.text_format.specs.Told.{told_conversion};
-ghost use Rattle.lib_string.specs.Pieces.{IsFilled, IsShort, IsText, next_place, piece_of, piece_text, with_room};
+ghost use Rattle.lib_string.specs.Pieces.{IsFilled, IsShort, IsText, letter_in, next_place, piece_text, with_room};
 
 use crate::format_reading::{Piece, next_piece};
 use crate::formatting::{append_converted, invalid};
@@ -46,7 +46,7 @@ pub fn kinds(alloc: Global, shapes: &[Shape]) -> Result<Results, Fault>
 fn letters(alloc: Global, format: &[u8]) -> Result<Vec<u8>, AllocError>
     ensures { IfOk result (λ text. text.items ≡ letters (pieces 0 format.now)) }
 {
-    let mut text = Vec::new(alloc);
+    let mut text = Vec::with_capacity(alloc, 8)?;
     let mut rest = format;
     while let Some(next) = next_piece(rest) {
         append_letter(&mut text, &next.piece)?;
@@ -57,7 +57,7 @@ fn letters(alloc: Global, format: &[u8]) -> Result<Vec<u8>, AllocError>
 
 /// Puts the letter of a conversion at the end.
 fn append_letter(text: &mut Vec<u8>, piece: &Piece) -> Result<(), AllocError>
-    ensures { OnOk result (text.new.items ≡ text.old.items ++ letters (piece_of piece.now ∷ [])) }
+    ensures { OnOk result (text.new.items ≡ text.old.items ++ letter_in piece.now) }
 {
     match piece {
         Piece::Conversion(conversion) => {
@@ -71,7 +71,7 @@ fn append_letter(text: &mut Vec<u8>, piece: &Piece) -> Result<(), AllocError>
 fn filled_in(alloc: Global, format: &[u8], shapes: &[Shape]) -> Result<Vec<u8>, Fault>
     ensures { IsFilled result (filled_in (pieces 0 format.now) (shapes_of shapes.now) 2 greatest_string) }
 {
-    let mut text = Vec::new(alloc);
+    let mut text = Vec::with_capacity(alloc, format.len().saturating_add(16))?;
     let mut place = 2;
     let mut rest = format;
     while let Some(next) = next_piece(rest) {
@@ -85,7 +85,9 @@ fn filled_in(alloc: Global, format: &[u8], shapes: &[Shape]) -> Result<Vec<u8>, 
 /// The number of the argument that comes next behind a piece.
 fn next_place(piece: &Piece, place: usize) -> usize
     requires { place < 2 ^ 64 - 1 }
-    ensures { result ≡ next_place (piece_of piece.now) place }
+    ensures value { result ≡ next_place piece.now place }
+    ensures least { place ≤ result }
+    ensures most { result ≤ place + 1 }
 {
     match piece {
         Piece::Conversion(_) => place + 1,
@@ -102,12 +104,16 @@ fn append_piece(
     shapes: &[Shape],
 ) -> Result<(), Fault>
     requires { 0 < place }
-    ensures { IsText result text.new.items (with_room text.old.items (piece_text (piece_of piece.now) (shapes_of shapes.now) place)) }
+    ensures { IsText result text.new.items (with_room text.old.items (piece_text piece.now (shapes_of shapes.now) place)) }
 {
     match piece {
         Piece::Literal(byte) => {
             text.push(*byte)?;
             check_length(text)?;
+            Ok(())
+        }
+        Piece::Literals(bytes) => {
+            append_literals(text, bytes)?;
             Ok(())
         }
         Piece::Conversion(conversion) => {
@@ -116,6 +122,15 @@ fn append_piece(
         }
         Piece::Broken => Err(Fault::Refused(invalid())),
     }
+}
+
+/// Puts bytes at the end of a text, within the limit on strings.
+fn append_literals(text: &mut Vec<u8>, bytes: &[u8]) -> Result<(), Fault>
+    ensures { IsText result text.new.items (with_room text.old.items (Ok bytes.now)) }
+{
+    text.extend_from_slice(bytes)?;
+    check_length(text)?;
+    Ok(())
 }
 
 /// Puts an argument at the end of a text, by a conversion, within the limit on strings.

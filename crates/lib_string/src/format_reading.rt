@@ -1,9 +1,9 @@
 // The pieces of a format (Lua 5.4 manual, 6.4, `string.format`).
-ghost use Rattle.std.specs.Prelude.{◌≡◌, ◌≤◌, ◌<◌, ◌+◌, ◌^◌, drop, length, IfSome, IsTrue};
+ghost use Rattle.std.specs.Prelude.{◌≡◌, ◌≤◌, ◌<◌, ◌+◌, ◌^◌, drop, length, map, take, IfSome, IsTrue};
 ghost use Rattle.std.specs.List.{prefix_len};
 ghost use Rattle.lua_pattern.specs.Bytes.{begins_with};
-ghost use Rattle.library_rows.specs.Formats.{is_decimal, is_flag, number_at, number_len, read_conversion, with_letter, with_precision, with_width};
-ghost use Rattle.lib_string.specs.Pieces.{IsNext, first_digit, told_read};
+ghost use Rattle.library_rows.specs.Formats.{is_decimal, is_flag, literal, number_at, number_len, read_conversion, with_letter, with_precision, with_width};
+ghost use Rattle.lib_string.specs.Pieces.{IsNext, first_digit, is_literal, parts_of, told_read};
 
 use text_format::Conversion;
 
@@ -12,6 +12,8 @@ use text_format::Conversion;
 pub(crate) enum Piece<'a> {
     /// A byte for itself.
     Literal(u8),
+    /// Bytes for themselves.
+    Literals(&'a [u8]),
     /// `%`, flags, a width, a precision and a letter.
     Conversion(Conversion<'a>),
     /// A `%` that no letter ends.
@@ -45,10 +47,8 @@ pub(crate) fn next_piece(format: &[u8]) -> Option<Next<'_>>
 {
     let (byte, behind) = format.split_first()?;
     if *byte != b'%' {
-        return Some(Next {
-            piece: Piece::Literal(*byte),
-            rest: behind,
-        });
+        let next = literals(format);
+        return Some(next);
     }
     if begins_with_percent(behind) {
         let (_, rest) = behind.split_at(1);
@@ -68,6 +68,33 @@ pub(crate) fn next_piece(format: &[u8]) -> Option<Next<'_>>
         piece: Piece::Conversion(read.conversion),
         rest,
     })
+}
+
+/// The bytes in front of the first `%`, or all where there is none.
+fn literals(format: &[u8]) -> Next<'_>
+    ensures piece { parts_of result.piece ≡ map literal (take (prefix_len is_literal format.now) format.now) }
+    ensures rest { result.rest.now ≡ drop (prefix_len is_literal format.now) format.now }
+{
+    let size = literals_len(format);
+    let (bytes, rest) = format.split_at(size);
+    Next {
+        piece: Piece::Literals(bytes),
+        rest,
+    }
+}
+
+/// How many bytes stand in front of the first `%`.
+fn literals_len(format: &[u8]) -> usize
+    ensures value { result ≡ prefix_len is_literal format.now }
+    ensures within { result ≤ length format.now }
+{
+    format.iter().take_while(|byte| is_literal(**byte)).count()
+}
+
+fn is_literal(byte: u8) -> bool
+    ensures { result ≡ is_literal byte }
+{
+    byte != b'%'
 }
 
 fn begins_with_percent(text: &[u8]) -> bool
