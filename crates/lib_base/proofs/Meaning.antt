@@ -57,6 +57,25 @@ taken_more vs at h = let e : at + 1 ≡ suc at = omega arith in ap (λ n. map sh
 consed : {A : Type 0} {x y : A} {xs ys : List A} → x ≡ y → xs ≡ ys → x ∷ xs ≡ y ∷ ys
 consed {y = y} {xs = xs} e f = ap (λ x. x ∷ xs) e ∙ ap (λ xs. y ∷ xs) f
 
+pub one_seen : (vs : List Value) (a : Seen) → length vs ≡ 1 → shape_of a ≡ shape (nth vs 0) → shapes_of (a ∷ []) ≡ map shape vs
+one_seen [] a h e = absurd (omega (arith, h))
+one_seen (v ∷ []) a h e = consed e refl
+one_seen (v ∷ w ∷ vs) a h e = absurd (omega (arith, h))
+
+pub two_seen : (vs : List Value) (a b : Seen) → length vs ≡ 2 → shape_of a ≡ shape (nth vs 0) → shape_of b ≡ shape (nth vs 1) → shapes_of (a ∷ b ∷ []) ≡ map shape vs
+two_seen [] a b h e f = absurd (omega (arith, h))
+two_seen (v ∷ []) a b h e f = absurd (omega (arith, h))
+two_seen (v ∷ w ∷ []) a b h e f = consed e (consed f refl)
+two_seen (v ∷ w ∷ x ∷ vs) a b h e f = absurd (omega (arith, h))
+
+pub three_seen : (vs : List Value) (a b c : Seen) → length vs ≡ 3 → shape_of a ≡ shape (nth vs 0) → shape_of b ≡ shape (nth vs 1) → shape_of c ≡ shape (nth vs 2) →
+    shapes_of (a ∷ b ∷ c ∷ []) ≡ map shape vs
+three_seen [] a b c h e f g = absurd (omega (arith, h))
+three_seen (v ∷ []) a b c h e f g = absurd (omega (arith, h))
+three_seen (v ∷ w ∷ []) a b c h e f g = absurd (omega (arith, h))
+three_seen (v ∷ w ∷ x ∷ []) a b c h e f g = consed e (consed f (consed g refl))
+three_seen (v ∷ w ∷ x ∷ y ∷ vs) a b c h e f g = absurd (omega (arith, h))
+
 pub few_seen : (vs : List Value) (a b c d : Seen) → length vs ≤ 4 → shape_of a ≡ shape (nth vs 0) → shape_of b ≡ shape (nth vs 1) → shape_of c ≡ shape (nth vs 2) → shape_of d ≡ shape (nth vs 3) →
     shapes_of (take (length vs) (a ∷ b ∷ c ∷ d ∷ [])) ≡ map shape vs
 few_seen [] a b c d h e f g k = refl

@@ -1,9 +1,10 @@
 -- The row of a value's text.
 use Rattle.std.proofs.Common.{◌≡◌, ℕ, ◌<◌, ◌≤◌, List, [], ◌∷◌, length, Bool, true, false, refl, ap, sym, ◌∙◌, arith}
-use Rattle.std.specs.Prelude.{cond, ◌&&◌, nat_le}
+use Rattle.std.specs.Prelude.{cond, ℤ, ◌&&◌, nat_le}
 use Rattle.std.proofs.lemmas.Bool.Decides.{nat_tests}
 use Rattle.int_core.specs.Heap.{Heap}
-use Rattle.int_core.specs.Value.{Value, known, string, Shape, is_known, is_object, shape, nth, greatest_string}
+use Rattle.int_core.specs.Operations.{integer_text}
+use Rattle.int_core.specs.Value.{Value, known, integer, string, Shape, is_known, is_object, shape, nth, greatest_string}
 use Rattle.library_rows.specs.Arguments.{one}
 use Rattle.library_rows.specs.Base.{texts, text_of_shape}
 use Rattle.library_rows.specs.Look.{Look, written, gives, refuses, done, refused, looked}
@@ -47,6 +48,10 @@ module _ (vs : List Value) (H : Heap) where
 
   pub shown_too_long : (text : List ℕ) → IsShown vs H text → greatest_string < length text → looked texts vs H ≡ refused too_large
   shown_too_long text s h = text_is ∙ ap (λ text. looked (told_as (one (string text))) vs H) (sym s.is) ∙ too_long_text text vs H h
+
+-- an integer is shown by its digits
+pub digits_shown : (vs : List Value) (H : Heap) (n : ℤ) → nth vs 0 ≡ known (integer n) → IsShown vs H (integer_text n)
+digits_shown vs H n e = record { is = sym (ap (λ v. shown_of (shape v) (shape (name_in H v))) e) }
 
 -- a string is its own text
 pub own_text_is : (vs : List Value) (H : Heap) (bytes : List ℕ) → nth vs 0 ≡ known (string bytes) → length bytes ≤ greatest_string → looked texts vs H ≡ done H (nth vs 0 ∷ [])

@@ -126,6 +126,15 @@ fn plain_results(world: &World, function: Plain, arguments: &[Value]) -> Result<
     requires { Stands world.now arguments.now }
     ensures { IsAnswer result (plain_row function (map shape (map (value world.now.strings) arguments.now))) }
 {
+    if arguments.len() == 1 {
+        return one_result(world, function, arguments);
+    }
+    if arguments.len() == 2 {
+        return two_results(world, function, arguments);
+    }
+    if arguments.len() == 3 {
+        return three_results(world, function, arguments);
+    }
     if arguments.len() <= FEW {
         return few_results(world, function, arguments);
     }
@@ -136,6 +145,43 @@ fn plain_results(world: &World, function: Plain, arguments: &[Value]) -> Result<
 
 /// How many arguments are seen without asking for memory.
 const FEW: usize = 4;
+
+/// What such a function gives for one argument.
+fn one_result(world: &World, function: Plain, arguments: &[Value]) -> Result<Results, Fault>
+    requires many { length arguments.now ≡ 1 }
+    requires stands { Stands world.now arguments.now }
+    ensures { IsAnswer result (plain_row function (map shape (map (value world.now.strings) arguments.now))) }
+{
+    let seen = [argument_shape(world, arguments, 0)];
+    results_of(world.alloc, function, front(&seen, 1))
+}
+
+/// What such a function gives for two arguments.
+fn two_results(world: &World, function: Plain, arguments: &[Value]) -> Result<Results, Fault>
+    requires many { length arguments.now ≡ 2 }
+    requires stands { Stands world.now arguments.now }
+    ensures { IsAnswer result (plain_row function (map shape (map (value world.now.strings) arguments.now))) }
+{
+    let seen = [
+        argument_shape(world, arguments, 0),
+        argument_shape(world, arguments, 1),
+    ];
+    results_of(world.alloc, function, front(&seen, 2))
+}
+
+/// What such a function gives for three arguments.
+fn three_results(world: &World, function: Plain, arguments: &[Value]) -> Result<Results, Fault>
+    requires many { length arguments.now ≡ 3 }
+    requires stands { Stands world.now arguments.now }
+    ensures { IsAnswer result (plain_row function (map shape (map (value world.now.strings) arguments.now))) }
+{
+    let seen = [
+        argument_shape(world, arguments, 0),
+        argument_shape(world, arguments, 1),
+        argument_shape(world, arguments, 2),
+    ];
+    results_of(world.alloc, function, front(&seen, 3))
+}
 
 /// What such a function gives for few arguments.
 fn few_results(world: &World, function: Plain, arguments: &[Value]) -> Result<Results, Fault>
@@ -162,6 +208,7 @@ fn front<'s, 'a>(shapes: &'s [Shape<'a>], count: usize) -> &'s [Shape<'a>]
 }
 
 /// What such a function gives, by what it sees of its arguments.
+#[inline(always)]
 fn results_of(alloc: Global, function: Plain, shapes: &[Shape]) -> Result<Results, Fault>
     ensures { IsAnswer result (plain_row function (shapes_of shapes.now)) }
 {

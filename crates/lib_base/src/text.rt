@@ -3,7 +3,7 @@ ghost use Rattle.std.specs.Prelude.{◌≡◌, IfOk, Ok, codes, map};
 ghost use Rattle.int_core.specs.Value.{known, nth, shape, string};
 ghost use Rattle.library_arguments.specs.Shapes.{shape_of};
 ghost use Rattle.library_rows.specs.Base.{kind_text, texts};
-ghost use Rattle.table_core.specs.declared.value.Value.TheVariants.{Str};
+ghost use Rattle.table_core.specs.declared.value.Value.TheVariants.{Int, Str};
 ghost use Rattle.lua_heap.specs.Reading.{value};
 ghost use Rattle.lib_base.specs.Answers.{Answers, IsArgument, OnlyStrings, Stands};
 ghost use Rattle.lib_base.specs.Raw.{heap_of};
@@ -33,6 +33,10 @@ pub fn text(world: &mut World, arguments: &[Value]) -> Result<Answer, Fault>
 {
     match argument(arguments, 0) {
         Value::Str(id) => Ok(own_text(world, arguments, id)),
+        Value::Int(n) => {
+            let answer = integer_text(world, arguments, n)?;
+            Ok(answer)
+        }
         _ => {
             let answer = made_text(world, arguments)?;
             Ok(answer)
@@ -50,6 +54,22 @@ fn own_text(world: &World, arguments: &[Value], id: StrId) -> Answer
     world.strings.len();
     world.bytes(id);
     Answer::One(Value::Str(id))
+}
+
+/// The digits of an integer as a string, which is added where there is none.
+fn integer_text(world: &mut World, arguments: &[Value], n: i64) -> Result<Answer, Fault>
+    requires stands { Stands world.old arguments.now }
+    requires first { IsArgument arguments.now 0 (Int n) }
+    ensures answers { Answers texts arguments.now world.old world.new result }
+    ensures kept { OnlyStrings world.old world.new arguments.now }
+{
+    let digits = Digits::of(n);
+    let bytes = digits.as_slice();
+    if bytes.len() > MAX_TEXT {
+        return Err(Fault::Refused(Refusal::Text(b"resulting string too large")));
+    }
+    let made = string(world, arguments, bytes)?;
+    Ok(Answer::One(made))
 }
 
 /// The text of a value as a string, which is added where there is none.

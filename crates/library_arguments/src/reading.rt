@@ -43,6 +43,7 @@ pub fn number_of(shape: Shape) -> Option<i64>
 /// # Errors
 ///
 /// It is none, and no string that spells one.
+#[inline(always)]
 pub fn integer_argument(function: &'static [u8], place: usize, shape: Shape) -> Result<i64, Refusal>
     ensures { IsRead (λ n. n) result (integer_argument function.now place (shape_of shape.entry)) }
 {
@@ -75,6 +76,7 @@ pub fn text_argument<'a>(
 /// # Errors
 ///
 /// It is not nil, no integer, and no string that spells one.
+#[inline(always)]
 pub fn integer_or(
     usual: i64,
     function: &'static [u8],

@@ -1,0 +1,37 @@
+use Rattle.std.proofs.Common.{rules, ◌≡◌, ◌<◌, ◌≤◌, [], ◌∷◌, ap, sym, subst, ◌∙◌, map, length, w64}
+use Rattle.std.proofs.lemmas.Int.{to_z-of_z}
+use Rattle.int_core.specs.Operations.{integer_text}
+use Rattle.int_core.specs.Value.{greatest_string, known, string}
+use Rattle.library_rows.specs.Look.{done}
+use Rattle.lua_heap.specs.Reading.{value}
+use Rattle.lib_base.specs.Raw.{heap_of}
+use Rattle.lib_base.specs.Texts.{IsShown}
+use Rattle.lib_base.proofs.Interning.{nothing, same_heap}
+use Rattle.lib_base.proofs.TextRows.{digits_shown, shown_is, shown_too_long}
+use Rattle.lib_base.proofs.text.integer_text.Goals as goal
+
+pub returns-then-len-gt-MAX_TEXT-clause-kept : goal.returns-then-len-gt-MAX_TEXT-clause-kept
+returns-then-len-gt-MAX_TEXT-clause-kept c = nothing c.args.world.now c.args.arguments.now c.requires.stands
+
+pub returns-then-len-gt-MAX_TEXT-clause-answers : goal.returns-then-len-gt-MAX_TEXT-clause-answers
+returns-then-len-gt-MAX_TEXT-clause-answers c =
+    let W = c.args.world.now in
+    let vs = map (value W.strings) c.args.arguments.now in
+    let digits : c.as_slice-bytes.result.now ≡ integer_text c.args.n = search (rules, to_z-of_z w64 c.args.n c.ranges.n) in
+    let shown = subst (IsShown vs (heap_of W)) (sym digits) (digits_shown vs (heap_of W) c.args.n (c.requires.first W.strings)) in
+    let h : greatest_string < length c.as_slice-bytes.result.now = search rules in
+    shown_too_long vs (heap_of W) c.as_slice-bytes.result.now shown h
+
+pub returns-clause-answers : goal.returns-clause-answers
+returns-clause-answers c =
+    let W = c.args.world.now in
+    let new = c.string.new.world in
+    let vs = map (value W.strings) c.args.arguments.now in
+    let bytes = c.as_slice-bytes.result.now in
+    let digits : c.as_slice-bytes.result.now ≡ integer_text c.args.n = search (rules, to_z-of_z w64 c.args.n c.ranges.n) in
+    let shown = subst (IsShown vs (heap_of W)) (sym digits) (digits_shown vs (heap_of W) c.args.n (c.requires.first W.strings)) in
+    let h : length c.as_slice-bytes.result.now ≤ greatest_string = search rules in
+    let g : known (string bytes) ≡ value new.strings c.in_ok-made.made = search rules in
+    shown_is vs (heap_of W) bytes shown h
+    ∙ ap (λ H. done H (known (string bytes) ∷ [])) (same_heap W new c.args.arguments.now c.string.ensures.kept)
+    ∙ ap (λ v. done (heap_of new) (v ∷ [])) g
