@@ -3,3 +3,4 @@ pub mod Keeping
 pub mod Read
 pub mod InPlace
 mod Primitive
+mod TailPrimitive

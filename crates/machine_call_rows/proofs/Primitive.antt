@@ -25,7 +25,7 @@ use Rattle.machine_call_rows.proofs.Read.{steps_call}
 
 -- a primitive is called as it is, through no link
 
-itself : (links : ℕ) (H : Heap) (n : ℕ) (vs : List Value) → callee_of links H (known (primitive n)) vs ≡ callee (known (primitive n)) vs
+pub itself : (links : ℕ) (H : Heap) (n : ℕ) (vs : List Value) → callee_of links H (known (primitive n)) vs ≡ callee (known (primitive n)) vs
 itself zero H n vs = refl
 itself (suc links) H n vs = refl
 

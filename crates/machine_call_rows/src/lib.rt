@@ -5,7 +5,9 @@ mod calls;
 mod few;
 pub mod law;
 mod primitives;
+mod tails;
 
 pub use calls::{call, tail_call};
 pub use few::Few;
 pub use primitives::{PrimitiveCall, call_primitive};
+pub use tails::tail_call_primitive;
