@@ -67,16 +67,16 @@ two_are_few v w = omega arith
 
 -- one step, and two
 
-one_step : (rows : ℕ → Row) {from to : Ending} {old new : Memory} {fuel left : ℕ} → Does rows from old fuel new left to → steps rows (suc zero) from (plain old fuel) ≡ ends to (plain new left)
+pub one_step : (rows : ℕ → Row) {from to : Ending} {old new : Memory} {fuel left : ℕ} → Does rows from old fuel new left to → steps rows (suc zero) from (plain old fuel) ≡ ends to (plain new left)
 one_step rows d = ap (λ o. and_then o (steps rows zero)) d.is
 
-two_steps : (rows : ℕ → Row) {from at to : Ending} {old mid new : Memory} {fuel left less : ℕ} → Does rows from old fuel mid left at → Does rows at mid left new less to
+pub two_steps : (rows : ℕ → Row) {from at to : Ending} {old mid new : Memory} {fuel left less : ℕ} → Does rows from old fuel mid left at → Does rows at mid left new less to
     → steps rows (suc (suc zero)) from (plain old fuel) ≡ ends to (plain new less)
 two_steps rows d e = ap (λ o. and_then o (steps rows (suc zero))) d.is ∙ one_step rows e
 
 -- a world in which values begin to move
 
-moving_plain : (X V : Memory) → V ≡ record X { moving = V.moving } → (fuel : ℕ) → moved (plain X fuel) (map (value X.strings) V.moving.items) ≡ plain V fuel
+pub moving_plain : (X V : Memory) → V ≡ record X { moving = V.moving } → (fuel : ℕ) → moved (plain X fuel) (map (value X.strings) V.moving.items) ≡ plain V fuel
 moving_plain X V e fuel = ap (λ (W : Memory). plain W fuel) (sym e)
 
 pub moving_order : (X V : Memory) → V ≡ record X { moving = V.moving } → InOrder X → InOrder V

@@ -55,13 +55,13 @@ waits_for_some f false wait i = ap is_none (sym (i.is f []))
 
 -- what moves is for a Lua frame on top
 
-abbrev top_in : World → Option Stack → Option TopShape
+abbrev pub top_in : World → Option Stack → Option TopShape
 top_in V o = bind o (λ s. Some (top_shape V (last s.frames)))
 
 top_is : (V : World) (at : Place) → place_of V ≡ Some at → top_now V ≡ Some lua_top
 top_is V at e = let p = place_is V at e in ap (top_in V) p.stack ∙ ap (λ o. Some (top_shape V o)) p.top
 
-abbrev told_top : World → Option TopShape → Option (Made TopShape)
+abbrev pub told_top : World → Option TopShape → Option (Made TopShape)
 told_top V o = bind o (λ top. made V [] top)
 
 sees : (W : Memory) (at : Place) → ((fuel : ℕ) → place_of (plain W fuel) ≡ Some at) → (env : List Value) → Makes W W see_top env [] lua_top

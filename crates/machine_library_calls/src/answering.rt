@@ -72,7 +72,7 @@ fn go_on(
 }
 
 /// An error moves. A refusal changes nothing.
-fn raise_value(world: &mut World, value: Value) -> Result<Ending, AllocError>
+pub(crate) fn raise_value(world: &mut World, value: Value) -> Result<Ending, AllocError>
     ensures raises { IfOk result (λ ending. (ending_of ending ≡ raised) × (world.new.moving.items ≡ value ∷ [])) }
     ensures rest { world.new ≡ record world.old { moving = world.new.moving } }
     ensures err { OnErr result (world.new ≡ world.old) }

@@ -125,7 +125,7 @@ fn call_now(
 }
 
 /// The arguments of a call move, and the primitive is called in the next step. A refusal changes nothing.
-fn call_later(world: &mut World, called: &PrimitiveCall) -> Result<Ending, AllocError>
+pub(crate) fn call_later(world: &mut World, called: &PrimitiveCall) -> Result<Ending, AllocError>
     ensures later { IfOk result (λ ending. (ending_of ending ≡ calls_primitive called.now.number) × (world.new.moving.items ≡ called.now.arguments)) }
     ensures rest { world.new ≡ record world.old { moving = world.new.moving } }
     ensures err { OnErr result (world.new ≡ world.old) }

@@ -1,0 +1,369 @@
+-- A primitive that is called in place of a Lua frame, and results for the Lua frame below: these are up to three steps of the machine.
+use Rattle.std.proofs.Common.{◌≡◌, ℕ, suc, zero, ◌-◌, List, [], ◌∷◌, ◌++◌, length, Option, Some, None, refl, ap, sym, subst, ◌∙◌, Bool, true, false}
+use Rattle.std.specs.Prelude.{drop, map, not}
+use Rattle.std.specs.Global.{Vec}
+use Rattle.int_core.specs.Heap.{Heap}
+use Rattle.int_core.specs.Value.{Value, last}
+use Rattle.tree_core.specs.Tree.{Body}
+use Rattle.library_rows.specs.Library.{all_entries}
+use Rattle.library_rows.specs.Look.{Look, looked}
+use Rattle.load_rows.specs.Loading.{Builds}
+use Rattle.loaded_code.specs.Laws.{LoadingIsSafe, library}
+use Rattle.machine_core.specs.World.{Frame, closing, World, Stack, stack_of}
+use Rattle.machine_core.specs.Text.{Arg, args_of}
+use Rattle.machine_core.specs.FrameRows.{hand_over, handed}
+use Rattle.machine_core.specs.Moves.{Made, made, TopShape, lua_top, see_top, top_now, top_shape, go, calls_primitive, raised, give, give_with, is_given, Row, ends}
+use Rattle.machine_core.specs.MachineStep.{after_look, look_row, woken}
+use Rattle.machine_sound.specs.Laws.{PrimitivesSafe}
+use Rattle.machine_sound.specs.Sound.{Settled, Solid, on_top, sizes, Valid}
+use Rattle.machine_sound.proofs.Calls.{fuel_top}
+use Rattle.machine_sound.proofs.Lists.{each_none, some_is}
+use Rattle.machine_sound.proofs.Waits.{moving_solid}
+use Rattle.table_core.specs.declared.value.Value.{Value as Kept}
+use Rattle.lua_stack.specs.declared.frame.Wait.{Wait as KeptWait}
+use Rattle.lua_stack.specs.declared.frame.Wait.TheVariants.{Running}
+use Rattle.lua_heap.specs.declared.world.World.{World as Memory}
+use Rattle.lua_heap.specs.Cells.{CellsAreListed}
+use Rattle.lua_heap.specs.Plain.{plain}
+use Rattle.lua_heap.specs.Reading.{value}
+use Rattle.lib_base.specs.declared.answer.Answer.{Answer}
+use Rattle.lib_base.specs.declared.answer.Answer.TheVariants.{Raises}
+use Rattle.lib_base.specs.Answers.{Changes, OnlyStrings, Stands, told}
+use Rattle.lib_base.specs.Raw.{heap_of}
+use Rattle.move_laws.specs.Memory.{HasFrame, InOrder, IsSound, Leads, Makes, ReadsSame}
+use Rattle.move_laws.proofs.Order.{order_after, steps_of}
+use Rattle.move_laws.proofs.Rows.{first, ended}
+use Rattle.machine_moves.specs.Ending.{ending_of}
+use Rattle.machine_moves.specs.declared.ending.Ending.{Ending as KeptEnding}
+use Rattle.machine_primitives.proofs.Reading.{nothing, nothing_built}
+use Rattle.machine_returns.specs.Waking.{HasWait, IsSolid, WaitsSo, Wakes}
+use Rattle.machine_returns.proofs.Woken.{moved, wakes_so, woken_solid}
+use Rattle.machine_library.specs.Answers.{Tells, shape_told, values_told}
+use Rattle.machine_library.proofs.Consulting.{gives_on, raises_on, tells_row}
+use Rattle.machine_library.proofs.Moving.{Taken, moves_again, stands}
+use Rattle.step_laws.specs.Steps.{Does, IsReady}
+use Rattle.step_laws.proofs.Ready.{go_has_frame, ready_is_sound, steps_stay_ready}
+use Rattle.step_laws.proofs.Stepping.{primitive_is_step}
+use Rattle.running_frame.specs.declared.place.Here.{Here}
+use Rattle.running_frame.specs.Here.{IsAtWord, IsHere, RunsIf}
+use Rattle.machine_step.specs.Places.{GoesOnSo, IsAwake, WaitsHere}
+use Rattle.machine_step.proofs.Awake.{awake, goes_on}
+use Rattle.machine_step.proofs.ByForm.{does}
+use Rattle.machine_step.proofs.Steps.{waits_here}
+use Rattle.machine_call_rows.specs.Primitives.{TailCallsPrimitive}
+use Rattle.machine_library_calls.specs.Calls.{Begun, Comes, begins}
+use Rattle.machine_library_calls.specs.Tails.{HasLuaOnTop, IsTailAnswered, IsTailCalled, IsTailGiven, RunsTail}
+use Rattle.machine_library_calls.proofs.Calling.{listed, moving_order, moving_plain, one_step, two_steps}
+use Rattle.machine_library_calls.proofs.Waiting.{told_top, top_in}
+
+-- what a negated test says
+
+pub not_true : (b : Bool) → not b ≡ true → b ≡ false
+not_true true e = absurd (cc)
+not_true false e = refl
+
+-- what is on top is the same whatever tables hold and whatever moves
+
+abbrev changed : World → Heap → List Value → World
+changed V H vs = record V { heap = H; moving = vs }
+
+top_kept : (V : World) (H : Heap) (vs : List Value) (o : Option Frame) → top_shape (changed V H vs) o ≡ top_shape V o
+top_kept V H vs (Some (closing e left)) = refl
+top_kept V H vs _ = refl
+
+tops_kept : (V : World) (H : Heap) (vs : List Value) (o : Option Stack) → top_in (changed V H vs) o ≡ top_in V o
+tops_kept V H vs None = refl
+tops_kept V H vs (Some s) = ap (λ t. Some t) (top_kept V H vs (last s.frames))
+
+told_is : (V : World) (o : Option TopShape) (t : TopShape) → told_top V o ≡ made V [] t → o ≡ Some t
+told_is V None t e = absurd (cc)
+told_is V (Some u) t e = ap (λ u. Some u) (ap (λ (d : Made TopShape). d.told) (some_is {o = made V [] u} refl e))
+
+sees_lua : (R N : Memory) (H : Heap) (vs : List Value) → ((fuel : ℕ) → plain N fuel ≡ changed (plain R fuel) H vs) → Makes R R see_top [] [] lua_top → (env : List Value) → Makes N N see_top env [] lua_top
+sees_lua R N H vs m s env = record {
+  is = λ fuel.
+      let V = plain R fuel in
+      let now : top_now V ≡ Some lua_top = told_is V (top_now V) lua_top (s.is fuel) in
+      ap (λ U. told_top U (top_now U)) (m fuel)
+      ∙ ap (told_top (changed V H vs)) (tops_kept V H vs (stack_of V) ∙ now)
+      ∙ ap (λ U. made U [] lua_top) (sym (m fuel));
+}
+
+module _ {b : Begun} {R : Memory} {number : ℕ} {few : List Kept} (k : IsTailCalled b R number few) where
+  abbrev W : Memory
+  W = b.before
+
+  abbrev left : ℕ
+  left = b.fuel - 1
+
+  -- with the arguments on their way
+  abbrev M : Memory
+  M = record R { moving = listed R few k.calls.few }
+
+  none_move : R.moving.items ≡ []
+  none_move = ap (λ (W : Memory). W.moving.items) k.rest ∙ k.still
+
+  order_M : InOrder M
+  order_M = record { codes = k.order.codes; listed = k.order.listed }
+
+  -- the call is a step, whatever the libraries do
+
+  leads_to : (V : Memory) → V ≡ record R { moving = V.moving } → V.moving.items ≡ few → (rows : ℕ → Row) → Does rows go W b.fuel V left (calls_primitive number)
+  leads_to V e items rows = (does k.tail.runs (k.calls.steps V e items k.tail.runs.runs.place.function.code k.tail.pc)).is rows
+
+  called_step : (rows : ℕ → Row) → Does rows go W b.fuel M left (calls_primitive number)
+  called_step = leads_to M refl refl
+
+  at_once : (V : Memory) (rows : ℕ → Row) → Does rows go W b.fuel V left (calls_primitive number) → Comes rows W b.fuel V left (calls_primitive number)
+  at_once V rows d = record { count = 0; mid = W; rest = b.fuel; at = go; goes_on = refl; is = refl; ready = k.ready; does = d }
+
+  -- the primitive is left for the next step
+  pub later_comes : (V : Memory) → V ≡ record R { moving = V.moving } → V.moving.items ≡ few → (rows : ℕ → Row) → Comes rows W b.fuel V left (calls_primitive number)
+  later_comes V e items rows = at_once V rows (leads_to V e items rows)
+
+  pub later_order : (V : Memory) → V ≡ record R { moving = V.moving } → InOrder V
+  later_order V e = moving_order R V e k.order
+
+  called_ready : (rows : ℕ → Row) → PrimitivesSafe (length all_entries) rows → IsReady (length all_entries) (calls_primitive number) M
+  called_ready rows safe = steps_stay_ready (length all_entries) rows safe go (calls_primitive number) W M b.fuel left k.ready (called_step rows) order_M
+
+  module _ (law : LoadingIsSafe) where
+    ready_M : IsReady (length all_entries) (calls_primitive number) M
+    ready_M = called_ready (library nothing) (law nothing nothing_built)
+
+    sound_M : IsSound M
+    sound_M = ready_is_sound (length all_entries) (calls_primitive number) M ready_M
+
+    nothing_moves : (fuel : ℕ) → moved (plain M fuel) [] ≡ plain R fuel
+    nothing_moves fuel = ap (λ vs. moved (plain R fuel) (map (value R.strings) vs)) (sym none_move)
+
+    taken : Taken M R few
+    taken = record {
+      rest = refl;
+      items = refl;
+      plain = λ fuel. sym (nothing_moves fuel);
+      makes = λ env. record { is = λ fuel. ap (λ V. made V (map (value R.strings) few) tt) (nothing_moves fuel) };
+    }
+
+    -- the function may be called with the arguments
+    pub stands_there : Stands R few
+    stands_there = stands M R few sound_M taken
+
+    -- where it refuses them, the call is left for the next step too
+    module _ (X V : Memory) (o : OnlyStrings R X few) (e : V ≡ record X { moving = V.moving }) (items : V.moving.items ≡ few) where
+      reads_same : ReadsSame M V
+      reads_same = subst (ReadsSame M) (sym e) (moves_again M R X few V.moving items taken o)
+
+      pub refused_comes : (rows : ℕ → Row) → Comes rows W b.fuel V left (calls_primitive number)
+      refused_comes rows = at_once V rows (record { is = (called_step rows).is ∙ ap (ends (calls_primitive number)) (sym (reads_same.is left)) })
+
+    -- where it answers
+    module _ (X : Memory) (row : Look) (is_row : (builds : Builds Body) → library builds number ≡ look_row row) (lua : HasLuaOnTop R) (answer : Answer) (changes : Changes R X few)
+        (answers : looked row (map (value R.strings) few) (heap_of R) ≡ told X answer) where
+      pub answered_order : InOrder X
+      answered_order = record { codes = changes.codes k.order.codes; listed = subst CellsAreListed (sym changes.rest) k.order.listed }
+
+      -- with an error
+      module _ (V : Memory) (v : Kept) (is : answer ≡ Raises v) (e : V ≡ record X { moving = V.moving }) (items : V.moving.items ≡ v ∷ []) where
+        gives_error : (env : List Value) (xs : List Arg) → args_of env xs ≡ map (value X.strings) (v ∷ []) → Makes X V (give xs) env [] tt
+        gives_error env xs same = record {
+          is = λ fuel.
+              ap (λ vs. made (moved (plain X fuel) vs) [] tt) (same ∙ ap (map (value X.strings)) (sym items))
+              ∙ ap (λ V. made V [] tt) (moving_plain X V e fuel);
+        }
+
+        error_leads : Leads (look_row row) [] M V raised
+        error_leads = tells_row row few M R X V (Raises v) raised taken changes (answers ∙ ap (told X) is) (record { leads = raises_on X V v gives_error })
+
+        pub raised_comes : (builds : Builds Body) → Comes (library builds) W b.fuel V left raised
+        raised_comes builds = let rows = library builds in record {
+          count = suc zero;
+          mid = M;
+          rest = left;
+          at = calls_primitive number;
+          goes_on = refl;
+          is = one_step rows (called_step rows);
+          ready = ready_M;
+          does = primitive_is_step rows number M V left left raised (steps_of left (λ s. s) (subst (λ r. Leads r [] M V raised) (sym (is_row builds)) error_leads));
+        }
+
+      -- with results
+      module _ (results : Vec Kept) (given : shape_told answer ≡ is_given) (values : values_told X answer ≡ map (value X.strings) results.items) where
+        abbrev N : Memory
+        N = record X { moving = results }
+
+        gives_results : (env : List Value) (slot : ℕ) → args_of env [] ++ drop slot env ≡ map (value X.strings) results.items → Makes X N (give_with [] slot) env [] tt
+        gives_results env slot same = record { is = λ fuel. ap (λ vs. made (moved (plain X fuel) vs) [] tt) same }
+
+        results_move : (fuel : ℕ) → plain N fuel ≡ changed (plain R fuel) (heap_of X) (map (value X.strings) results.items)
+        results_move fuel = ap (λ V. moved V (map (value X.strings) results.items)) (changes.plain fuel)
+
+        hands_on : (env : List Value) → Leads hand_over env N N go
+        hands_on env = first (λ _ top. handed top) (sees_lua R N (heap_of X) (map (value X.strings) results.items) results_move lua.sees env) ended
+
+        result_tells : Tells X N answer go
+        result_tells = record {
+          leads = λ env.
+              subst (λ s. Leads (after_look (length env) s) (env ++ values_told X answer) X N go) (sym given)
+              (subst (λ vs. Leads (after_look (length env) is_given) (env ++ vs) X N go) (sym values)
+              (gives_on X N results.items go gives_results hands_on env));
+        }
+
+        result_leads : Leads (look_row row) [] M N go
+        result_leads = tells_row row few M R X N answer go taken changes answers result_tells
+
+        looked_step : (rows : ℕ → Row) → rows number ≡ look_row row → Does rows (calls_primitive number) M left N left go
+        looked_step rows same = primitive_is_step rows number M N left left go (steps_of left (λ s. s) (subst (λ r. Leads r [] M N go) (sym same) result_leads))
+
+        order_N : InOrder N
+        order_N = record { codes = answered_order.codes; listed = answered_order.listed }
+
+        ready_N : IsReady (length all_entries) go N
+        ready_N =
+            let rows = library nothing in
+            steps_stay_ready (length all_entries) rows (law nothing nothing_built) (calls_primitive number) go M N left left ready_M (looked_step rows (is_row nothing)) order_N
+
+        nothing_N : (fuel : ℕ) → moved (plain N fuel) [] ≡ plain X fuel
+        nothing_N fuel = ap (λ vs. moved (plain X fuel) (map (value X.strings) vs)) (sym (ap (λ (W : Memory). W.moving.items) changes.rest ∙ none_move))
+
+        -- where the frame on top does not wait, the results are on their way
+        pub results_move_on : (last : Memory) → last ≡ N → (builds : Builds Body) → Comes (library builds) W b.fuel last left go
+        results_move_on last e builds = let rows = library builds in record {
+          count = suc zero;
+          mid = M;
+          rest = left;
+          at = calls_primitive number;
+          goes_on = refl;
+          is = one_step rows (called_step rows);
+          ready = ready_M;
+          does = subst (λ (V : Memory). Does rows (calls_primitive number) M left V left go) (sym e) (looked_step rows (is_row builds));
+        }
+
+        -- the Lua frame on top could go on without them too
+        pub ready_X : IsReady (length all_entries) go X
+        ready_X =
+            let n = length all_entries in
+            let V = plain N 0 in
+            let solid = ready_N.after.sound.solid in
+            let s = ready_N.after.ready in
+            let none = each_none (Valid (sizes n V)) in
+            let settled : Settled n (plain X 0) = subst (Settled n) (nothing_N 0) (record { top = s.top; is_top = fuel_top n s.top V [] 0 solid s.is_top none; fits = s.fits }) in
+            record {
+              after = record { sound = record { solid = subst (Solid n) (nothing_N 0) (moving_solid n V [] 0 solid none); rests = on_top settled }; ready = settled };
+              order = answered_order;
+            }
+
+        -- it is woken with them
+        module _ (again : Memory) (here : Here) (wait : KeptWait) (at : IsHere X here) (waits : here.runs ≡ false) (waited : HasWait X wait) (set : WaitsSo X again Running)
+            (kept : again ≡ record X { coros = again.coros }) (listed_on : CellsAreListed again) where
+          sound_N : IsSound N
+          sound_N = ready_is_sound (length all_entries) go N ready_N
+
+          waits_at : WaitsHere N here.pc here.word
+          waits_at =
+              let a = at.word in
+              let word : IsAtWord N here.pc here.word = record { place = a.place; is = a.is; at_pc = a.at_pc; there = a.there; near = a.near } in
+              let runs : RunsIf N here.runs = record { is = at.wait.is } in
+              waits_here sound_N word runs waits
+
+          frame_there : HasFrame X
+          frame_there = go_has_frame (length all_entries) X ready_X
+
+          abbrev frame : HasFrame X
+          frame = frame_there
+
+          woken_is : (fuel : ℕ) → plain again fuel ≡ woken (plain N fuel) frame.place.stack frame.place.top
+          woken_is = wakes_so N X again wait results.items frame.place frame.is nothing_N set
+
+          wakes : Wakes N again wait results.items
+          wakes = record {
+            place = frame.place;
+            is = frame.is;
+            waited = waited.is frame.place frame.is;
+            came = refl;
+            woken_is = woken_is;
+            rest = kept ∙ ap (λ moving. record X { coros = again.coros; moving = moving }) (sym (ap (λ (W : Memory). W.moving) kept));
+          }
+
+          pub solid_again : IsSolid again
+          solid_again = record {
+            primitives = length all_entries;
+            solid = subst (Solid (length all_entries)) (sym (woken_is 0)) (woken_solid (length all_entries) (plain N 0) frame.place ready_N.after.sound frame.is);
+            order = order_after answered_order (ap (λ (W : Memory). W.strings) kept) (ap (λ (W : Memory). W.codes) kept) listed_on;
+          }
+
+          pub awake_again : IsAwake again here.pc here.word wait results.items
+          awake_again = awake waits_at wakes sound_N solid_again.order
+
+          pub results_come : (last : Memory) (to : KeptEnding) → GoesOnSo again last here.word wait results.items (ending_of to) → (builds : Builds Body) → Comes (library builds) W b.fuel last left (ending_of to)
+          results_come last to g builds = let rows = library builds in record {
+            count = suc (suc zero);
+            mid = N;
+            rest = left;
+            at = go;
+            goes_on = refl;
+            is = two_steps rows (called_step rows) (looked_step rows (is_row builds));
+            ready = ready_N;
+            does = (goes_on waits_at wakes g).is rows left;
+          }
+
+-- of an answer
+
+module _ {b : Begun} {X : Memory} {answer : Answer} (h : IsTailAnswered b X answer) (law : LoadingIsSafe) where
+  order_there : InOrder X
+  order_there = answered_order h.is_called law X h.row h.is_row h.lua answer h.changes h.answers
+
+  pub order_raised : (V : Memory) → V ≡ record X { moving = V.moving } → InOrder V
+  order_raised V e = moving_order X V e order_there
+
+  pub comes_raised : (V : Memory) (v : Kept) → answer ≡ Raises v → V ≡ record X { moving = V.moving } → V.moving.items ≡ v ∷ [] → (builds : Builds Body) → Comes (library builds) b.before b.fuel V (b.fuel - 1) raised
+  comes_raised V v is e items = raised_comes h.is_called law X h.row h.is_row h.lua answer h.changes h.answers V v is e items
+
+-- of results
+
+module _ {b : Begun} {X : Memory} {values : List Kept} (g : IsTailGiven b X values) (law : LoadingIsSafe) where
+  abbrev h : IsTailAnswered b X g.answer
+  h = g.is_answered
+
+  pub order_with : InOrder X
+  order_with = answered_order h.is_called law X h.row h.is_row h.lua g.answer h.changes h.answers
+
+  pub ready_with : IsReady (length all_entries) go X
+  ready_with = ready_X h.is_called law X h.row h.is_row h.lua g.answer h.changes h.answers g.results g.given g.are
+
+  module _ (again : Memory) (here : Here) (wait : KeptWait) (at : IsHere X here) (waits : here.runs ≡ false) (waited : HasWait X wait) (set : WaitsSo X again Running)
+      (kept : again ≡ record X { coros = again.coros }) (listed_on : CellsAreListed again) where
+    pub solid_with : IsSolid again
+    solid_with = solid_again h.is_called law X h.row h.is_row h.lua g.answer h.changes h.answers g.results g.given g.are again here wait at waits waited set kept listed_on
+
+    pub awake_with : IsAwake again here.pc here.word wait values
+    awake_with = subst (IsAwake again here.pc here.word wait) g.items
+        (awake_again h.is_called law X h.row h.is_row h.lua g.answer h.changes h.answers g.results g.given g.are again here wait at waits waited set kept listed_on)
+
+    pub comes_with : (last : Memory) (to : KeptEnding) → GoesOnSo again last here.word wait values (ending_of to) → (builds : Builds Body) → Comes (library builds) b.before b.fuel last (b.fuel - 1) (ending_of to)
+    comes_with last to s = results_come h.is_called law X h.row h.is_row h.lua g.answer h.changes h.answers g.results g.given g.are again here wait at waits waited set kept listed_on last to
+        (subst (λ came. GoesOnSo again last here.word wait came (ending_of to)) (sym g.items) s)
+
+  pub comes_moving : (last : Memory) → last ≡ record X { moving = last.moving } → last.moving.items ≡ values → (builds : Builds Body) → Comes (library builds) b.before b.fuel last (b.fuel - 1) go
+  comes_moving last e items = results_move_on h.is_called law X h.row h.is_row h.lua g.answer h.changes h.answers last.moving g.given
+      (g.are ∙ ap (map (value X.strings)) (g.items ∙ sym items)) last e
+
+  pub order_moving : (last : Memory) → last ≡ record X { moving = last.moving } → InOrder last
+  order_moving last e = moving_order X last e order_with
+
+-- what is known as the primitive is called
+pub tail_called_so : (b : Begun) (W : Memory) (fuel : ℕ) → b ≡ begins W fuel → (now : Memory) (number : ℕ) (arguments : List Kept) (function count : ℕ)
+    → IsReady (length all_entries) go W → RunsTail W function count → W.moving.items ≡ [] → TailCallsPrimitive W now fuel function count number arguments
+    → now ≡ record W { cells = now.cells; coros = now.coros } → InOrder now → IsTailCalled b now number arguments
+tail_called_so b W fuel is now number arguments function count ready tail still calls rest order =
+    let called : IsTailCalled (begins W fuel) now number arguments = record {
+      function = function;
+      count = count;
+      ready = ready;
+      tail = tail;
+      still = still;
+      calls = calls;
+      rest = rest;
+      order = order;
+    } in
+    subst (λ b. IsTailCalled b now number arguments) (sym is) called

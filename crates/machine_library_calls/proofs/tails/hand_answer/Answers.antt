@@ -1,0 +1,52 @@
+use Rattle.std.proofs.Common.{◌≡◌, ◌∷◌, [], ◌-◌, ap, refl, sym, subst}
+use Rattle.std.proofs.lemmas.Result.{IfOk-weaker}
+use Rattle.loaded_code.specs.Laws.{library}
+use Rattle.machine_core.specs.Moves.{raised}
+use Rattle.machine_moves.specs.Ending.{ending_of}
+use Rattle.machine_library.specs.Answers.{shape_told, values_told}
+use Rattle.machine_library_calls.specs.Calls.{Comes}
+use Rattle.machine_library_calls.proofs.Calling.{listed, one_is_few}
+use Rattle.machine_library_calls.proofs.InPlace.{comes_raised, order_raised}
+use Rattle.machine_library_calls.proofs.tails.hand_answer.Goals as goal
+
+pub hand_value-requires : goal.hand_value-requires
+hand_value-requires g c =
+    let X = c.args.world.now in
+    record {
+      answer = c.args.answer;
+      is_answered = c.requires;
+      results = listed X (c.in-One.value ∷ []) (one_is_few c.in-One.value);
+      items = refl;
+      given = ap shape_told c.in-One.is;
+      are = ap (values_told X) c.in-One.is;
+    }
+
+pub hand_results-requires : goal.hand_results-requires
+hand_results-requires g c =
+    let X = c.args.world.now in
+    record {
+      answer = c.args.answer;
+      is_answered = c.requires;
+      results = c.in-Gives.values;
+      items = sym c.as_slice.ensures.value;
+      given = ap shape_told c.in-Gives.is;
+      are = ap (values_told X) c.in-Gives.is;
+    }
+
+pub returns-in-One-clause-comes : goal.returns-in-One-clause-comes
+returns-in-One-clause-comes g c = c.hand_value.ensures.comes
+
+pub returns-in-Gives-clause-comes : goal.returns-in-Gives-clause-comes
+returns-in-Gives-clause-comes g c = c.hand_results.ensures.comes
+
+pub returns-in-Raises-clause-comes : goal.returns-in-Raises-clause-comes
+returns-in-Raises-clause-comes g c =
+    let V = c.raise_value.new.world in
+    IfOk-weaker c.raise_value.result (λ ending. (ending_of ending ≡ raised) × (V.moving.items ≡ c.in-Raises.value ∷ [])) _
+    (λ ending q builds are.
+    subst (λ e. Comes (library builds) g.begun.before g.begun.fuel V (g.begun.fuel - 1) e) (sym q.0)
+    (comes_raised c.requires c.loading_is_safe.ensures.safe V c.in-Raises.value c.in-Raises.is c.raise_value.ensures.rest q.1 builds))
+    c.raise_value.ensures.raises
+
+pub returns-in-Raises-clause-order : goal.returns-in-Raises-clause-order
+returns-in-Raises-clause-order g c = order_raised c.requires c.loading_is_safe.ensures.safe c.raise_value.new.world c.raise_value.ensures.rest
