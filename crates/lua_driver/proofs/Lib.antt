@@ -5,3 +5,4 @@ mod Turned
 mod Few
 mod Handing
 mod CallForm
+mod TailForm

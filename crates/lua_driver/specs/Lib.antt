@@ -1,3 +1,4 @@
 pub mod Turns
 pub mod Calling
+pub mod TailCalling
 pub mod Returning

@@ -5,6 +5,7 @@
 mod calling;
 mod returning;
 mod running;
+mod tail_calling;
 mod turning;
 
 pub use running::run;
