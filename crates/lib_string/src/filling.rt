@@ -75,7 +75,7 @@ fn filled_in(alloc: Global, format: &[u8], shapes: &[Shape]) -> Result<Vec<u8>, 
     let mut place = 2;
     let mut rest = format;
     while let Some(next) = next_piece(rest) {
-        append_piece(alloc, &mut text, &next.piece, place, shapes)?;
+        append_piece(&mut text, &next.piece, place, shapes)?;
         place = next_place(&next.piece, place);
         rest = next.rest;
     }
@@ -97,7 +97,6 @@ fn next_place(piece: &Piece, place: usize) -> usize
 
 /// Puts a piece at the end of a text.
 fn append_piece(
-    alloc: Global,
     text: &mut Vec<u8>,
     piece: &Piece,
     place: usize,
@@ -117,7 +116,7 @@ fn append_piece(
             Ok(())
         }
         Piece::Conversion(conversion) => {
-            append_conversion(alloc, text, conversion, place, argument(shapes, place))?;
+            append_conversion(text, conversion, place, argument(shapes, place))?;
             Ok(())
         }
         Piece::Broken => Err(Fault::Refused(invalid())),
@@ -135,7 +134,6 @@ fn append_literals(text: &mut Vec<u8>, bytes: &[u8]) -> Result<(), Fault>
 
 /// Puts an argument at the end of a text, by a conversion, within the limit on strings.
 fn append_conversion(
-    alloc: Global,
     text: &mut Vec<u8>,
     conversion: &Conversion,
     place: usize,
@@ -143,7 +141,7 @@ fn append_conversion(
 ) -> Result<(), Fault>
     ensures { IsText result text.new.items (with_room text.old.items (converts (told_conversion conversion.now) place (shape_of shape.entry))) }
 {
-    append_converted(alloc, text, conversion, place, shape)?;
+    append_converted(text, conversion, place, shape)?;
     check_length(text)?;
     Ok(())
 }

@@ -8,7 +8,6 @@ ghost use Rattle.library_arguments.specs.Shapes.{shape_of};
 ghost use Rattle.lib_string.specs.Pieces.{IsText, sort_told, told_sort, with_more};
 
 use library_arguments::{Fault, Refusal, Shape, integer_argument, text_argument};
-use std::alloc::Global;
 use text_format::{
     Base, Conversion, append_byte, append_quoted, append_quoted_integer, append_signed,
     append_text, append_unsigned,
@@ -35,7 +34,6 @@ pub(crate) enum Sort {
 ///
 /// There is no such letter, it has not these flags, width or precision, or the argument is of another type; or memory runs out.
 pub(crate) fn append_converted(
-    alloc: Global,
     text: &mut Vec<u8>,
     conversion: &Conversion,
     place: usize,
@@ -49,7 +47,7 @@ pub(crate) fn append_converted(
     if !is_allowed(sort, conversion) {
         return Err(Fault::Refused(invalid()));
     }
-    append_sorted(alloc, text, sort, conversion, place, shape)?;
+    append_sorted(text, sort, conversion, place, shape)?;
     Ok(())
 }
 
@@ -127,7 +125,6 @@ fn has(flags: &[u8], flag: u8) -> bool
 }
 
 fn append_sorted(
-    alloc: Global,
     text: &mut Vec<u8>,
     sort: Sort,
     conversion: &Conversion,
@@ -144,7 +141,7 @@ fn append_sorted(
         }
         Sort::InBase(base) => {
             let n = integer_argument(b"format", place, shape)?;
-            append_unsigned(alloc, text, conversion, base, n.cast_unsigned())?;
+            append_unsigned(text, conversion, base, n.cast_unsigned())?;
             Ok(())
         }
         Sort::Byte => {

@@ -28,22 +28,14 @@ fn zeros_stand_behind_the_sign(rt: HostRuntime) -> Result<(), Fail> {
 #[test]
 fn integers_are_written_in_all_bases(rt: HostRuntime) -> Result<(), Fail> {
     let mut text = Vec::new(rt.alloc());
+    append_unsigned(&mut text, &conversion(b"#", None, None), Base::Octal, 8)?;
     append_unsigned(
-        rt.alloc(),
-        &mut text,
-        &conversion(b"#", None, None),
-        Base::Octal,
-        8,
-    )?;
-    append_unsigned(
-        rt.alloc(),
         &mut text,
         &conversion(b"#0", Some(8), None),
         Base::Hexadecimal,
         255,
     )?;
     append_unsigned(
-        rt.alloc(),
         &mut text,
         &conversion(b"", None, Some(4)),
         Base::UpperHexadecimal,

@@ -3,6 +3,7 @@
 #![tactic(auto)]
 
 mod conversion;
+mod digits;
 mod numbers;
 mod padding;
 mod quoting;

@@ -1,14 +1,14 @@
 // Integers in decimal, octal and hexadecimal digits.
-ghost use Rattle.std.specs.Prelude.{◌≡◌, ◌++◌, ◌∷◌, [], ◌-◌, ◌<◌, ◌^◌, length, decimal, OnOk, IfOk, string_bytes};
-ghost use Rattle.std.specs.Fmt.{digits};
+ghost use Rattle.std.specs.Prelude.{◌≡◌, ◌≤◌, ◌++◌, ◌-◌, length, OnOk};
 ghost use Rattle.std.specs.List.{repeat};
 ghost use Rattle.library_rows.specs.Formats.{or_zero, signed_text, unsigned_text, sign_before};
 ghost use Rattle.text_format.specs.Told.{base_of, is_upper, mark_before, shown_digits, told_conversion, zeros_in};
 
 use crate::conversion::{Conversion, has, in_zeros, or_zero};
+use crate::digits::{behind, write_digits};
 use crate::padding::append_padded;
 use itoa::Buffer;
-use std::alloc::{AllocError, Global};
+use std::alloc::AllocError;
 
 /// In which digits an integer without a sign is written.
 #[derive(Clone, Copy, Debug, PartialEq, Eq)]
@@ -76,7 +76,6 @@ fn zeros_before(conversion: &Conversion, digits: &[u8]) -> usize
 
 /// An integer as a number from 0 to 2^64 - 1, by `%u`, `%o`, `%x` or `%X`.
 pub fn append_unsigned(
-    alloc: Global,
     out: &mut Vec<u8>,
     conversion: &Conversion,
     base: Base,
@@ -84,23 +83,38 @@ pub fn append_unsigned(
 ) -> Result<(), AllocError>
     ensures { OnOk result (out.new.items ≡ out.old.items ++ unsigned_text (told_conversion conversion.now) (base_of base) (is_upper base) n) }
 {
-    let text = digits_in(alloc, base, n)?;
-    let digits = shown(conversion, text.as_bytes(), n);
+    let mut buffer = [0; 64];
+    let start = write_digits(n, radix(base), is_upper(base), &mut buffer);
+    let digits = shown(conversion, behind(&buffer, start), n);
     let zeros = zeros_in(conversion, base, digits);
     let mark = mark_before(conversion, base, n);
     append_padded(out, conversion, in_zeros(conversion), mark, zeros, digits)?;
     Ok(())
 }
 
-/// The digits of a number in a base.
-fn digits_in(alloc: Global, base: Base, n: u64) -> Result<String, AllocError>
-    ensures { IfOk result (λ text. string_bytes text ≡ digits (base_of base) (is_upper base) n) }
+/// How many digits there are.
+fn radix(base: Base) -> u64
+    ensures value { result ≡ base_of base }
+    ensures least { 2 ≤ result }
+    ensures most { result ≤ 16 }
 {
     match base {
-        Base::Decimal => format!(in alloc; "{n}"),
-        Base::Octal => format!(in alloc; "{n:o}"),
-        Base::Hexadecimal => format!(in alloc; "{n:x}"),
-        Base::UpperHexadecimal => format!(in alloc; "{n:X}"),
+        Base::Decimal => 10,
+        Base::Octal => 8,
+        Base::Hexadecimal => 16,
+        Base::UpperHexadecimal => 16,
+    }
+}
+
+/// Whether the digits above 9 are capitals.
+fn is_upper(base: Base) -> bool
+    ensures { result ≡ is_upper base }
+{
+    match base {
+        Base::Decimal => false,
+        Base::Octal => false,
+        Base::Hexadecimal => false,
+        Base::UpperHexadecimal => true,
     }
 }
 

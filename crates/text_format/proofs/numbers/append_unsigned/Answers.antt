@@ -1,4 +1,4 @@
-use Rattle.std.proofs.Common.{◌≡◌, ◌++◌, [], ◌∷◌, ap, ◌∙◌}
+use Rattle.std.proofs.Common.{rules, ◌≡◌, ◌++◌, [], ◌∷◌, ap, ◌∙◌}
 use Rattle.std.specs.Fmt.{digits}
 use Rattle.std.specs.List.{repeat}
 use Rattle.library_rows.specs.Formats.{in_width, in_zeros}
@@ -12,8 +12,9 @@ returns c =
     let old = c.args.out.now.items in
     let ds = c.shown-digits.result.now in
     let mark = mark_before read (base_of c.args.base) (is_upper c.args.base) c.args.n in
+    let all : c.behind.result.now ≡ digits (base_of c.args.base) (is_upper c.args.base) c.args.n = search rules in
     let shown : ds ≡ shown_digits c.args.conversion.now.precision (digits (base_of c.args.base) (is_upper c.args.base) c.args.n) c.args.n =
-    c.shown-digits.ensures ∙ ap (λ all. shown_digits c.args.conversion.now.precision all c.args.n) (c.as_bytes.ensures.value ∙ c.in_ok-text.ensures) in
+    c.shown-digits.ensures ∙ ap (λ all. shown_digits c.args.conversion.now.precision all c.args.n) all in
     c.in_ok-append_padded.ensures
     ∙ ap (λ zeros. old ++ in_width read zeros c.mark_before-mark.result.now (repeat c.zeros_in-zeros.result (48 ∷ []) ++ ds)) c.in_zeros.ensures
     ∙ ap (λ before. old ++ in_width read (in_zeros read) before (repeat c.zeros_in-zeros.result (48 ∷ []) ++ ds)) c.mark_before-mark.ensures
