@@ -23,6 +23,10 @@ pub fn spread(world: &World, arguments: &[Value]) -> Result<Answer, Fault>
 {
     let id = table_argument(world, b"spread", arguments)?;
     let many = count(b"spread", argument_shape(world, arguments, 1))?;
+    if many == 1 {
+        let item = raw::read_field(world, Value::Table(id), Value::Int(1));
+        return Ok(Answer::One(item));
+    }
     let items = items(world, id, many)?;
     Ok(Answer::Gives(items))
 }
