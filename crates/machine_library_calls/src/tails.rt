@@ -138,6 +138,7 @@ fn hand_answer(world: &mut World, answer: Answer) -> Result<Ending, AllocError>
     loading_is_safe();
     match answer {
         Answer::One(value) => hand_value(world, value),
+        Answer::Two(first, second) => hand_two(world, first, second),
         Answer::Gives(values) => hand_results(world, values.as_slice()),
         Answer::Raises(value) => raise_value(world, value),
     }
@@ -151,6 +152,16 @@ fn hand_value(world: &mut World, value: Value) -> Result<Ending, AllocError>
     ensures order { InOrder world.new }
 {
     hand_results(world, &[value])
+}
+
+/// The Lua frame on top takes two results.
+fn hand_two(world: &mut World, first: Value, second: Value) -> Result<Ending, AllocError>
+    ghost begun: { Begun }
+    requires { IsTailGiven begun world.old (first ∷ second ∷ []) }
+    ensures comes { IfOk result (λ ending. (builds : Builds Body) → BuildsSources builds → Comes (library builds) begun.before begun.fuel world.new (begun.fuel - 1) (ending_of ending)) }
+    ensures order { InOrder world.new }
+{
+    hand_results(world, &[first, second])
 }
 
 /// The Lua frame on top, where it waits, goes on with these results; else they move.

@@ -5,7 +5,7 @@ use Rattle.machine_core.specs.Moves.{raised}
 use Rattle.machine_moves.specs.Ending.{ending_of}
 use Rattle.machine_library.specs.Answers.{shape_told, values_told}
 use Rattle.machine_library_calls.specs.Calls.{Comes}
-use Rattle.machine_library_calls.proofs.Calling.{listed, one_is_few}
+use Rattle.machine_library_calls.proofs.Calling.{listed, one_is_few, two_are_few}
 use Rattle.machine_library_calls.proofs.InPlace.{comes_raised, order_raised}
 use Rattle.machine_library_calls.proofs.tails.hand_answer.Goals as goal
 
@@ -19,6 +19,18 @@ hand_value-requires g c =
       items = refl;
       given = ap shape_told c.in-One.is;
       are = ap (values_told X) c.in-One.is;
+    }
+
+pub hand_two-requires : goal.hand_two-requires
+hand_two-requires g c =
+    let X = c.args.world.now in
+    record {
+      answer = c.args.answer;
+      is_answered = c.requires;
+      results = listed X (c.in-Two.first ∷ c.in-Two.second ∷ []) (two_are_few c.in-Two.first c.in-Two.second);
+      items = refl;
+      given = ap shape_told c.in-Two.is;
+      are = ap (values_told X) c.in-Two.is;
     }
 
 pub hand_results-requires : goal.hand_results-requires
@@ -35,6 +47,9 @@ hand_results-requires g c =
 
 pub returns-in-One-clause-comes : goal.returns-in-One-clause-comes
 returns-in-One-clause-comes g c = c.hand_value.ensures.comes
+
+pub returns-in-Two-clause-comes : goal.returns-in-Two-clause-comes
+returns-in-Two-clause-comes g c = c.hand_two.ensures.comes
 
 pub returns-in-Gives-clause-comes : goal.returns-in-Gives-clause-comes
 returns-in-Gives-clause-comes g c = c.hand_results.ensures.comes
