@@ -27,6 +27,11 @@ pub fn spread(world: &World, arguments: &[Value]) -> Result<Answer, Fault>
         let item = raw::read_field(world, Value::Table(id), Value::Int(1));
         return Ok(Answer::One(item));
     }
+    if many == 2 {
+        let first = raw::read_field(world, Value::Table(id), Value::Int(1));
+        let second = raw::read_field(world, Value::Table(id), Value::Int(2));
+        return Ok(Answer::Two(first, second));
+    }
     let items = items(world, id, many)?;
     Ok(Answer::Gives(items))
 }
