@@ -3,7 +3,7 @@ use Rattle.std.proofs.Common.{◌≡◌, ℕ, ◌+◌, Bool, true, false, List, 
 use Rattle.tree_terms.specs.Bodies.{line_of_body, upvalues_of}
 use Rattle.tree_core.specs.Tree.{Body, Block, Falls, Returns, Stats, EndStats, MoreStats, Stat, Local, Do, While, Repeat, If, IfElse, NumFor, NumForStep, GenFor, Goto, Break, Arms, EndArms, MoreArms, Exp, Nil, True, False, Int, Str, Vararg, Function, Var, Index, Call, Method, Unary, Binary, And, Or, Paren, Table}
 use Rattle.tree_core.specs.declared.operator.BinOp.{BinOp}
-use Rattle.tree_core.specs.declared.operator.BinOp.TheVariants.{Add as Plus, Sub as Minus, Mul as Times, Mod as Modulo, Idiv, Band, Bor, Bxor, Shl as ShiftLeft, Shr as ShiftRight, Concat as Join, Eq as Equal, Ne, Lt as Less, Le as AtMost, Gt, Ge}
+use Rattle.tree_core.specs.declared.operator.BinOp.TheVariants.{Eq as Equal, Ne, Lt as Less, Le as AtMost, Gt, Ge}
 use Rattle.code_core.specs.declared.opcode.Opcode.{Opcode}
 use Rattle.tree_activation.specs.Activation.{line_of_end}
 use Rattle.code_core.specs.declared.opcode.Opcode.TheVariants.{Close, Eq, Lt, Le, EqK, ForLoop, ForPrep, TForPrep, TForCall, TForLoop, Return}
@@ -12,9 +12,9 @@ use Rattle.code_of.specs.Truths.{jump_if, pick, compared, is_not}
 use Rattle.code_of.specs.Conditions.{value_test, test_code}
 use Rattle.code_of.specs.Coded.{Coded, with_abc, with_abx, jump_over, jump_back, leaving_by}
 use Rattle.code_of.specs.Expressions.{made_by, made_in, exp_code, exps_code}
-use Rattle.code_of.specs.Operands.{local_of, second_of, first_of}
+use Rattle.code_of.specs.Operands.{local_of}
 use Rattle.code_of.specs.Operators.{number_opcode}
-use Rattle.code_of.proofs.Operands.{unless_sized, operands_sized}
+use Rattle.code_of.proofs.Operands.{unless_sized}
 use Rattle.code_of.specs.Operations.{constant_in}
 use Rattle.code_of.proofs.Operations.{operation_sized}
 use Rattle.code_of.specs.declared.leaving.Leaving.{Leaving}
@@ -39,17 +39,7 @@ compared_sized op other other' by by' e is = each op
     each AtMost = is Le false true
     each Gt = is Lt true true
     each Ge = is Le true true
-    each Plus = e
-    each Minus = e
-    each Times = e
-    each Modulo = e
-    each Idiv = e
-    each Band = e
-    each Bor = e
-    each Bxor = e
-    each ShiftLeft = e
-    each ShiftRight = e
-    each Join = e
+    each _ = e
 
 both_sized : (xs ys xs' ys' : List Coded) → length xs ≡ length xs' → length ys ≡ length ys' → length (xs ++ ys) ≡ length (xs' ++ ys')
 both_sized xs ys xs' ys' e d = length-append xs ys ∙ ap₂ (λ m n. m + n) e d ∙ sym (length-append xs' ys')

@@ -3,7 +3,7 @@ use Rattle.std.proofs.Common.{◌≡◌, ℕ, suc, ◌-◌, ◌<◌, ◌≤◌, 
 use Rattle.std.specs.Prelude.{flat_map, min, nat_le, nat_lt, slice_get, unwrap_or, ◌&&◌}
 use Rattle.std.proofs.lemmas.List.{length-map, length-take, take_all}
 use Rattle.byteorder.specs.Endian.{little_bytes}
-use Rattle.int_core.specs.Value.{nil, boolean, integer, string, primitive, Kind, a_table, a_function, a_coroutine, Value, known, object}
+use Rattle.int_core.specs.Value.{primitive, Kind, a_table, a_function, a_coroutine, Value, known, object}
 use Rattle.machine_core.specs.World.{World}
 use Rattle.machine_sound.proofs.Lists.{get_map}
 use Rattle.table_core.specs.declared.value.Value.{Value as Kept}
@@ -76,14 +76,9 @@ refusal_by_fuel : (W : Memory) (name : Value → Option Item) (fuel : ℕ) (f : 
 refusal_by_fuel W name fuel (of_value v) = ap (unless_item (name v)) (go v)
   where
     go : (v : Value) → unnamed_refusal (plain W fuel) v ≡ unnamed_refusal (plain W 0) v
-    go (known nil) = refl
-    go (known (boolean b)) = refl
-    go (known (integer n)) = refl
-    go (known (string s)) = refl
     go (known (primitive n)) = refl
-    go (object a_table n) = refl
-    go (object a_function n) = refl
     go (object a_coroutine n) = refl
+    go _ = refl
 refusal_by_fuel W name fuel (of_cell n) = refl
 refusal_by_fuel W name fuel (of_coroutine n) = refl
 

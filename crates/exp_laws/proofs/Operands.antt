@@ -3,7 +3,7 @@ use Rattle.std.proofs.Common.{◌≡◌, ℕ, ◌+◌, ◌<◌, ◌≤◌, pos, 
 use Rattle.int_core.specs.Value.{Value, known, integer, nth}
 use Rattle.int_core.specs.Ask.{Captured, goes_on}
 use Rattle.tree_core.specs.declared.name.Place.{Place}
-use Rattle.tree_core.specs.declared.name.Place.TheVariants.{Unset, Upvalue, GlobalIn, GlobalOf, Local as LocalPlace}
+use Rattle.tree_core.specs.declared.name.Place.TheVariants.{Local as LocalPlace}
 use Rattle.tree_core.specs.Tree.{Exp, Var, Paren}
 use Rattle.tree_activation.specs.Work.{evaluate, give, Work, Pending, first_only}
 use Rattle.tree_activation.specs.Work as tree
@@ -55,10 +55,7 @@ module _ (S : Setting) (pending : List Pending) where
       by (LocalPlace q) e is =
           go_left S n _ (tree.at (give (nth env q ∷ [])) (of_tree S pending env c) k) t (ap (λ p. reads_variable line name.text p (of_tree S pending env c) k) is)
           (subst (λ i. Agree S n (tree.at (give (nth env i ∷ [])) (of_tree S pending env c) k) t) (sym (some_is q r e)) next)
-      by Unset e is = absurd (cc)
-      by (Upvalue u) e is = absurd (cc)
-      by (GlobalIn m) e is = absurd (cc)
-      by (GlobalOf u) e is = absurd (cc)
+      by _ e is = absurd (cc)
   local_read (Paren line inner) r n env c k t e next =
       go_left S n _ (tree.at (evaluate inner) (of_tree S pending env c) (first_only ∷ k)) t refl
       (local_read inner r n env c (first_only ∷ k) t e (go_left S n _ (tree.at (give (nth env r ∷ [])) (of_tree S pending env c) k) t refl next))

@@ -16,7 +16,7 @@ use Rattle.chunk_format.proofs.SpelledFunctions.{whole_spelled}
 use Rattle.int_core.specs.Value.{nil, boolean, integer, string, Kind, a_table, a_function, a_coroutine, bind}
 use Rattle.machine_core.specs.World.{Wait, for_call, for_iterator, for_value, for_truth, dropped, for_concat, for_close, returning, leaving}
 use Rattle.machine_alike.proofs.Pairwise.{bind_some}
-use Rattle.image_core.specs.Image.{PermKey, number_key, text_key, Item, plain, numbered, permanent, environment, LuaFrameItem, FrameItem, lua_item, pcall_item, xpcall_item, handler_item, closing_item, Record, table_record, function_record, closed_record, open_record, fresh_record, suspended_record, dead_record, failed_record, no_record}
+use Rattle.image_core.specs.Image.{PermKey, number_key, text_key, Item, plain, numbered, permanent, environment, LuaFrameItem, FrameItem, lua_item, pcall_item, xpcall_item, handler_item, closing_item, Record, table_record, function_record, closed_record, open_record, fresh_record, suspended_record, dead_record, failed_record}
 use Rattle.image_bytes.specs.Format.{of_kind, read, refused, and_then, IsReadBack, word, integer_of, followed, tested, second}
 use Rattle.image_core.specs.Numbers.{meeting}
 use Rattle.image_bytes.specs.Bytes.{Reader, text, number_of_key, text_of_key, key, sort_at, met_or, reference, named_key, key_of_sort, nil_item, false_item, true_item, integer_item, string_item, number_item, environment_item, item_body, item_format, is_table_or_nil, is_function_item, only, is_new_key, row_after, spell_rows, scan_rows, after_rows, rows_format, of_table, table_format, code_read, blob, code_format, of_function, function_format, of_closed, of_open, cell_format, is_wait, plain_wait, of_concat, of_returning, of_leaving, wait_rest, lua_parts, parts_where, lua_of, lua_format, of_lua, of_pcall, of_xpcall, of_handler, of_closing, of_none, itself, error_format, frame_format, of_fresh, of_suspended, of_dead, of_failed, coroutine_format, record_format, spell_records, scan_records, after_records, records_format, exactly, sorts_format, with_sorts, image_made, image_format, whole}
@@ -161,14 +161,7 @@ module _ (R : Reader) where
     where
       law : (x : Record) (y : (ℕ × List (Item × Item)) × Item) → of_table R x ≡ Some y → table_record y.0.1 y.1 ≡ x
       law (table_record rows m) y e = ap (λ z. table_record z.0.1 z.1) (sym (some_so e))
-      law (function_record c cs) y e = absurd (cc)
-      law (closed_record i) y e = absurd (cc)
-      law (open_record a b c) y e = absurd (cc)
-      law (fresh_record i) y e = absurd (cc)
-      law (suspended_record fs) y e = absurd (cc)
-      law dead_record y e = absurd (cc)
-      law (failed_record e' vs) y e = absurd (cc)
-      law no_record y e = absurd (cc)
+      law _ y e = absurd (cc)
 
   blob_back : IsReadBack (blob R)
   unfolding blob
@@ -192,15 +185,8 @@ module _ (R : Reader) where
   function_back = case_back law (followed_back code_back (λ p. followed_back (tested_back _ _ byte_back) (λ n. times_back n (reference_back R.sorts (3 ∷ [])))))
     where
       law : (x : Record) (y : Prototype × (ℕ × List ℕ)) → of_function R x ≡ Some y → function_record y.0 y.1.1 ≡ x
-      law (table_record rows m) y e = absurd (cc)
       law (function_record c cs) y e = ap (λ z. function_record z.0 z.1.1) (sym (some_so e))
-      law (closed_record i) y e = absurd (cc)
-      law (open_record a b c) y e = absurd (cc)
-      law (fresh_record i) y e = absurd (cc)
-      law (suspended_record fs) y e = absurd (cc)
-      law dead_record y e = absurd (cc)
-      law (failed_record e' vs) y e = absurd (cc)
-      law no_record y e = absurd (cc)
+      law _ y e = absurd (cc)
 
   cell_back : IsReadBack (cell_format R)
   unfolding cell_format
@@ -210,26 +196,12 @@ module _ (R : Reader) where
       (wrong_back _)))
     where
       closed_law : (x : Record) (y : Item) → of_closed R x ≡ Some y → closed_record y ≡ x
-      closed_law (table_record rows m) y e = absurd (cc)
-      closed_law (function_record c cs) y e = absurd (cc)
       closed_law (closed_record i) y e = ap closed_record (sym (some_so e))
-      closed_law (open_record a b c) y e = absurd (cc)
-      closed_law (fresh_record i) y e = absurd (cc)
-      closed_law (suspended_record fs) y e = absurd (cc)
-      closed_law dead_record y e = absurd (cc)
-      closed_law (failed_record e' vs) y e = absurd (cc)
-      closed_law no_record y e = absurd (cc)
+      closed_law _ y e = absurd (cc)
 
       open_law : (x : Record) (y : ℕ × (ℕ × ℕ)) → of_open R x ≡ Some y → open_record y.0 y.1.0 y.1.1 ≡ x
-      open_law (table_record rows m) y e = absurd (cc)
-      open_law (function_record c cs) y e = absurd (cc)
-      open_law (closed_record i) y e = absurd (cc)
       open_law (open_record a b c) y e = ap (λ z. open_record z.0 z.1.0 z.1.1) (sym (some_so e))
-      open_law (fresh_record i) y e = absurd (cc)
-      open_law (suspended_record fs) y e = absurd (cc)
-      open_law dead_record y e = absurd (cc)
-      open_law (failed_record e' vs) y e = absurd (cc)
-      open_law no_record y e = absurd (cc)
+      open_law _ y e = absurd (cc)
 
   call_wait_law : (x : Wait Item) (y : Unit {0}) → is_wait R for_call x ≡ Some y → for_call ≡ x
   call_wait_law for_call y e = refl
@@ -313,38 +285,23 @@ module _ (R : Reader) where
     where
       lua_law : (x : FrameItem) (y : LuaFrameItem) → of_lua R x ≡ Some y → lua_item y ≡ x
       lua_law (lua_item f) y e = ap lua_item (sym (some_so e))
-      lua_law pcall_item y e = absurd (cc)
-      lua_law (xpcall_item h) y e = absurd (cc)
-      lua_law handler_item y e = absurd (cc)
-      lua_law (closing_item o vs) y e = absurd (cc)
+      lua_law _ y e = absurd (cc)
 
       pcall_law : (x : FrameItem) (y : Unit {0}) → of_pcall R x ≡ Some y → pcall_item ≡ x
-      pcall_law (lua_item f) y e = absurd (cc)
       pcall_law pcall_item y e = refl
-      pcall_law (xpcall_item h) y e = absurd (cc)
-      pcall_law handler_item y e = absurd (cc)
-      pcall_law (closing_item o vs) y e = absurd (cc)
+      pcall_law _ y e = absurd (cc)
 
       xpcall_law : (x : FrameItem) (y : Item) → of_xpcall R x ≡ Some y → xpcall_item y ≡ x
-      xpcall_law (lua_item f) y e = absurd (cc)
-      xpcall_law pcall_item y e = absurd (cc)
       xpcall_law (xpcall_item h) y e = ap xpcall_item (sym (some_so e))
-      xpcall_law handler_item y e = absurd (cc)
-      xpcall_law (closing_item o vs) y e = absurd (cc)
+      xpcall_law _ y e = absurd (cc)
 
       handler_law : (x : FrameItem) (y : Unit {0}) → of_handler R x ≡ Some y → handler_item ≡ x
-      handler_law (lua_item f) y e = absurd (cc)
-      handler_law pcall_item y e = absurd (cc)
-      handler_law (xpcall_item h) y e = absurd (cc)
       handler_law handler_item y e = refl
-      handler_law (closing_item o vs) y e = absurd (cc)
+      handler_law _ y e = absurd (cc)
 
       closing_law : (x : FrameItem) (y : Option Item × List Item) → of_closing R x ≡ Some y → closing_item y.0 y.1 ≡ x
-      closing_law (lua_item f) y e = absurd (cc)
-      closing_law pcall_item y e = absurd (cc)
-      closing_law (xpcall_item h) y e = absurd (cc)
-      closing_law handler_item y e = absurd (cc)
       closing_law (closing_item o vs) y e = ap (λ z. closing_item z.0 z.1) (sym (some_so e))
+      closing_law _ y e = absurd (cc)
 
   coroutine_back : IsReadBack (coroutine_format R)
   unfolding coroutine_format
@@ -356,48 +313,20 @@ module _ (R : Reader) where
       (wrong_back _)))))
     where
       fresh_law : (x : Record) (y : Item) → of_fresh R x ≡ Some y → fresh_record y ≡ x
-      fresh_law (table_record a b) y e = absurd (cc)
-      fresh_law (function_record a b) y e = absurd (cc)
-      fresh_law (closed_record a) y e = absurd (cc)
-      fresh_law (open_record a b c) y e = absurd (cc)
       fresh_law (fresh_record a) y e = ap fresh_record (sym (some_so e))
-      fresh_law (suspended_record a) y e = absurd (cc)
-      fresh_law dead_record y e = absurd (cc)
-      fresh_law (failed_record a b) y e = absurd (cc)
-      fresh_law no_record y e = absurd (cc)
+      fresh_law _ y e = absurd (cc)
 
       suspended_law : (x : Record) (y : List FrameItem) → of_suspended R x ≡ Some y → suspended_record y ≡ x
-      suspended_law (table_record a b) y e = absurd (cc)
-      suspended_law (function_record a b) y e = absurd (cc)
-      suspended_law (closed_record a) y e = absurd (cc)
-      suspended_law (open_record a b c) y e = absurd (cc)
-      suspended_law (fresh_record a) y e = absurd (cc)
       suspended_law (suspended_record a) y e = ap suspended_record (sym (some_so e))
-      suspended_law dead_record y e = absurd (cc)
-      suspended_law (failed_record a b) y e = absurd (cc)
-      suspended_law no_record y e = absurd (cc)
+      suspended_law _ y e = absurd (cc)
 
       dead_law : (x : Record) (y : Unit {0}) → of_dead R x ≡ Some y → dead_record ≡ x
-      dead_law (table_record a b) y e = absurd (cc)
-      dead_law (function_record a b) y e = absurd (cc)
-      dead_law (closed_record a) y e = absurd (cc)
-      dead_law (open_record a b c) y e = absurd (cc)
-      dead_law (fresh_record a) y e = absurd (cc)
-      dead_law (suspended_record a) y e = absurd (cc)
       dead_law dead_record y e = refl
-      dead_law (failed_record a b) y e = absurd (cc)
-      dead_law no_record y e = absurd (cc)
+      dead_law _ y e = absurd (cc)
 
       failed_law : (x : Record) (y : Item × List Item) → of_failed R x ≡ Some y → failed_record y.0 y.1 ≡ x
-      failed_law (table_record a b) y e = absurd (cc)
-      failed_law (function_record a b) y e = absurd (cc)
-      failed_law (closed_record a) y e = absurd (cc)
-      failed_law (open_record a b c) y e = absurd (cc)
-      failed_law (fresh_record a) y e = absurd (cc)
-      failed_law (suspended_record a) y e = absurd (cc)
-      failed_law dead_record y e = absurd (cc)
       failed_law (failed_record a b) y e = ap (λ z. failed_record z.0 z.1) (sym (some_so e))
-      failed_law no_record y e = absurd (cc)
+      failed_law _ y e = absurd (cc)
 
   record_back : (t : ℕ) → IsReadBack (record_format R t)
   unfolding record_format

@@ -443,13 +443,8 @@ module _ (base : Pairs) (W V : World) (T : Target) (name : Value → Option Item
   open_from (an_object a_coroutine n) c f r h = absurd (no_coroutine (slice_get W.coroutines n) h)
     where
       no_coroutine : (o : Option Coroutine) → or_none (record_of_coroutine N) o ≡ open_record c f r → ⊥
-      no_coroutine None h = cc
-      no_coroutine (Some (fresh v)) h = cc
-      no_coroutine (Some (suspended fs)) h = cc
-      no_coroutine (Some (in_progress fs)) h = cc
-      no_coroutine (Some (normal fs)) h = cc
-      no_coroutine (Some dead) h = cc
       no_coroutine (Some (failed e vs)) h = cc
+      no_coroutine _ h = cc
   open_from (a_cell k) c f r h = by_cell (slice_get W.cells k) refl h
     where
       by_cell : (o : Option Cell) → slice_get W.cells k ≡ o → or_none (record_of_cell N W) o ≡ open_record c f r → (l : ℕ) × (co : ℕ) × (a_cell k ≡ a_cell l) × (slice_get W.cells l ≡ Some (open_at co f r)) × (is_reached W name roots co ≡ true) × (N.number (an_object a_coroutine co) ≡ c)

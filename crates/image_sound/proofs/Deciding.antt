@@ -1,8 +1,8 @@
 -- What a reader accepts is the image of a sound world.
-use Rattle.std.proofs.Common.{arith, ℕ, zero, suc, ◌<◌, ◌≡◌, ⊎_elim, List, [], ◌∷◌, Option, Some, None, refl, subst, sym, ap, ◌∙◌, length, map, Bool, true, false, cond}
+use Rattle.std.proofs.Common.{arith, ℕ, zero, suc, ◌<◌, ◌≡◌, List, [], ◌∷◌, Option, Some, None, refl, subst, sym, ap, ◌∙◌, length, map, Bool, true, false, cond}
 use Rattle.std.specs.Prelude.{nat_eq, nat_lt, ◌&&◌, not, slice_get, IsTrue}
 use Rattle.std.specs.List.{list_all, list_any}
-use Rattle.std.proofs.lemmas.Bool.Decides.{eqb_tells, nat_tests}
+use Rattle.std.proofs.lemmas.Bool.Decides.{nat_tests}
 use Rattle.code_core.specs.Instruction.{opcode_of}
 use Rattle.code_core.specs.Prototype.{Prototype}
 use Rattle.code_core.specs.Check.{at}
@@ -57,15 +57,9 @@ cell_named [] n h = absurd (cc)
 cell_named (r ∷ rs) zero h = by_record r h
   where
     by_record : (r : Record) → list_any (nat_eq (sort_byte r)) (3 ∷ []) ≡ true → (x : Record) × (Some r ≡ Some x) × (is_cell x ≡ true)
-    by_record (table_record rows m) h = absurd (cc)
-    by_record (function_record c cs) h = absurd (cc)
     by_record (closed_record i) h = (closed_record i, refl, refl)
     by_record (open_record a b c) h = (open_record a b c, refl, refl)
-    by_record (fresh_record i) h = absurd (cc)
-    by_record (suspended_record fs) h = absurd (cc)
-    by_record dead_record h = absurd (cc)
-    by_record (failed_record e vs) h = absurd (cc)
-    by_record no_record h = absurd (cc)
+    by_record _ h = absurd (cc)
 cell_named (r ∷ rs) (suc n) h = cell_named rs n h
 
 function_named : (rs : List Record) (n : ℕ) → nat_eq (sort_at (map sort_byte rs) n) 2 ≡ true → bind (slice_get rs n) kind_in ≡ Some a_function
@@ -73,15 +67,8 @@ function_named [] n h = absurd (cc)
 function_named (r ∷ rs) zero h = by_record r h
   where
     by_record : (r : Record) → nat_eq (sort_byte r) 2 ≡ true → kind_in r ≡ Some a_function
-    by_record (table_record rows m) h = absurd (cc)
     by_record (function_record c cs) h = refl
-    by_record (closed_record i) h = absurd (cc)
-    by_record (open_record a b c) h = absurd (cc)
-    by_record (fresh_record i) h = absurd (cc)
-    by_record (suspended_record fs) h = absurd (cc)
-    by_record dead_record h = absurd (cc)
-    by_record (failed_record e vs) h = absurd (cc)
-    by_record no_record h = absurd (cc)
+    by_record _ h = absurd (cc)
 function_named (r ∷ rs) (suc n) h = function_named rs n h
 
 module _ (R : Reader) (code_named : PermKey → Option Prototype) (H : Host) (of : IsReaderOf R code_named H) where
@@ -186,21 +173,11 @@ module _ (R : Reader) (code_named : PermKey → Option Prototype) (H : Host) (of
     where
       suspended_is : (r : Record) (fs : List FrameItem) → frames_in r ≡ Some fs → r ≡ suspended_record fs
       suspended_is (suspended_record gs) fs e = let k : gs ≡ fs = cc in ap suspended_record k
-      suspended_is (table_record rows m) fs e = absurd (cc)
-      suspended_is (function_record c cs) fs e = absurd (cc)
-      suspended_is (closed_record i) fs e = absurd (cc)
-      suspended_is (open_record a b c) fs e = absurd (cc)
-      suspended_is (fresh_record i) fs e = absurd (cc)
-      suspended_is dead_record fs e = absurd (cc)
-      suspended_is (failed_record x vs) fs e = absurd (cc)
-      suspended_is no_record fs e = absurd (cc)
+      suspended_is _ fs e = absurd (cc)
 
       lua_frame_is : (g : FrameItem) (f : LuaFrameItem) → lua_frame_in g ≡ Some f → g ≡ lua_item f
       lua_frame_is (lua_item h) f e = let k : h ≡ f = cc in ap lua_item k
-      lua_frame_is pcall_item f e = absurd (cc)
-      lua_frame_is (xpcall_item h) f e = absurd (cc)
-      lua_frame_is handler_item f e = absurd (cc)
-      lua_frame_is (closing_item x vs) f e = absurd (cc)
+      lua_frame_is _ f e = absurd (cc)
 
   record_is : (r : Record) → RecordRead S r → record_fits code_named H.records r ≡ true → RecordFits H r
   record_is (table_record rows m) h t = (each_all row_fits rows h.0, item_fits m h.1)

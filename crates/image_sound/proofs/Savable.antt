@@ -57,7 +57,6 @@ module _ (n : ℕ) (W : World) (s : Solid n W) where
               right = frames_right c frames (s.coroutines co c e) f
 
               by_frame : (o : Option Frame) → slice_get frames g ≡ o → r < elim (bind o lua_frame) [ None ↦ 0 | Some l ↦ length l.own.registers ] → There co g r
-              by_frame None k h = absurd (omega (arith, h))
               by_frame (Some (lua l)) k h =
                   let v = get_there l.own.registers r h in
                   let a : bind (slice_get W.coroutines co) frames_of ≡ Some frames = ap (λ o. bind o frames_of) e ∙ f in
@@ -66,10 +65,7 @@ module _ (n : ℕ) (W : World) (s : Solid n W) where
                     ap (λ o. bind o (λ frames. bind (bind (slice_get frames g) lua_frame) (λ x. slice_get x.own.registers r))) a ∙ (ap (λ o. bind (bind o lua_frame) (λ x. slice_get x.own.registers r)) k ∙ v.1),
                     ok.registers r v.0 v.1,
                   )
-              by_frame (Some pcall) k h = absurd (omega (arith, h))
-              by_frame (Some (xpcall u)) k h = absurd (omega (arith, h))
-              by_frame (Some handler) k h = absurd (omega (arith, h))
-              by_frame (Some (closing u vs)) k h = absurd (omega (arith, h))
+              by_frame _ k h = absurd (omega (arith, h))
 
   -- values, cells and coroutines that an object names are there
   abbrev pub FieldOk : Field → Type 0

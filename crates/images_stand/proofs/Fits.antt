@@ -10,11 +10,11 @@ use Rattle.code_core.specs.Check.{at}
 use Rattle.code_core.specs.Prototype.{Prototype}
 use Rattle.int_core.specs.Heap.{Table}
 use Rattle.int_core.specs.Value.{a_table, a_function, a_coroutine, Value, object, bind}
-use Rattle.machine_core.specs.World.{Function, Cell, closed, open_at, Wait, running, LuaFrame, Frame, lua, pcall, xpcall, handler, closing, Coroutine, fresh, suspended, in_progress, normal, dead, failed, World, frames_of, lua_frame}
+use Rattle.machine_core.specs.World.{Function, Cell, closed, open_at, Wait, running, LuaFrame, Frame, lua, Coroutine, fresh, suspended, in_progress, normal, dead, failed, World, frames_of, lua_frame}
 use Rattle.machine_sound.specs.Sound.{Each, sizes, FrameOk, LuaOk, waits_at, waiting_size, kept_below, LuaWaits, FrameWaits, CoroutineOk, registers_in, registers_of, CellOk, Solid}
 use Rattle.machine_sound.proofs.Lists.{get_map}
 use Rattle.image_core.specs.Visit.{IsMet, greatest_count}
-use Rattle.image_core.specs.Image.{PermKey, Perm, Item, numbered, LuaFrameItem, Record, table_record, function_record, closed_record, open_record, fresh_record, suspended_record, dead_record, failed_record, no_record}
+use Rattle.image_core.specs.Image.{PermKey, Perm, Item, numbered, LuaFrameItem, Record, closed_record, open_record, suspended_record}
 use Rattle.image_core.specs.Records.{Part, an_object, a_cell, same_part, Field, of_value, of_coroutine, frame_fields, coroutine_fields, present, cell_fields, if_there, fields, value_parts, unless_named, field_parts, parts, is_reached, parts_in_order, Naming, naming, or_item, item, wait_item, lua_frame_item, frame_item, record_of_table, record_of_function, record_of_coroutine, record_of_cell, or_none, record_of}
 use Rattle.image_core.specs.Loading.{kind_in}
 use Rattle.image_core.proofs.Lists.{Every, every_at, every_front, every_flat, none_some, get_met, order_once}
@@ -157,12 +157,8 @@ module _ (W : World) (perms : List Perm) (roots : List Value) (R : Reader) (prim
     frames_there n frames frame register e l = by (slice_get frames frame) refl l
       where
         by : (o : Option Frame) → slice_get frames frame ≡ o → register < elim (bind o lua_frame) [ None ↦ 0 | Some f ↦ length f.own.registers ] → register_there Rs n frame register ≡ true
-        by None g l = absurd (omega (arith, l))
         by (Some (lua f)) g l = lua_there n frames frame register f e g l
-        by (Some pcall) g l = absurd (omega (arith, l))
-        by (Some (xpcall v)) g l = absurd (omega (arith, l))
-        by (Some handler) g l = absurd (omega (arith, l))
-        by (Some (closing v vs)) g l = absurd (omega (arith, l))
+        by _ g l = absurd (omega (arith, l))
 
     coroutine_there : (c : Coroutine) (n frame register : ℕ) → kind_in (record_of_coroutine N c) ≡ Some a_coroutine → slice_get Rs n ≡ Some (record_of_coroutine N c)
         → register < elim (frames_of c) [ None ↦ 0 | Some frames ↦ registers_in frames frame ] → register_there Rs n frame register ≡ true
@@ -292,15 +288,8 @@ module _ (W : World) (perms : List Perm) (roots : List Value) (R : Reader) (prim
     not_again o m ps ms apart = by (record_of N W o) refl
       where
         by : (r : Record) → record_of N W o ≡ r → opened_again r (map (record_of N W) ps) ≡ false
-        by (table_record rows t) e = refl
-        by (function_record code cells) e = refl
-        by (closed_record i) e = refl
         by (open_record k frame register) e = none_open o m k frame register e ps ms apart
-        by (fresh_record body) e = refl
-        by (suspended_record fs) e = refl
-        by dead_record e = refl
-        by (failed_record i pending) e = refl
-        by no_record e = refl
+        by _ e = refl
 
     abbrev Once : List Part → Type 0
     Once ps = (i j : ℕ) (o : Part) → slice_get ps i ≡ Some o → slice_get ps j ≡ Some o → i ≡ j

@@ -1,6 +1,6 @@
 -- Values and records of a world whose image is written, as they stand there.
 use Rattle.std.proofs.Common.{arith, ℕ, zero, suc, ◌+◌, ◌<◌, ◌≤◌, ◌^◌, ◌≡◌, List, [], ◌∷◌, ◌++◌, Option, Some, None, refl, subst, sym, ap, ◌∙◌, length, map, Bool, true, false, cond}
-use Rattle.std.specs.Prelude.{slice_get, flat_map, nat_eq, nat_lt, option_map, unwrap_or, not, ◌&&◌, ◌||◌, max, IsTrue}
+use Rattle.std.specs.Prelude.{slice_get, flat_map, nat_eq, option_map, unwrap_or, not, ◌&&◌, ◌||◌, max, IsTrue}
 use Rattle.std.specs.List.{list_any, AllByRecursion, IsDistinct}
 use Rattle.std.specs.Map.{keys_of}
 use Rattle.std.proofs.lemmas.List.{length-map}
@@ -261,14 +261,9 @@ module _ (W : World) (perms : List Perm) (roots : List Value) (R : Reader) (prim
     function_item v h g = by (Name v) refl g.held g.met
       where
         unnamed : (v : Value) → is_function v ≡ true → FieldIsHeld (λ _. None) (of_value v) → Every Met (value_parts v) → is_function_item Now (unnamed_item N v) ≡ true
-        unnamed (known nil) h k m = absurd (cc)
-        unnamed (known (boolean b)) h k m = absurd (cc)
-        unnamed (known (integer n)) h k m = absurd (cc)
-        unnamed (known (string s)) h k m = absurd (cc)
         unnamed (known (primitive n)) h k m = absurd (k refl)
         unnamed (object a_function n) h k m = ap (λ s. nat_eq s 2) (object_sort a_function n m.0)
-        unnamed (object a_table n) h k m = absurd (cc)
-        unnamed (object a_coroutine n) h k m = absurd (cc)
+        unnamed _ h k m = absurd (cc)
 
         by : (o : Option Item) → Name v ≡ o → FieldIsHeld (λ _. o) (of_value v) → Every Met (unless_named o (value_parts v)) → is_function_item Now (or_item o (unnamed_item N v)) ≡ true
         by None e k m = unnamed v h k m
@@ -361,13 +356,7 @@ module _ (W : World) (perms : List Perm) (roots : List Value) (R : Reader) (prim
       where
         nil_is : (i : Item) → is_nil_item Now i ≡ true → i ≡ plain nil
         nil_is (plain nil) e = refl
-        nil_is (plain (boolean b)) e = absurd (cc)
-        nil_is (plain (integer n)) e = absurd (cc)
-        nil_is (plain (string s)) e = absurd (cc)
-        nil_is (plain (primitive n)) e = absurd (cc)
-        nil_is (numbered n) e = absurd (cc)
-        nil_is (permanent k n) e = absurd (cc)
-        nil_is environment e = absurd (cc)
+        nil_is _ e = absurd (cc)
 
         good_nil : Good (known nil)
         good_nil = record { valid = tt; held = λ e. tt; met = none_met (Name (known nil)) }
@@ -534,12 +523,8 @@ module _ (W : World) (perms : List Perm) (roots : List Value) (R : Reader) (prim
         place_in frames at frame register h e l = by (slice_get frames frame) refl l
           where
             by : (o : Option Frame) → slice_get frames frame ≡ o → register < elim (bind o lua_frame) [ None ↦ 0 | Some f ↦ length f.own.registers ] → IsPlace frame register
-            by None g l = absurd (omega (arith, l))
             by (Some (lua f)) g l = lua_place frames at frame register f h e g l
-            by (Some pcall) g l = absurd (omega (arith, l))
-            by (Some (xpcall v)) g l = absurd (omega (arith, l))
-            by (Some handler) g l = absurd (omega (arith, l))
-            by (Some (closing v vs)) g l = absurd (omega (arith, l))
+            by _ g l = absurd (omega (arith, l))
 
         coroutine_place : (c : Coroutine) (at frame register : ℕ) → CoroutineOk z c → kind_in (record_of_coroutine N c) ≡ Some a_coroutine → slice_get Rs at ≡ Some (record_of_coroutine N c)
             → register < elim (frames_of c) [ None ↦ 0 | Some frames ↦ registers_in frames frame ] → IsPlace frame register

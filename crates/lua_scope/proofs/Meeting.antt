@@ -7,8 +7,7 @@ use Rattle.scope_core.specs.Scopes.{Frame}
 use Rattle.scope_core.specs.Walked.{own_variables}
 use Rattle.scope_core.specs.Rules.{breach, locals, stat_line, target_violations}
 use Rattle.scope_core.specs.Scopes.{names_fixed}
-use Rattle.tree_core.specs.declared.tree.StatNode.{StatNode, Empty, Local', LocalFunction', Assign', Do', While', Repeat', If', NumFor', GenFor', Label, Goto, Break, StatNode-If-1-None', StatNode-If-1-Some', StatNode-NumFor-3-None', StatNode-NumFor-3-Some'}
-use Rattle.tree_core.specs.declared.tree.StatNode.{Call' as CallStat'}
+use Rattle.tree_core.specs.declared.tree.StatNode.{StatNode, If', NumFor', StatNode-If-1-Some', StatNode-NumFor-3-Some'}
 use Rattle.tree_core.specs.declared.tree.Stat.{Stat}
 use Rattle.tree_core.specs.Tree as tree
 use Rattle.tree_core.specs.Plain.{plain_stat, plain_stat_node}
@@ -37,22 +36,9 @@ pub line_of_stat : (s : Stat) → stat_line (plain_stat s) ≡ s.line
 line_of_stat s = by s.node s.line
   where
     by : (node : StatNode) (line : ℕ) → stat_line (plain_stat_node node line) ≡ line
-    by Empty line = refl
-    by (Local' names n es) line = refl
-    by (LocalFunction' name p b) line = refl
-    by (Assign' n ts m es) line = refl
-    by (CallStat' p l e) line = refl
-    by (Do' p b) line = refl
-    by (While' p l e q b) line = refl
-    by (Repeat' q b p l e) line = refl
-    by (If' n as' StatNode-If-1-None') line = refl
     by (If' n as' (StatNode-If-1-Some' p b)) line = refl
-    by (NumFor' name p l a q k b StatNode-NumFor-3-None' r inner) line = refl
     by (NumFor' name p l a q k b (StatNode-NumFor-3-Some' o m c) r inner) line = refl
-    by (GenFor' names n es p b) line = refl
-    by (Label name) line = refl
-    by (Goto name) line = refl
-    by Break line = refl
+    by _ line = refl
 
 pub one_target : (o : Option Violation) (frames : List Frame) (e : tree.Exp) (es : tree.Exps) → meet_all o (target_violations frames (tree.MoreExps e es)) ≡ meet_all (meet_all o (target_violations frames (tree.MoreExps e tree.EndExps))) (target_violations frames es)
 one_target o frames (tree.Var line name) es = by (names_fixed name.text frames)

@@ -2,7 +2,7 @@
 use Rattle.std.proofs.Common.{ℕ, zero, suc, ◌-◌, List, [], ◌∷◌, ◌++◌, refl, ◌≡◌, map, length, Option, Some, None, Bool, true, false, Result, Ok, Err}
 use Rattle.std.specs.Prelude.{ℤ, pos, negsuc, cond, nat_lt, codes}
 use Rattle.std.specs.List.{list_all}
-use Rattle.int_core.specs.Value.{Plain, nil, boolean, integer, string, primitive, a_table, a_function, a_coroutine, Value, known, Shape, is_known, is_object, shape, holds, nth}
+use Rattle.int_core.specs.Value.{Plain, nil, boolean, integer, string, primitive, a_table, Value, known, Shape, is_known, is_object, shape, holds, nth}
 use Rattle.library_rows.specs.Look.{read, written, look, write_field, Look, gives, gives_all, refuses, raises, count, does, looked}
 use Rattle.library_rows.specs.Plainly.{Outcome, results, error, too_large, fits_length, told_as, sees, plainly}
 use Rattle.library_rows.specs.Arguments.{argument, bad_argument, wrong_type, plain_of, is_absent, is_table, integer_argument, text_argument, with_look, one}
@@ -82,26 +82,16 @@ next_writes : Writes Base.next_of
 next_writes = table_writes (codes "next") _ by
   where
     by : (s : Shape) → Writes (Base.next_row s)
-    by (is_known (boolean true)) = tt
     by (is_known (boolean false)) = tt
-    by (is_known nil) = tt
-    by (is_known (integer n)) = tt
-    by (is_known (string text)) = tt
-    by (is_known (primitive n)) = tt
-    by (is_object kind) = tt
+    by _ = tt
 
 length_writes : Writes Base.raw_length
 length_writes = by
   where
     by : (s : Shape) → Writes (Base.size_of s)
     by (is_object a_table) = λ border. tt
-    by (is_known (string s)) = tt
-    by (is_known nil) = tt
-    by (is_known (boolean b)) = tt
-    by (is_known (integer n)) = tt
     by (is_known (primitive n)) = tt
-    by (is_object a_function) = tt
-    by (is_object a_coroutine) = tt
+    by _ = tt
 
 selects_write : Writes Base.selects
 selects_write = λ s. pick (Base.is_count s) (count 1 (λ many. gives (written (integer (pos many)) ∷ []))) (with_look (integer_argument (codes "select") 1 s) Base.selected) (λ many. tt)
