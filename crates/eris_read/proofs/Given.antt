@@ -1,7 +1,6 @@
 -- What is read by what permanents stand for: the reader, the code, and that what is accepted leaves a sound world.
 use Rattle.std.proofs.Common.{◌≡◌, ℕ, zero, suc, length-append, List, [], ◌∷◌, Option, Some, None, Bool, true, false, cond, map, refl, ap, ap₂, sym, subst, ◌∙◌, arith}
 use Rattle.std.specs.Prelude.{slice_get, Result, Ok, Err, IsTrue, nat_eq}
-use Rattle.std.specs.Option.{option_map}
 use Rattle.std.specs.List.{list_any}
 use Rattle.std.proofs.Math.Path.{fun_ext}
 use Rattle.chunk_check.specs.Faults.{first_fault}
@@ -9,14 +8,14 @@ use Rattle.chunk_check.proofs.Exact.{checked_without_faults}
 use Rattle.code_core.specs.Prototype.{Prototype}
 use Rattle.int_core.specs.Value.{Kind, a_table, a_function, a_coroutine, Value, known, object, primitive, string, integer, boolean, nil, bind}
 use Rattle.int_core.specs.Operations.{is_function}
-use Rattle.int_core.specs.Heap.{Table}
 use Rattle.list_laws.proofs.Items.{some_same}
 use Rattle.machine_sound.proofs.Lists.{get_within}
 use Rattle.image_core.proofs.Lists.{chosen_get, map_some}
-use Rattle.machine_core.specs.World.{Function, Coroutine, World}
+use Rattle.machine_core.specs.World.{Function, World}
 use Rattle.machine_sound.specs.Sound.{Each, Sizes, sizes, Valid, Solid}
-use Rattle.image_core.specs.Image.{PermKey, Perm, Item, plain, numbered, permanent, environment, Image, Record, table_record, function_record, fresh_record, suspended_record, dead_record, failed_record}
+use Rattle.image_core.specs.Image.{PermKey, Perm, Item, plain, numbered, permanent, environment, Image, Record}
 use Rattle.image_core.specs.Loading.{Target, kind_in, is_of, rank, new_number, numbered_value, value_made, table_made, function_made, coroutine_made, chosen, loaded}
+use Rattle.image_core.proofs.Making.{table_yes, table_no, table_makes, function_yes, function_no, function_makes, coroutine_yes, coroutine_no, coroutine_makes}
 use Rattle.image_bytes.specs.Bytes.{Reader, is_sort, sort_at, sort_byte, with_sorts, read_image}
 use Rattle.image_bytes.specs.Format.{read}
 use Rattle.image_sound.specs.Fitting.{IsReaderOf, reads}
@@ -119,69 +118,23 @@ sound_image primitives V perms I roots met bytes there e =
 
 -- the roots of what is loaded are there
 
-module _ (T : Target) (rs : List Record) where
-  yes_table : (r : Record) (t : Table) → table_made T rs r ≡ Some t → is_of a_table r ≡ true
-  yes_table (table_record rows m) t e = refl
-  yes_table _ t e = absurd (cc)
-
-  no_table : (r : Record) → table_made T rs r ≡ None → is_of a_table r ≡ false
-  no_table (table_record rows m) e = absurd (cc)
-  no_table _ e = refl
-
-  yes_function : (r : Record) (t : Function) → function_made T rs r ≡ Some t → is_of a_function r ≡ true
-  yes_function (function_record code cells) t e = refl
-  yes_function _ t e = absurd (cc)
-
-  no_function : (r : Record) → function_made T rs r ≡ None → is_of a_function r ≡ false
-  no_function (function_record code cells) e = absurd (cc)
-  no_function _ e = refl
-
-  yes_coroutine : (r : Record) (t : Coroutine) → coroutine_made T rs r ≡ Some t → is_of a_coroutine r ≡ true
-  yes_coroutine (fresh_record i) t e = refl
-  yes_coroutine (suspended_record frames) t e = refl
-  yes_coroutine dead_record t e = refl
-  yes_coroutine (failed_record i is) t e = refl
-  yes_coroutine _ t e = absurd (cc)
-
-  no_coroutine : (r : Record) → coroutine_made T rs r ≡ None → is_of a_coroutine r ≡ false
-  no_coroutine (fresh_record i) e = absurd (cc)
-  no_coroutine (suspended_record frames) e = absurd (cc)
-  no_coroutine dead_record e = absurd (cc)
-  no_coroutine (failed_record i is) e = absurd (cc)
-  no_coroutine _ e = refl
-
-  some_table : (r : Record) → kind_in r ≡ Some a_table → (t : Table) × (table_made T rs r ≡ Some t)
-  some_table (table_record rows m) e = (_, refl)
-  some_table _ e = absurd (cc)
-
-  some_function : (r : Record) → kind_in r ≡ Some a_function → (t : Function) × (function_made T rs r ≡ Some t)
-  some_function (function_record code cells) e = (_, refl)
-  some_function _ e = absurd (cc)
-
-  some_coroutine : (r : Record) → kind_in r ≡ Some a_coroutine → (t : Coroutine) × (coroutine_made T rs r ≡ Some t)
-  some_coroutine (fresh_record i) e = (_, refl)
-  some_coroutine (suspended_record frames) e = (_, refl)
-  some_coroutine dead_record e = (_, refl)
-  some_coroutine (failed_record i is) e = (_, refl)
-  some_coroutine _ e = absurd (cc)
-
 module _ (primitives : ℕ) (V : World) (T : Target) (rs : List Record) (is : IsTarget T V) (solid : Solid primitives V) where
   new_there : (n : ℕ) (r : Record) (kind : Kind) → slice_get rs n ≡ Some r → kind_in r ≡ Some kind → Valid (sizes primitives (loaded T rs V)) (object kind (new_number T rs kind n))
   new_there n r a_table g e =
-      let t = some_table T rs r e in
-      let w = get_within (chosen (table_made T rs) rs) (rank (is_of a_table) rs n) t.0 (chosen_get (is_of a_table) (table_made T rs) (yes_table T rs) (no_table T rs) rs n r t.0 g t.1) in
+      let t = table_makes T rs r e in
+      let w = get_within (chosen (table_made T rs) rs) (rank (is_of a_table) rs n) t.0 (chosen_get (is_of a_table) (table_made T rs) (table_yes T rs) (table_no T rs) rs n r t.0 g t.1) in
       let l = length-append V.heap.tables (chosen (table_made T rs) rs) in
       let c = is.tables in
       omega (arith, w, l, c)
   new_there n r a_function g e =
-      let t = some_function T rs r e in
-      let w = get_within (chosen (function_made T rs) rs) (rank (is_of a_function) rs n) t.0 (chosen_get (is_of a_function) (function_made T rs) (yes_function T rs) (no_function T rs) rs n r t.0 g t.1) in
+      let t = function_makes T rs r e in
+      let w = get_within (chosen (function_made T rs) rs) (rank (is_of a_function) rs n) t.0 (chosen_get (is_of a_function) (function_made T rs) (function_yes T rs) (function_no T rs) rs n r t.0 g t.1) in
       let l = length-append V.functions (chosen (function_made T rs) rs) in
       let c = is.functions in
       omega (arith, w, l, c)
   new_there n r a_coroutine g e =
-      let t = some_coroutine T rs r e in
-      let w = get_within (chosen (coroutine_made T rs) rs) (rank (is_of a_coroutine) rs n) t.0 (chosen_get (is_of a_coroutine) (coroutine_made T rs) (yes_coroutine T rs) (no_coroutine T rs) rs n r t.0 g t.1) in
+      let t = coroutine_makes T rs r e in
+      let w = get_within (chosen (coroutine_made T rs) rs) (rank (is_of a_coroutine) rs n) t.0 (chosen_get (is_of a_coroutine) (coroutine_made T rs) (coroutine_yes T rs) (coroutine_no T rs) rs n r t.0 g t.1) in
       let l = length-append V.coroutines (chosen (coroutine_made T rs) rs) in
       let c = is.coroutines in
       omega (arith, w, l, c)

@@ -5,7 +5,7 @@ use Rattle.int_core.specs.Value.{a_table, a_function, a_coroutine}
 use Rattle.int_core.specs.Heap.{Table}
 use Rattle.machine_core.specs.World.{Function, Cell, open_at, Coroutine}
 use Rattle.image_core.specs.Image.{Record, table_record, function_record, closed_record, open_record, fresh_record, suspended_record, dead_record, failed_record}
-use Rattle.image_core.specs.Loading.{is_of, is_cell, rank, Target, new_number, table_made, function_made, coroutine_made, cell_made, chosen}
+use Rattle.image_core.specs.Loading.{is_of, is_cell, rank, Target, new_number, table_made, function_made, coroutine_made, cell_made, chosen, kind_in}
 use Rattle.image_core.proofs.Lists.{get_right}
 
 -- what is chosen stands after what was there
@@ -52,6 +52,22 @@ pub cell_no : (T : Target) (records : List Record) (r : Record) → cell_made T 
 cell_no T records (closed_record i) h = absurd (cc)
 cell_no T records (open_record a b c) h = absurd (cc)
 cell_no T records _ h = refl
+
+-- and each record of a sort makes an object of it
+pub table_makes : (T : Target) (records : List Record) (r : Record) → kind_in r ≡ Some a_table → (t : Table) × (table_made T records r ≡ Some t)
+table_makes T records (table_record rows m) h = (_, refl)
+table_makes T records _ h = absurd (cc)
+
+pub function_makes : (T : Target) (records : List Record) (r : Record) → kind_in r ≡ Some a_function → (t : Function) × (function_made T records r ≡ Some t)
+function_makes T records (function_record c cs) h = (_, refl)
+function_makes T records _ h = absurd (cc)
+
+pub coroutine_makes : (T : Target) (records : List Record) (r : Record) → kind_in r ≡ Some a_coroutine → (t : Coroutine) × (coroutine_made T records r ≡ Some t)
+coroutine_makes T records (fresh_record i) h = (_, refl)
+coroutine_makes T records (suspended_record fs) h = (_, refl)
+coroutine_makes T records dead_record h = (_, refl)
+coroutine_makes T records (failed_record e vs) h = (_, refl)
+coroutine_makes T records _ h = absurd (cc)
 
 -- what a made cell that is open was made of
 pub open_made : (T : Target) (records : List Record) (r : Record) (co f n : ℕ) → cell_made T records r ≡ Some (open_at co f n) → (c : ℕ) × (r ≡ open_record c f n) × (co ≡ new_number T records a_coroutine c)

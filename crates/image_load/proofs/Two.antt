@@ -8,11 +8,11 @@ use Rattle.machine_core.specs.World.{Wait, running, for_call, for_iterator, for_
 use Rattle.machine_alike.specs.Agree.{Pairs, SameNumber, SameCellNumber, Each, Both, SameValue, same_known, same_object, SameValues, SameRow, SameTable, SameFunction, SameWait, same_running, same_for_call, same_for_iterator, same_for_value, same_for_truth, same_dropped, same_for_concat, same_for_close, same_returning, same_leaving, SameFrame, same_lua, same_pcall, same_xpcall, same_handler, same_closing, SameCoroutine, same_fresh, same_suspended, same_dead, same_failed, OneToOne, IsFirst, IsSecond, kept_closed, SameCell, same_place, same_content, Extends}
 use Rattle.machine_alike.proofs.Pairwise.{both_on, both_old, both_left, both_right, get_push_old, bind_some}
 use Rattle.machine_alike.proofs.Same.{value_on, table_on, function_on, coroutine_on, cell_on, KeepsApart}
-use Rattle.image_core.specs.Image.{Item, plain, numbered, permanent, environment, FrameItem, lua_item, pcall_item, xpcall_item, handler_item, closing_item, Record, table_record, function_record, closed_record, open_record, fresh_record, suspended_record, dead_record, failed_record, no_record}
+use Rattle.image_core.specs.Image.{Item, plain, numbered, permanent, environment, FrameItem, lua_item, pcall_item, xpcall_item, handler_item, closing_item, Record, table_record, function_record, closed_record, open_record, fresh_record, suspended_record, dead_record, failed_record}
 use Rattle.image_core.specs.Loading.{kind_in, is_of, is_cell, rank, Target, count_in, new_number, new_cell, numbered_value, value_made, table_number, function_number, row_made, table_made, function_made, wait_made, frame_made, coroutine_made, cell_made, chosen, loaded}
 use Rattle.image_load.specs.Both.{shifted, count_made, both_loading, CanBothLoad, BothAlike, BothLoadedAgree}
 use Rattle.image_core.proofs.Lists.{get_right, chosen_get, none_some}
-use Rattle.image_core.proofs.Making.{table_yes, table_no, function_yes, function_no, coroutine_yes, coroutine_no, cell_yes, cell_no}
+use Rattle.image_core.proofs.Making.{table_yes, table_no, function_yes, function_no, coroutine_yes, coroutine_no, cell_yes, cell_no, table_makes, function_makes, coroutine_makes}
 
 lower : (m c : ℕ) → m < c → nat_lt m c ≡ true
 lower m c h = search (arith, h)
@@ -112,33 +112,15 @@ module _ (p : Pairs) (W X : World) (T U : Target) (rs : List Record) (can : CanB
 
   -- the number of what is made of a record is below how many are made
   made_below : (kind : Kind) (n : ℕ) (r : Record) → slice_get rs n ≡ Some r → kind_in r ≡ Some kind → rank (is_of kind) rs n < count_made T rs kind
-  made_below a_table n (table_record rows m) h e = slice_get_within _ _ _ (chosen_get (is_of a_table) (table_made T rs) (table_yes T rs) (table_no T rs) rs n (table_record rows m) _ h refl)
-  made_below a_table n (function_record c cs) h e = absurd (cc)
-  made_below a_table n (closed_record i) h e = absurd (cc)
-  made_below a_table n (open_record a b c) h e = absurd (cc)
-  made_below a_table n (fresh_record i) h e = absurd (cc)
-  made_below a_table n (suspended_record fs) h e = absurd (cc)
-  made_below a_table n dead_record h e = absurd (cc)
-  made_below a_table n (failed_record x vs) h e = absurd (cc)
-  made_below a_table n no_record h e = absurd (cc)
-  made_below a_function n (function_record c cs) h e = slice_get_within _ _ _ (chosen_get (is_of a_function) (function_made T rs) (function_yes T rs) (function_no T rs) rs n (function_record c cs) _ h refl)
-  made_below a_function n (table_record rows m) h e = absurd (cc)
-  made_below a_function n (closed_record i) h e = absurd (cc)
-  made_below a_function n (open_record a b c) h e = absurd (cc)
-  made_below a_function n (fresh_record i) h e = absurd (cc)
-  made_below a_function n (suspended_record fs) h e = absurd (cc)
-  made_below a_function n dead_record h e = absurd (cc)
-  made_below a_function n (failed_record x vs) h e = absurd (cc)
-  made_below a_function n no_record h e = absurd (cc)
-  made_below a_coroutine n (fresh_record i) h e = slice_get_within _ _ _ (chosen_get (is_of a_coroutine) (coroutine_made T rs) (coroutine_yes T rs) (coroutine_no T rs) rs n (fresh_record i) _ h refl)
-  made_below a_coroutine n (suspended_record fs) h e = slice_get_within _ _ _ (chosen_get (is_of a_coroutine) (coroutine_made T rs) (coroutine_yes T rs) (coroutine_no T rs) rs n (suspended_record fs) _ h refl)
-  made_below a_coroutine n dead_record h e = slice_get_within _ _ _ (chosen_get (is_of a_coroutine) (coroutine_made T rs) (coroutine_yes T rs) (coroutine_no T rs) rs n dead_record _ h refl)
-  made_below a_coroutine n (failed_record x vs) h e = slice_get_within _ _ _ (chosen_get (is_of a_coroutine) (coroutine_made T rs) (coroutine_yes T rs) (coroutine_no T rs) rs n (failed_record x vs) _ h refl)
-  made_below a_coroutine n (table_record rows m) h e = absurd (cc)
-  made_below a_coroutine n (function_record c cs) h e = absurd (cc)
-  made_below a_coroutine n (closed_record i) h e = absurd (cc)
-  made_below a_coroutine n (open_record a b c) h e = absurd (cc)
-  made_below a_coroutine n no_record h e = absurd (cc)
+  made_below a_table n r h e =
+      let t = table_makes T rs r e in
+      slice_get_within _ _ _ (chosen_get (is_of a_table) (table_made T rs) (table_yes T rs) (table_no T rs) rs n r t.0 h t.1)
+  made_below a_function n r h e =
+      let t = function_makes T rs r e in
+      slice_get_within _ _ _ (chosen_get (is_of a_function) (function_made T rs) (function_yes T rs) (function_no T rs) rs n r t.0 h t.1)
+  made_below a_coroutine n r h e =
+      let t = coroutine_makes T rs r e in
+      slice_get_within _ _ _ (chosen_get (is_of a_coroutine) (coroutine_made T rs) (coroutine_yes T rs) (coroutine_no T rs) rs n r t.0 h t.1)
 
   cell_below : (n : ℕ) (r : Record) → slice_get rs n ≡ Some r → is_cell r ≡ true → rank is_cell rs n < length (chosen (cell_made T rs) rs)
   cell_below n (closed_record i) h e = slice_get_within _ _ _ (chosen_get is_cell (cell_made T rs) (cell_yes T rs) (cell_no T rs) rs n (closed_record i) _ h refl)

@@ -13,7 +13,7 @@ use Rattle.machine_sound.proofs.Lists.{each_on, each_append, each_cons, get_push
 use Rattle.image_core.specs.Image.{Item, plain, numbered, permanent, environment, LuaFrameItem, FrameItem, lua_item, pcall_item, xpcall_item, handler_item, closing_item, Record, table_record, function_record, closed_record, open_record, fresh_record, suspended_record, dead_record, failed_record}
 use Rattle.image_core.specs.Loading.{kind_in, is_of, is_cell, rank, Target, new_number, new_cell, numbered_value, value_made, table_number, function_number, row_made, table_made, function_made, wait_made, lua_frame_made, frame_made, coroutine_made, cell_made, chosen, loaded}
 use Rattle.image_core.proofs.Lists.{get_split, chosen_get, chosen_from, rank_one}
-use Rattle.image_core.proofs.Making.{table_yes, table_no, function_yes, function_no, coroutine_yes, coroutine_no, cell_yes, cell_no, after_old, open_made}
+use Rattle.image_core.proofs.Making.{table_yes, table_no, function_yes, function_no, coroutine_yes, coroutine_no, cell_yes, cell_no, after_old, open_made, table_makes, function_makes, coroutine_makes}
 use Rattle.image_sound.specs.SoundImage.{Host, PlainFits, ItemFits, CodeIs, WaitFits, LuaFits, FrameFits, OpenFits, IsSoundImage, IsTarget, LoadedSound}
 
 -- what holds of what is chosen
@@ -63,22 +63,7 @@ module _ (H : Host) (target : IsTarget H.target H.world) (old : Solid H.primitiv
   cell_there : (n : ℕ) (r : Record) (t : Cell) → slice_get rs n ≡ Some r → cell_made T rs r ≡ Some t → slice_get X.cells (new_cell T rs n) ≡ Some t
   cell_there n r t h e = after_old (cell_made T rs) is_cell rs V.cells T.cells n n t target.cells refl (chosen_get is_cell (cell_made T rs) (cell_yes T rs) (cell_no T rs) rs n r t h e)
 
-  -- each record of a sort makes something
-  table_makes : (r : Record) → kind_in r ≡ Some a_table → (t : Table) × (table_made T rs r ≡ Some t)
-  table_makes (table_record rows m) h = (_, refl)
-  table_makes _ h = absurd (cc)
-
-  function_makes : (r : Record) → kind_in r ≡ Some a_function → (t : Function) × (function_made T rs r ≡ Some t)
-  function_makes (function_record c cs) h = (_, refl)
-  function_makes _ h = absurd (cc)
-
-  coroutine_makes : (r : Record) → kind_in r ≡ Some a_coroutine → (t : Coroutine) × (coroutine_made T rs r ≡ Some t)
-  coroutine_makes (fresh_record i) h = (_, refl)
-  coroutine_makes (suspended_record fs) h = (_, refl)
-  coroutine_makes dead_record h = (_, refl)
-  coroutine_makes (failed_record e vs) h = (_, refl)
-  coroutine_makes _ h = absurd (cc)
-
+  -- a record of a cell makes one
   cell_makes : (r : Record) → is_cell r ≡ true → (t : Cell) × (cell_made T rs r ≡ Some t)
   cell_makes (closed_record i) h = (_, refl)
   cell_makes (open_record a b c) h = (_, refl)
@@ -100,9 +85,9 @@ module _ (H : Host) (target : IsTarget H.target H.world) (old : Solid H.primitiv
 
   -- values
   numbered_valid : (n : ℕ) (r : Record) (kind : Kind) → slice_get rs n ≡ Some r → kind_in r ≡ Some kind → Valid z (object kind (new_number T rs kind n))
-  numbered_valid n r a_table h k = let t = table_makes r k in slice_get_within X.heap.tables _ t.0 (table_there n r t.0 h t.1)
-  numbered_valid n r a_function h k = let t = function_makes r k in slice_get_within X.functions _ t.0 (function_there n r t.0 h t.1)
-  numbered_valid n r a_coroutine h k = let t = coroutine_makes r k in slice_get_within X.coroutines _ t.0 (coroutine_there n r t.0 h t.1)
+  numbered_valid n r a_table h k = let t = table_makes T rs r k in slice_get_within X.heap.tables _ t.0 (table_there n r t.0 h t.1)
+  numbered_valid n r a_function h k = let t = function_makes T rs r k in slice_get_within X.functions _ t.0 (function_there n r t.0 h t.1)
+  numbered_valid n r a_coroutine h k = let t = coroutine_makes T rs r k in slice_get_within X.coroutines _ t.0 (coroutine_there n r t.0 h t.1)
 
   plain_valid : (p : Plain) → PlainFits H p → PlainOk H.primitives p
   plain_valid nil h = tt
