@@ -4,6 +4,7 @@ pub mod CheckLemmas
 pub mod CompileLemmas
 pub mod CodeLemmas
 pub mod MeaningLemmas
+mod Raised
 mod Limited
 pub mod Endings
 mod LimitLemmas

@@ -1,5 +1,4 @@
 use Rattle.std.proofs.Common.{rules, arith, ◌≡◌, ◌⊎◌, ◌+◌, ◌-◌, ◌≤◌, ℕ, List, Err, refl, ap, subst}
-use Rattle.std.proofs.lemmas.Result.{err_from_is_err_and}
 use Rattle.machine_runs.specs.Runs.{Run}
 use Rattle.loaded_code.specs.Laws.{library}
 use Rattle.source_builds.proofs.Knowing.{read_all, read_map, read_both}
@@ -18,6 +17,7 @@ use Rattle.program.proofs.LimitLemmas.{file_limits, prelude_limits, session_limi
 use Rattle.program.proofs.Endings.{cut_ran, closed_ran, onward_once, limit_new, broken_new, front_new, fed_new}
 use Rattle.program.proofs.ImageLemmas.{feeding_fits_image, image_tells}
 use Rattle.program.proofs.ResumeLemmas.{unread_resume, no_prelude_resume, no_session_resume, memory_resume, resume_of, resume_since, resume_before}
+use Rattle.program.proofs.Raised.{raised}
 use Rattle.program.proofs.resuming.resume_file.Goals as goal
 
 pub returns-in_err-content-clause-resume : goal.returns-in_err-content-clause-resume
@@ -51,21 +51,18 @@ returns-in_err-world-clause-fits g c =
 
 pub returns-in_err-reader-clause-resume : goal.returns-in_err-reader-clause-resume
 returns-in_err-reader-clause-resume g c =
-    let p = err_from_is_err_and c.from_residual-in_err-reader.result c.from_residual-in_err-reader.ensures.1 in
-    let is : c.from_residual-in_err-reader.result ≡ Err Memory = rw (p.1, p.2) refl in
+    let is = raised c.from_residual-in_err-reader.result Memory c.from_residual-in_err-reader.ensures.1 in
     read_all (λ builds sources. resume_before c.args.name.now c.args.budget _ _ _ _ _ _ _ _ _ _ c.in_ok-content.ensures.cause.only c.in_ok-content.ensures.kept (ap status_of is)
     (memory_resume c.args.name.now c.in_ok-content.content.items c.args.budget _ _ _ _ _ _ _ _ c.in_ok-content.ensures.found))
 
 pub returns-in_err-reader-clause-fits : goal.returns-in_err-reader-clause-fits
 returns-in_err-reader-clause-fits g c =
-    let p = err_from_is_err_and c.from_residual-in_err-reader.result c.from_residual-in_err-reader.ensures.1 in
-    let is : c.from_residual-in_err-reader.result ≡ Err Memory = rw (p.1, p.2) refl in
+    let is = raised c.from_residual-in_err-reader.result Memory c.from_residual-in_err-reader.ensures.1 in
     λ content has. rw is tt
 
 pub returns-in_err-close-clause-resume : goal.returns-in_err-close-clause-resume
 returns-in_err-close-clause-resume g c =
-    let p = err_from_is_err_and c.from_residual-in_err-close.result c.from_residual-in_err-close.ensures.1 in
-    let is : c.from_residual-in_err-close.result ≡ Err (fault_of_feeding c.in_err-close.field-0.0) = rw (p.1, p.2) refl in
+    let is = raised c.from_residual-in_err-close.result (fault_of_feeding c.in_err-close.field-0.0) c.from_residual-in_err-close.ensures.1 in
     let prelude = c.in_ok-prelude.prelude in
     let session = plain c.in_ok-world.world 0 in
     let own : IsSession (functions_of prelude) c.in_ok-content.content.items session = subst (λ (s : List ℕ). IsSession (functions_of prelude) s session) c.as_slice.ensures.value c.in_ok-world.ensures.session in
@@ -95,8 +92,7 @@ returns-clause-resume g c =
 
 pub returns-in_err-close-clause-fits : goal.returns-in_err-close-clause-fits
 returns-in_err-close-clause-fits g c =
-    let p = err_from_is_err_and c.from_residual-in_err-close.result c.from_residual-in_err-close.ensures.1 in
-    let is : c.from_residual-in_err-close.result ≡ Err (fault_of_feeding c.in_err-close.field-0.0) = rw (p.1, p.2) refl in
+    let is = raised c.from_residual-in_err-close.result (fault_of_feeding c.in_err-close.field-0.0) c.from_residual-in_err-close.ensures.1 in
     λ content has. rw is (feeding_fits_image content c.in_err-close.field-0.0)
 
 pub returns-clause-fits : goal.returns-clause-fits
@@ -120,15 +116,11 @@ returns-in_err-world-clause-limits g c =
     rw is (session_limits (g.S.Source.left c.args.input.now) c.in_ok-prelude.prelude c.as_slice.result.now c.in_err-world.field-0.0 c.in_err-world.ensures.refused)
 
 pub returns-in_err-reader-clause-limits : goal.returns-in_err-reader-clause-limits
-returns-in_err-reader-clause-limits g c =
-    let p = err_from_is_err_and c.from_residual-in_err-reader.result c.from_residual-in_err-reader.ensures.1 in
-    let is : c.from_residual-in_err-reader.result ≡ Err Memory = rw (p.1, p.2) refl in
-    rw is tt
+returns-in_err-reader-clause-limits g c = rw (raised c.from_residual-in_err-reader.result Memory c.from_residual-in_err-reader.ensures.1) tt
 
 pub returns-in_err-close-clause-limits : goal.returns-in_err-close-clause-limits
 returns-in_err-close-clause-limits g c =
-    let p = err_from_is_err_and c.from_residual-in_err-close.result c.from_residual-in_err-close.ensures.1 in
-    let is : c.from_residual-in_err-close.result ≡ Err (fault_of_feeding c.in_err-close.field-0.0) = rw (p.1, p.2) refl in
+    let is = raised c.from_residual-in_err-close.result (fault_of_feeding c.in_err-close.field-0.0) c.from_residual-in_err-close.ensures.1 in
     let left = g.S.Source.left c.args.input.now in
     rw is (feeding_limits left c.in_err-close.field-0.0
     (λ past. one_past c.in_ok-reader.reader _ left (g.K.Sink.written c.args.out.now) (g.K.Sink.written c.feed_on.new.out) c.in_ok-reader.ensures (read_some (c.in_err-close.ensures.limit past)).2))

@@ -1,5 +1,4 @@
-use Rattle.std.proofs.Common.{rules, arith, ◌≡◌, ◌⊎◌, ◌+◌, ◌-◌, ◌≤◌, ℕ, List, Option, Err, refl, ap, subst}
-use Rattle.std.proofs.lemmas.Result.{err_from_is_err_and}
+use Rattle.std.proofs.Common.{rules, arith, ◌≡◌, ◌⊎◌, ◌+◌, ◌-◌, ◌≤◌, ℕ, List, Err, refl, ap, subst}
 use Rattle.machine_core.specs.World.{World}
 use Rattle.machine_runs.specs.Runs.{Run}
 use Rattle.loaded_code.specs.Laws.{library}
@@ -19,6 +18,7 @@ use Rattle.program.proofs.LimitLemmas.{file_limits, prelude_limits, code_limits,
 use Rattle.program.proofs.Endings.{cut_ran, closed_ran, limit_new, broken_new, front_new, fed_new}
 use Rattle.program.proofs.Keeping.{run_keeps}
 use Rattle.program.proofs.RunLemmas.{unread_run, no_prelude_run, no_code_run, memory_run, run_of, run_since, run_before}
+use Rattle.program.proofs.Raised.{raised}
 use Rattle.program.proofs.running.run_file.Goals as goal
 
 pub returns-in_err-content-clause-run : goal.returns-in_err-content-clause-run
@@ -47,34 +47,29 @@ returns-in_err-code-clause-fits g c =
 
 pub returns-in_err-reader-clause-run : goal.returns-in_err-reader-clause-run
 returns-in_err-reader-clause-run g c =
-    let p = err_from_is_err_and c.from_residual-in_err-reader.result c.from_residual-in_err-reader.ensures.1 in
-    let is : c.from_residual-in_err-reader.result ≡ Err Memory = rw (p.1, p.2) refl in
+    let is = raised c.from_residual-in_err-reader.result Memory c.from_residual-in_err-reader.ensures.1 in
     read_all (λ builds sources. run_before c.args.name.now c.args.budget _ _ _ _ _ _ _ _ _ _ c.in_ok-content.ensures.cause.only c.in_ok-content.ensures.kept (ap status_of is)
     (memory_run c.args.name.now c.in_ok-content.content.items c.args.budget _ _ _ _ _ _ _ _ c.in_ok-content.ensures.found))
 
 pub returns-in_err-reader-clause-fits : goal.returns-in_err-reader-clause-fits
 returns-in_err-reader-clause-fits g c =
-    let p = err_from_is_err_and c.from_residual-in_err-reader.result c.from_residual-in_err-reader.ensures.1 in
-    let is : c.from_residual-in_err-reader.result ≡ Err Memory = rw (p.1, p.2) refl in
+    let is = raised c.from_residual-in_err-reader.result Memory c.from_residual-in_err-reader.ensures.1 in
     λ content has. rw is (memory_fits content)
 
 pub returns-in_err-world-clause-run : goal.returns-in_err-world-clause-run
 returns-in_err-world-clause-run g c =
-    let p = err_from_is_err_and c.from_residual-in_err-world.result c.from_residual-in_err-world.ensures.1 in
-    let is : c.from_residual-in_err-world.result ≡ Err Memory = rw (p.1, p.2) refl in
+    let is = raised c.from_residual-in_err-world.result Memory c.from_residual-in_err-world.ensures.1 in
     read_all (λ builds sources. run_before c.args.name.now c.args.budget _ _ _ _ _ _ _ _ _ _ c.in_ok-content.ensures.cause.only c.in_ok-content.ensures.kept (ap status_of is)
     (memory_run c.args.name.now c.in_ok-content.content.items c.args.budget _ _ _ _ _ _ _ _ c.in_ok-content.ensures.found))
 
 pub returns-in_err-world-clause-fits : goal.returns-in_err-world-clause-fits
 returns-in_err-world-clause-fits g c =
-    let p = err_from_is_err_and c.from_residual-in_err-world.result c.from_residual-in_err-world.ensures.1 in
-    let is : c.from_residual-in_err-world.result ≡ Err Memory = rw (p.1, p.2) refl in
+    let is = raised c.from_residual-in_err-world.result Memory c.from_residual-in_err-world.ensures.1 in
     λ content has. rw is (memory_fits content)
 
 pub returns-in_err-close-clause-run : goal.returns-in_err-close-clause-run
 returns-in_err-close-clause-run g c =
-    let p = err_from_is_err_and c.from_residual-in_err-close.result c.from_residual-in_err-close.ensures.1 in
-    let is : c.from_residual-in_err-close.result ≡ Err (fault_of_feeding c.in_err-close.field-0.0) = rw (p.1, p.2) refl in
+    let is = raised c.from_residual-in_err-close.result (fault_of_feeding c.in_err-close.field-0.0) c.from_residual-in_err-close.ensures.1 in
     let prelude = c.in_ok-prelude.prelude in
     let code = c.in_ok-code.code in
     let own : IsCodeIn c.args.name.now c.in_ok-content.content.items code = subst (λ (s : List ℕ). IsCodeIn c.args.name.now s code) c.as_slice.ensures.value c.in_ok-code.ensures.code in
@@ -112,8 +107,7 @@ returns-clause-run g c =
 
 pub returns-in_err-close-clause-fits : goal.returns-in_err-close-clause-fits
 returns-in_err-close-clause-fits g c =
-    let p = err_from_is_err_and c.from_residual-in_err-close.result c.from_residual-in_err-close.ensures.1 in
-    let is : c.from_residual-in_err-close.result ≡ Err (fault_of_feeding c.in_err-close.field-0.0) = rw (p.1, p.2) refl in
+    let is = raised c.from_residual-in_err-close.result (fault_of_feeding c.in_err-close.field-0.0) c.from_residual-in_err-close.ensures.1 in
     λ content has. rw is (feeding_fits content c.in_err-close.field-0.0)
 
 pub returns-clause-fits : goal.returns-clause-fits
@@ -137,21 +131,14 @@ returns-in_err-code-clause-limits g c =
     rw is (code_limits (g.S.Source.left c.args.input.now) c.as_slice.result.now c.in_err-code.field-0.0 c.in_err-code.ensures.refused)
 
 pub returns-in_err-reader-clause-limits : goal.returns-in_err-reader-clause-limits
-returns-in_err-reader-clause-limits g c =
-    let p = err_from_is_err_and c.from_residual-in_err-reader.result c.from_residual-in_err-reader.ensures.1 in
-    let is : c.from_residual-in_err-reader.result ≡ Err Memory = rw (p.1, p.2) refl in
-    rw is tt
+returns-in_err-reader-clause-limits g c = rw (raised c.from_residual-in_err-reader.result Memory c.from_residual-in_err-reader.ensures.1) tt
 
 pub returns-in_err-world-clause-limits : goal.returns-in_err-world-clause-limits
-returns-in_err-world-clause-limits g c =
-    let p = err_from_is_err_and c.from_residual-in_err-world.result c.from_residual-in_err-world.ensures.1 in
-    let is : c.from_residual-in_err-world.result ≡ Err Memory = rw (p.1, p.2) refl in
-    rw is tt
+returns-in_err-world-clause-limits g c = rw (raised c.from_residual-in_err-world.result Memory c.from_residual-in_err-world.ensures.1) tt
 
 pub returns-in_err-close-clause-limits : goal.returns-in_err-close-clause-limits
 returns-in_err-close-clause-limits g c =
-    let p = err_from_is_err_and c.from_residual-in_err-close.result c.from_residual-in_err-close.ensures.1 in
-    let is : c.from_residual-in_err-close.result ≡ Err (fault_of_feeding c.in_err-close.field-0.0) = rw (p.1, p.2) refl in
+    let is = raised c.from_residual-in_err-close.result (fault_of_feeding c.in_err-close.field-0.0) c.from_residual-in_err-close.ensures.1 in
     let left = g.S.Source.left c.args.input.now in
     rw is (feeding_limits left c.in_err-close.field-0.0
     (λ past. one_past c.in_ok-reader.reader _ left (g.K.Sink.written c.args.out.now) (g.K.Sink.written c.feed.new.out) c.in_ok-reader.ensures (read_some (c.in_err-close.ensures.limit past)).2))

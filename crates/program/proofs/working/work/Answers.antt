@@ -1,6 +1,6 @@
-use Rattle.std.proofs.Common.{rules, arith, ◌≡◌, ◌∙◌, ◌++◌, List, ℕ, Err, [], Some, refl, ap, subst}
+use Rattle.std.proofs.Common.{rules, arith, ◌≡◌, ◌∙◌, ◌++◌, List, ℕ, Err, [], Some, ap, subst}
 use Rattle.std.specs.Prelude.{codes, decimal, length, true}
-use Rattle.std.proofs.lemmas.Result.{err_from_is_err_and, IfErr-weaker}
+use Rattle.std.proofs.lemmas.Result.{IfErr-weaker}
 use Rattle.machine_core.specs.World.{World}
 use Rattle.loaded_code.specs.Laws.{library}
 use Rattle.source_builds.proofs.Knowing.{read_all, read_both, read_map}
@@ -17,9 +17,10 @@ use Rattle.work_script.specs.Script.{work_script}
 use Rattle.program.specs.declared.fault.Fault.TheVariants.{Memory, Spent}
 use Rattle.program.specs.Faults.{fault_of_prelude, fault_of_text, fault_of_feeding, status_of}
 use Rattle.program.specs.Report.{ScriptFits}
-use Rattle.program.specs.Working.{IsWork, line_of_work}
+use Rattle.program.specs.Working.{line_of_work}
 use Rattle.program.proofs.Limited.{when_limited}
 use Rattle.program.proofs.WorkLemmas.{no_prelude_work, memory_work, refused_work, refused_fits, prelude_fits, feeding_fits, cut_work, done_work, failed_work}
+use Rattle.program.proofs.Raised.{raised}
 use Rattle.program.proofs.working.work.Goals as goal
 
 pub returns-in_err-prelude-clause-work : goal.returns-in_err-prelude-clause-work
@@ -29,8 +30,7 @@ returns-in_err-prelude-clause-work g c =
 
 pub returns-in_err-script-clause-work : goal.returns-in_err-script-clause-work
 returns-in_err-script-clause-work g c =
-    let p = err_from_is_err_and c.from_residual-in_err-script.result c.from_residual-in_err-script.ensures.1 in
-    let is : c.from_residual-in_err-script.result ≡ Err Memory = rw (p.1, p.2) refl in
+    let is = raised c.from_residual-in_err-script.result Memory c.from_residual-in_err-script.ensures.1 in
     read_all (λ builds sources. rw (ap status_of is) (memory_work c.args.count _ _ _))
 
 pub returns-in_err-code-clause-work : goal.returns-in_err-code-clause-work
@@ -47,26 +47,22 @@ returns-in_err-code-clause-fits g c =
 
 pub returns-in_err-line-clause-work : goal.returns-in_err-line-clause-work
 returns-in_err-line-clause-work g c =
-    let p = err_from_is_err_and c.from_residual-in_err-line.result c.from_residual-in_err-line.ensures.1 in
-    let is : c.from_residual-in_err-line.result ≡ Err Memory = rw (p.1, p.2) refl in
+    let is = raised c.from_residual-in_err-line.result Memory c.from_residual-in_err-line.ensures.1 in
     read_all (λ builds sources. rw (ap status_of is) (memory_work c.args.count _ _ _))
 
 pub returns-in_err-reader-clause-work : goal.returns-in_err-reader-clause-work
 returns-in_err-reader-clause-work g c =
-    let p = err_from_is_err_and c.from_residual-in_err-reader.result c.from_residual-in_err-reader.ensures.1 in
-    let is : c.from_residual-in_err-reader.result ≡ Err Memory = rw (p.1, p.2) refl in
+    let is = raised c.from_residual-in_err-reader.result Memory c.from_residual-in_err-reader.ensures.1 in
     read_all (λ builds sources. rw (ap status_of is) (memory_work c.args.count _ _ _))
 
 pub returns-in_err-world-clause-work : goal.returns-in_err-world-clause-work
 returns-in_err-world-clause-work g c =
-    let p = err_from_is_err_and c.from_residual-in_err-world.result c.from_residual-in_err-world.ensures.1 in
-    let is : c.from_residual-in_err-world.result ≡ Err Memory = rw (p.1, p.2) refl in
+    let is = raised c.from_residual-in_err-world.result Memory c.from_residual-in_err-world.ensures.1 in
     read_all (λ builds sources. rw (ap status_of is) (memory_work c.args.count _ _ _))
 
 pub returns-in_err-close-clause-work : goal.returns-in_err-close-clause-work
 returns-in_err-close-clause-work g c =
-    let p = err_from_is_err_and c.from_residual-in_err-close.result c.from_residual-in_err-close.ensures.1 in
-    let is : c.from_residual-in_err-close.result ≡ Err (fault_of_feeding c.in_err-close.field-0.0) = rw (p.1, p.2) refl in
+    let is = raised c.from_residual-in_err-close.result (fault_of_feeding c.in_err-close.field-0.0) c.from_residual-in_err-close.ensures.1 in
     let prelude = c.in_ok-prelude.prelude in
     let code = c.in_ok-code.code in
     let before = g.K.Sink.written c.args.out.now in
@@ -126,28 +122,16 @@ returns-clause-work g c =
     _ c.status_at.ensures.status c.in_ok-write_output.ensures.cause.only (subst (λ t. after ≡ option_map (λ b. b ++ t) between) line c.in_ok-write_output.ensures.written)) c.in_ok-close.ensures.fed
 
 pub returns-in_err-script-clause-fits : goal.returns-in_err-script-clause-fits
-returns-in_err-script-clause-fits g c =
-    let p = err_from_is_err_and c.from_residual-in_err-script.result c.from_residual-in_err-script.ensures.1 in
-    let is : c.from_residual-in_err-script.result ≡ Err Memory = rw (p.1, p.2) refl in
-    rw is tt
+returns-in_err-script-clause-fits g c = rw (raised c.from_residual-in_err-script.result Memory c.from_residual-in_err-script.ensures.1) tt
 
 pub returns-in_err-line-clause-fits : goal.returns-in_err-line-clause-fits
-returns-in_err-line-clause-fits g c =
-    let p = err_from_is_err_and c.from_residual-in_err-line.result c.from_residual-in_err-line.ensures.1 in
-    let is : c.from_residual-in_err-line.result ≡ Err Memory = rw (p.1, p.2) refl in
-    rw is tt
+returns-in_err-line-clause-fits g c = rw (raised c.from_residual-in_err-line.result Memory c.from_residual-in_err-line.ensures.1) tt
 
 pub returns-in_err-reader-clause-fits : goal.returns-in_err-reader-clause-fits
-returns-in_err-reader-clause-fits g c =
-    let p = err_from_is_err_and c.from_residual-in_err-reader.result c.from_residual-in_err-reader.ensures.1 in
-    let is : c.from_residual-in_err-reader.result ≡ Err Memory = rw (p.1, p.2) refl in
-    rw is tt
+returns-in_err-reader-clause-fits g c = rw (raised c.from_residual-in_err-reader.result Memory c.from_residual-in_err-reader.ensures.1) tt
 
 pub returns-in_err-world-clause-fits : goal.returns-in_err-world-clause-fits
-returns-in_err-world-clause-fits g c =
-    let p = err_from_is_err_and c.from_residual-in_err-world.result c.from_residual-in_err-world.ensures.1 in
-    let is : c.from_residual-in_err-world.result ≡ Err Memory = rw (p.1, p.2) refl in
-    rw is tt
+returns-in_err-world-clause-fits g c = rw (raised c.from_residual-in_err-world.result Memory c.from_residual-in_err-world.ensures.1) tt
 
 pub returns-in_err-prelude-clause-fits : goal.returns-in_err-prelude-clause-fits
 returns-in_err-prelude-clause-fits g c =
@@ -156,8 +140,7 @@ returns-in_err-prelude-clause-fits g c =
 
 pub returns-in_err-close-clause-fits : goal.returns-in_err-close-clause-fits
 returns-in_err-close-clause-fits g c =
-    let p = err_from_is_err_and c.from_residual-in_err-close.result c.from_residual-in_err-close.ensures.1 in
-    let is : c.from_residual-in_err-close.result ≡ Err (fault_of_feeding c.in_err-close.field-0.0) = rw (p.1, p.2) refl in
+    let is = raised c.from_residual-in_err-close.result (fault_of_feeding c.in_err-close.field-0.0) c.from_residual-in_err-close.ensures.1 in
     rw is (feeding_fits (work_script c.args.count) c.in_err-close.field-0.0)
 
 pub returns-in_err-write_output-clause-fits : goal.returns-in_err-write_output-clause-fits
