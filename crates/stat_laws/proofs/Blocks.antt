@@ -4,7 +4,7 @@ use Rattle.int_core.specs.Value.{Value}
 use Rattle.int_core.specs.Ask.{Captured}
 use Rattle.tree_core.specs.declared.name.Declared.{Declared}
 use Rattle.tree_core.specs.Tree.{Stats, EndStats, MoreStats, Stat, Empty, Local, LocalFunction, Label}
-use Rattle.tree_activation.specs.Work.{complete, run, leave_scope, Work, Pending, Passed, Point, End, falls_off, in_block, State}
+use Rattle.tree_activation.specs.Work.{complete, run, Work, Pending, Passed, Point, End, in_block, State}
 use Rattle.tree_activation.specs.Work as tree
 use Rattle.tree_activation.specs.Activation.{step}
 use Rattle.tree_activation.specs.Statements.{is_closed, executes}
@@ -159,6 +159,33 @@ module _ (S : Setting) (back : ℕ) where
       pub outer_low : outer ≤ t
       pub known : closing ≡ has_some closed
       pub ends : Ends n (levels_after ss t) (closeds_after ss t closed) (pc + stats_size S.code.own.constants (way S back) ss closing t j)
+
+    -- the first statement of a block, before which it has declared and passed nothing
+    pub begins_block :
+        (n hi : ℕ) (ss : Stats) (closing : Bool) (t j pc : ℕ) (named : List Named) (loops : Bool) (reach : Reach) → n ≤ S.bound
+        → HasAt S pc (stats_code S.code.own.constants (way S back) ss falls closing outer t j pc [] reach) → StatsArePlaced S ss falls closing t j [] named loops
+        → pc + stats_size S.code.own.constants (way S back) ss closing t j ≤ hi → hi < length S.code.own.code → Jumps S back n pc hi outer base named loops reach k
+        → AllBelow base outer → AllUnder S.hidden.integers outer → StatsAreNamed S.lines S.code (way S back) ss closing t j pc → outer ≤ t → closing ≡ has_some base
+        → Ends n (levels_after ss t) (closeds_after ss t base) (pc + stats_size S.code.own.constants (way S back) ss closing t j)
+        → Within n pc hi ss closing base t j pc [] [] [] named loops reach
+    begins_block n hi ss closing t j pc named loops reach fewer has placed to inside jumps base_under clear titles outer_low known ends = record {
+      fewer = fewer;
+      has = has;
+      placed = placed;
+      from = omega arith;
+      to = to;
+      inside = inside;
+      jumps = jumps;
+      passed = tt;
+      added = added_none outer base;
+      base_under = base_under;
+      clear = clear;
+      titles = titles;
+      under = below_higher outer t base outer_low base_under;
+      outer_low = outer_low;
+      known = known;
+      ends = ends;
+    }
 
     abbrev pub StatsLaw : Stats → Type 0
     StatsLaw ss =

@@ -32,7 +32,7 @@ use Rattle.exp_laws.proofs.Tests.{jump_step}
 use Rattle.tree_activation.specs.Activation.{step}
 use Rattle.stat_laws.proofs.Ways.{way}
 use Rattle.stat_laws.proofs.Closing.{AllBelow, NothingHeld, nothing_held, ends_goes}
-use Rattle.stat_laws.proofs.Standing.{NoneOpen, no_numbers, strong, numbers, AllFrom, from_lower, from_more, Parted, part, ascends_under, Standing, GoesOn, goes_fewer, goes_from, back_goes, lands_ahead, below_higher}
+use Rattle.stat_laws.proofs.Standing.{NoneOpen, no_numbers, strong, numbers, AllFrom, from_lower, from_more, Parted, part, ascends_under, Standing, GoesOn, goes_fewer, goes_from, back_goes, lands_ahead}
 use Rattle.stat_laws.proofs.Naming.{BlockIsNamed, ArmsAreNamed}
 use Rattle.tree_terms.specs.Labels.{Named}
 use Rattle.stat_laws.specs.Scoped.{ArmsArePlaced, StatsArePlaced, BlockIsPlaced}
@@ -40,7 +40,7 @@ use Rattle.stat_laws.proofs.Hiding.{low_there, rel_unscoped, rel_scoped, has_inn
 use Rattle.stat_laws.proofs.Scoping.{first_false, second_false, none_made, unmarked_after, stats_scoped}
 use Rattle.code_of.proofs.Sizes.{test_sized, past_sized, block_sized, arms_sized, stats_sized}
 use Rattle.stat_laws.proofs.Labels.{Jumps, jumps_within}
-use Rattle.stat_laws.proofs.Blocks.{has_some, no_some, Added, added_all, added_none, closeds_after, StatLaw, StatsLaw}
+use Rattle.stat_laws.proofs.Blocks.{has_some, no_some, Added, added_all, closeds_after, StatLaw, StatsLaw, begins_block}
 use Rattle.tree_terms.proofs.Levels.{levels_rise}
 
 module _ (S : Setting) where
@@ -93,30 +93,14 @@ module _ (S : Setting) where
         → (m : ℕ) → m ≤ n → (ps : List Pending) (env regs : List Value) (c : Captured) (opened : ℕ) → Standing S t closed ps env c regs → HeldBelow c.held outer
         → Agree S m (tree.at (run (point_of block outer)) (of_tree S ps env c) k) (before (of_code S ps pc regs opened) c)
 
-    pub below_level : (closed : List ℕ) (outer t : ℕ) → AllBelow closed outer → outer ≤ t → AllBelow closed t
-    below_level closed outer t h le = below_higher outer t closed le h
-
     -- a block that falls off its end
     pub falls_goes : (ss : Stats) (tokens line : ℕ) → ((outer : ℕ) (closed : List ℕ) (k : List Work) → StatsLaw (scoped S (may_hold ss) outer) back (falls_off line) true outer closed k (λ ss. refl) ss) → BlockLaw (Falls ss tokens line)
     falls_goes ss tokens line law n closing closed outer t j pc named loops reach k fewer has placed titles inside under clear outer_low plain jumps done m le ps env regs c opened st below =
-        (law outer closed k n pc (pc + block_size S.code.own.constants (way S back) (Falls ss tokens line) closing outer t j) closing closed t j pc [] [] [] named loops reach (record {
-          fewer = fewer;
-          has = has_inner S within pc code (has_front S pc code close has);
-          placed = placed_within;
-          from = omega arith;
-          to = omega arith;
-          inside = inside;
-          jumps = jumps_inner S within out back n pc (pc + block_size S.code.own.constants (way S back) (Falls ss tokens line) closing outer t j) outer closed named loops reach k jumps;
-          passed = tt;
-          added = added_none outer closed;
-          base_under = under;
-          clear = clear;
-          titles = titles;
-          under = below_level closed outer t under outer_low;
-          outer_low = outer_low;
-          known = plain;
-          ends = record { full = full; low = λ is labels. low labels };
-        })).0 m le ps env regs c opened (record { numbered = st.numbered; size = st.size; rel = rel_scoped S.hidden (may_hold ss) outer S.code.own.stack ps env c regs below st.rel })
+        (law outer closed k n pc (pc + block_size S.code.own.constants (way S back) (Falls ss tokens line) closing outer t j) closing closed t j pc [] [] [] named loops reach
+        (begins_block (scoped S (may_hold ss) outer) back (falls_off line) true outer closed k (λ ss. refl) n (pc + block_size S.code.own.constants (way S back) (Falls ss tokens line) closing outer t j) ss closing t j pc named loops reach fewer
+        (has_inner S within pc code (has_front S pc code close has)) placed_within (omega arith) inside
+        (jumps_inner S within out back n pc (pc + block_size S.code.own.constants (way S back) (Falls ss tokens line) closing outer t j) outer closed named loops reach k jumps) under clear titles outer_low plain
+        (record { full = full; low = λ is labels. low labels }))).0 m le ps env regs c opened (record { numbered = st.numbered; size = st.size; rel = rel_scoped S.hidden (may_hold ss) outer S.code.own.stack ps env c regs below st.rel })
       where
         within : Hidden
         within = with_scope S.hidden (may_hold ss) outer

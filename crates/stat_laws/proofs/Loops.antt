@@ -5,7 +5,7 @@ use Rattle.std.specs.Prelude.{nat_eq, nat_lt}
 use Rattle.int_core.specs.Value.{Value, known, nil, shape, holds}
 use Rattle.int_core.specs.Ask.{Captured}
 use Rattle.tree_core.specs.Tree.{Block, Falls, Stats, EndStats, Repeat, Exp}
-use Rattle.tree_activation.specs.Work.{complete, decide, evaluate, give, run, pay, leave_scope, Work, Pending, Passed, until, until_test, repeating, State}
+use Rattle.tree_activation.specs.Work.{complete, decide, evaluate, give, run, pay, leave_scope, Work, Pending, Passed, until, until_test, repeating}
 use Rattle.tree_activation.specs.Work as tree
 use Rattle.tree_activation.specs.Asking.{first, go}
 use Rattle.tree_activation.specs.Statements.{repeat_point}
@@ -32,7 +32,7 @@ use Rattle.stat_laws.proofs.Closing.{AllBelow, GoesLeft, NothingHeld, nothing_he
 use Rattle.stat_laws.proofs.Standing.{strong, numbers, Parted, part, ascends_under, Standing, GoesOn, goes_fewer, back_goes}
 use Rattle.code_of.proofs.Sizes.{test_sized, close_sized, stats_sized}
 use Rattle.stat_laws.proofs.Labels.{Jumps, jumps_within}
-use Rattle.stat_laws.proofs.Blocks.{Added, added_all, added_none, closeds_after, StatLaw, StatsLaw}
+use Rattle.stat_laws.proofs.Blocks.{Added, added_all, closeds_after, StatLaw, StatsLaw, begins_block}
 use Rattle.tree_terms.proofs.Levels.{levels_rise}
 use Rattle.stat_laws.proofs.Forms.{TestLaw, loop_jumps}
 use Rattle.stat_laws.proofs.Hiding.{low_there, rel_unscoped, rel_scoped, has_inner, jumps_inner}
@@ -217,21 +217,7 @@ module _ (S : Setting) (back : ℕ) where
 
       round : (m : ℕ) → ((l : ℕ) → l < m → Loop l) → Loop m
       round m loop le ps env regs c opened st =
-          (law t closed (w ∷ k) m pc (pc + li) closing closed t j pc [] [] [] named true around (record {
-            fewer = omega (arith, fewer, le);
-            has = has_inner S within pc inner at_inner;
-            placed = stats_scoped captures t false S ss false closing t j [] named true placed.0 (λ is. let none = none_here is in omega (arith, none));
-            from = omega arith;
-            to = omega arith;
-            inside = omega (arith, inside);
-            jumps = in_block m le;
-            passed = tt;
-            added = added_none t closed;
-            base_under = under;
-            clear = clear;
-            titles = titles;
-            under = under;
-            outer_low = omega arith;
-            known = plain;
-            ends = record { full = at_end m le loop; low = λ is. absurd (cc) };
-          })).0 m (omega arith) ps env regs c opened (record { numbered = st.numbered; size = st.size; rel = rel_scoped S.hidden captures t S.code.own.stack ps env c regs (subst (HeldBelow c.held) st.size st.rel.held) st.rel })
+          (law t closed (w ∷ k) m pc (pc + li) closing closed t j pc [] [] [] named true around
+          (begins_block T back (until last e) false t closed (w ∷ k) (λ ss. refl) m (pc + li) ss closing t j pc named true around (omega (arith, fewer, le)) (has_inner S within pc inner at_inner)
+          (stats_scoped captures t false S ss false closing t j [] named true placed.0 (λ is. let none = none_here is in omega (arith, none))) (omega arith) (omega (arith, inside)) (in_block m le) under clear titles
+          (omega arith) plain (record { full = at_end m le loop; low = λ is. absurd (cc) }))).0 m (omega arith) ps env regs c opened (record { numbered = st.numbered; size = st.size; rel = rel_scoped S.hidden captures t S.code.own.stack ps env c regs (subst (HeldBelow c.held) st.size st.rel.held) st.rel })

@@ -4,7 +4,7 @@ use Rattle.std.specs.Prelude.{nat_lt, ◌==◌}
 use Rattle.int_core.specs.Value.{Value}
 use Rattle.int_core.specs.Ask.{goes_on, Captured}
 use Rattle.tree_core.specs.Tree.{Block, Returns, Stats, EndStats, Repeat, Exp, Nil, True, False, Int, Str, Vararg, Function, Var, Index, Call, Method, Unary, Binary, And, Or, Paren, Table, Exps, EndExps, MoreExps, MoreStats}
-use Rattle.tree_activation.specs.Work.{complete, collect, evaluate, callee_of, method_of, for_return, finish, leave_scope, run, repeating, Work, Pending, Passed, returns_list, Activation, State}
+use Rattle.tree_activation.specs.Work.{collect, evaluate, callee_of, method_of, for_return, run, repeating, Work, Pending, Passed, returns_list, State}
 use Rattle.tree_activation.specs.Work as tree
 use Rattle.tree_activation.specs.Activation.{step}
 use Rattle.tree_activation.specs.Statements.{repeat_point, begins_return}
@@ -43,8 +43,8 @@ use Rattle.stat_laws.specs.Scoped.{ListIsPlaced, LastIsPlaced, ReturnIsPlaced}
 use Rattle.code_of.proofs.Operands.{lone_is}
 use Rattle.code_of.proofs.Sizes.{stats_sized}
 use Rattle.stat_laws.proofs.Labels.{closed_after, Jumps}
-use Rattle.stat_laws.proofs.Blocks.{has_some, no_some, closeds_after, known_after, added_none, StatLaw, StatsLaw}
-use Rattle.stat_laws.proofs.Forms.{BlockLaw, below_level, loop_jumps}
+use Rattle.stat_laws.proofs.Blocks.{has_some, no_some, closeds_after, known_after, StatLaw, StatsLaw, begins_block}
+use Rattle.stat_laws.proofs.Forms.{BlockLaw, loop_jumps}
 use Rattle.exp_laws.proofs.Returns.{return_list_same, return_local_same}
 
 -- behind some statements
@@ -327,24 +327,11 @@ module _ (S : Setting) where
     -- a block that ends by `return`
     pub returns_goes : (ss : Stats) (es : Exps) (tokens line : ℕ) → ((outer : ℕ) (closed : List ℕ) (k : List Work) → StatsLaw S back (returns_list line es) false outer closed k (λ ss. refl) ss) → BlockLaw S back (Returns ss es tokens line)
     returns_goes ss es tokens line law n closing closed outer t j pc named loops reach k fewer has placed titles inside under clear outer_low plain jumps done m le ps env regs c opened st below =
-        (law outer closed k n pc (pc + block_size S.code.own.constants (way S back) (Returns ss es tokens line) closing outer t j) closing closed t j pc [] [] [] named loops reach (record {
-          fewer = fewer;
-          has = has_front S pc (stats_code S.code.own.constants (way S back) ss false closing outer t j pc [] reach) (return_code S.code.own.constants (closings_after ss closing) es (levels_after ss t) (j + made_in_stats ss) line back) has;
-          placed = placed.0;
-          from = omega arith;
-          to = omega arith;
-          inside = inside;
-          jumps = jumps;
-          passed = tt;
-          added = added_none outer closed;
-          base_under = under;
-          clear = clear;
-          titles = titles;
-          under = below_level S back closed outer t under outer_low;
-          outer_low = outer_low;
-          known = plain;
-          ends = record { full = return_ends ss es line n closing closed outer t j pc reach k fewer has placed.1 (omega (arith, inside)) plain; low = λ is. absurd (cc) };
-        })).0 m le ps env regs c opened st
+        (law outer closed k n pc (pc + block_size S.code.own.constants (way S back) (Returns ss es tokens line) closing outer t j) closing closed t j pc [] [] [] named loops reach
+        (begins_block S back (returns_list line es) false outer closed k (λ ss. refl) n (pc + block_size S.code.own.constants (way S back) (Returns ss es tokens line) closing outer t j) ss closing t j pc named loops reach fewer
+        (has_front S pc (stats_code S.code.own.constants (way S back) ss false closing outer t j pc [] reach) (return_code S.code.own.constants (closings_after ss closing) es (levels_after ss t) (j + made_in_stats ss) line back) has)
+        placed.0 (omega arith) inside jumps under clear titles outer_low plain
+        (record { full = return_ends ss es line n closing closed outer t j pc reach k fewer has placed.1 (omega (arith, inside)) plain; low = λ is. absurd (cc) }))).0 m le ps env regs c opened st
 
     -- a `repeat` whose block ends by `return`: its test is never reached
     pub repeat_returns_goes : (line : ℕ) (ss : Stats) (es : Exps) (tokens last : ℕ) (e : Exp) → ((outer : ℕ) (closed : List ℕ) (k : List Work) → StatsLaw S back (returns_list last es) false outer closed k (λ ss. refl) ss)
@@ -352,24 +339,10 @@ module _ (S : Setting) where
     repeat_returns_goes line ss es tokens last e law n closing closed t j pc named loops reach k fewer has placed titles inside under clear plain jumps done ps env regs c opened s st standing =
         go_left S n s (tree.at (run (repeat_point (Returns ss es tokens last) e (length env))) (of_tree S ps env c) (repeating line e (Returns ss es tokens last) (length env) ∷ k)) _ st
         (subst (λ u. Agree S n (tree.at (run (repeat_point (Returns ss es tokens last) e u)) (of_tree S ps env c) (repeating line e (Returns ss es tokens last) u ∷ k)) (before (of_code S ps pc regs opened) c)) (sym standing.size)
-        ((law t closed (w ∷ k) n pc (pc + size) closing closed t j pc [] [] [] named true around (record {
-          fewer = fewer;
-          has = has_front S pc code (return_code S.code.own.constants (closings_after ss closing) es (levels_after ss t) (j + made_in_stats ss) last back) at_open;
-          placed = placed.0.0;
-          from = omega arith;
-          to = omega arith;
-          inside = omega (arith, inside);
-          jumps = in_block;
-          passed = tt;
-          added = added_none t closed;
-          base_under = under;
-          clear = clear;
-          titles = titles;
-          under = under;
-          outer_low = omega arith;
-          known = plain;
-          ends = record { full = return_ends ss es last n closing closed t t j pc around (w ∷ k) fewer at_open placed.0.1 (omega (arith, inside)) plain; low = λ is. absurd (cc) };
-        })).0 n (omega arith) ps env regs c opened standing))
+        ((law t closed (w ∷ k) n pc (pc + size) closing closed t j pc [] [] [] named true around
+        (begins_block S back (returns_list last es) false t closed (w ∷ k) (λ ss. refl) n (pc + size) ss closing t j pc named true around fewer
+        (has_front S pc code (return_code S.code.own.constants (closings_after ss closing) es (levels_after ss t) (j + made_in_stats ss) last back) at_open) placed.0.0 (omega arith) (omega (arith, inside)) in_block under clear titles
+        (omega arith) plain (record { full = return_ends ss es last n closing closed t t j pc around (w ∷ k) fewer at_open placed.0.1 (omega (arith, inside)) plain; low = λ is. absurd (cc) }))).0 n (omega arith) ps env regs c opened standing))
       where
         block : Block
         block = Returns ss es tokens last

@@ -7,7 +7,7 @@ use Rattle.int_core.specs.Value.{Value, known, nil, nth, bind, fitted}
 use Rattle.int_core.proofs.ValueLemmas.{length_fitted}
 use Rattle.int_core.specs.Ask.{Captured}
 use Rattle.tree_core.specs.Tree.{Block, Falls, Returns, Body, BodyOf, EndStats}
-use Rattle.tree_activation.specs.Work.{complete, run, finish, leave_scope, end_of_body, Work, Pending, Passed, falls_off, returns_list, when_captured}
+use Rattle.tree_activation.specs.Work.{complete, run, leave_scope, end_of_body, Work, Pending, Passed, falls_off, returns_list}
 use Rattle.tree_activation.specs.Work as tree
 use Rattle.tree_activation.specs.Activation.{line_of_end}
 use Rattle.tree_activation.specs.Statements.{point_of}
@@ -41,7 +41,7 @@ use Rattle.stat_laws.proofs.Ways.{way}
 use Rattle.stat_laws.proofs.Standing.{strong}
 use Rattle.code_of.proofs.Sizes.{stats_sized}
 use Rattle.stat_laws.proofs.Labels.{Jumps}
-use Rattle.stat_laws.proofs.Blocks.{added_none}
+use Rattle.stat_laws.proofs.Blocks.{begins_block}
 use Rattle.stat_laws.proofs.Returns.{return_step, return_ends, return_some}
 use Rattle.stat_laws.proofs.Ending.{ends_alike}
 use Rattle.exp_laws.proofs.Returning.{returns_alike}
@@ -111,27 +111,12 @@ module _ (S : Setting) (back : ℕ) where
   block_runs : (inner : Block) (n params pc : ℕ) → n ≤ S.bound → HasAt S pc (whole_code S.code.own.constants (way S back) inner params pc) → pc + length (whole_code S.code.own.constants (way S back) inner params pc) ≤ length S.code.own.code
       → BlockFits S params inner → AllUnder S.hidden.integers 0 → BlockIsNamed S.lines S.code (way S back) inner false 0 params 0 pc → Runs inner n params pc
   block_runs (Falls ss tokens line) n params pc fewer has inside fits clear titles env regs opened size rel =
-      (stats_goes back S ss (falls_off line) true 0 [] (end_of_body line ∷ []) (λ more. refl) n pc (pc + length body) false [] params 0 pc [] [] [] [] false start_reach (record {
-        fewer = fewer;
-        has = has_front S pc body last has;
-        placed = fits.0;
-        from = omega arith;
-        to = omega (arith, sized);
-        inside = omega (arith, inside, sum);
-        jumps = no_jumps n pc (pc + length body) (end_of_body line ∷ []);
-        passed = tt;
-        added = added_none 0 [];
-        base_under = tt;
-        clear = clear;
-        titles = titles;
-        under = tt;
-        outer_low = omega arith;
-        known = refl;
-        ends = record {
-          full = λ labels m le ps env1 regs1 c1 opened1 st. end_goes n (levels_after ss params) line line (pc + size_of) labels refl at_last (omega (arith, fits.1, S.small)) m le ps env1 regs1 c1 opened1 (omega (arith, fits.1, st.rel.room)) st.rel;
-          low = λ is labels m le ps env1 regs1 c1 opened1 st. end_goes n (levels_after ss params) line line (pc + size_of) labels refl at_last (omega (arith, fits.1, S.small)) m le ps env1 regs1 c1 opened1 (omega (arith, fits.1, st.rel.room)) st.rel;
-        };
-      })).0 n (omega arith) [] env regs no_cells opened (record { numbered = refl; size = size; rel = rel })
+      (stats_goes back S ss (falls_off line) true 0 [] (end_of_body line ∷ []) (λ more. refl) n pc (pc + length body) false [] params 0 pc [] [] [] [] false start_reach
+      (begins_block S back (falls_off line) true 0 [] (end_of_body line ∷ []) (λ more. refl) n (pc + length body) ss false params 0 pc [] false start_reach fewer (has_front S pc body last has) fits.0 (omega (arith, sized))
+      (omega (arith, inside, sum)) (no_jumps n pc (pc + length body) (end_of_body line ∷ [])) tt clear titles (omega arith) refl (record {
+        full = λ labels m le ps env1 regs1 c1 opened1 st. end_goes n (levels_after ss params) line line (pc + size_of) labels refl at_last (omega (arith, fits.1, S.small)) m le ps env1 regs1 c1 opened1 (omega (arith, fits.1, st.rel.room)) st.rel;
+        low = λ is labels m le ps env1 regs1 c1 opened1 st. end_goes n (levels_after ss params) line line (pc + size_of) labels refl at_last (omega (arith, fits.1, S.small)) m le ps env1 regs1 c1 opened1 (omega (arith, fits.1, st.rel.room)) st.rel;
+      }))).0 n (omega arith) [] env regs no_cells opened (record { numbered = refl; size = size; rel = rel })
     where
       body : List Coded
       body = stats_code S.code.own.constants (way S back) ss true false 0 params 0 pc [] start_reach
@@ -151,27 +136,12 @@ module _ (S : Setting) (back : ℕ) where
       at_last : HasAt S (pc + size_of) last
       at_last = subst (λ q. HasAt S (pc + q) last) sized (has_back S pc body last has)
   block_runs (Returns ss es tokens line) n params pc fewer has inside fits clear titles env regs opened size rel =
-      (stats_goes back S ss (returns_list line es) false 0 [] (end_of_body line ∷ []) (λ more. refl) n pc (pc + length body) false [] params 0 pc [] [] [] [] false start_reach (record {
-        fewer = fewer;
-        has = has_front S pc body last has;
-        placed = fits.0;
-        from = omega arith;
-        to = omega (arith, sized);
-        inside = omega (arith, inside, sum, some);
-        jumps = no_jumps n pc (pc + length body) (end_of_body line ∷ []);
-        passed = tt;
-        added = added_none 0 [];
-        base_under = tt;
-        clear = clear;
-        titles = titles;
-        under = tt;
-        outer_low = omega arith;
-        known = refl;
-        ends = record {
-          full = return_ends S back ss es line n false [] 0 params 0 pc start_reach (end_of_body line ∷ []) fewer has fits.1 (omega (arith, inside, sum, sized)) refl;
-          low = λ is. absurd (cc);
-        };
-      })).0 n (omega arith) [] env regs no_cells opened (record { numbered = refl; size = size; rel = rel })
+      (stats_goes back S ss (returns_list line es) false 0 [] (end_of_body line ∷ []) (λ more. refl) n pc (pc + length body) false [] params 0 pc [] [] [] [] false start_reach
+      (begins_block S back (returns_list line es) false 0 [] (end_of_body line ∷ []) (λ more. refl) n (pc + length body) ss false params 0 pc [] false start_reach fewer (has_front S pc body last has) fits.0 (omega (arith, sized))
+      (omega (arith, inside, sum, some)) (no_jumps n pc (pc + length body) (end_of_body line ∷ [])) tt clear titles (omega arith) refl (record {
+        full = return_ends S back ss es line n false [] 0 params 0 pc start_reach (end_of_body line ∷ []) fewer has fits.1 (omega (arith, inside, sum, sized)) refl;
+        low = λ is. absurd (cc);
+      }))).0 n (omega arith) [] env regs no_cells opened (record { numbered = refl; size = size; rel = rel })
     where
       body : List Coded
       body = stats_code S.code.own.constants (way S back) ss false false 0 params 0 pc [] start_reach
