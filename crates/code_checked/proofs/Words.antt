@@ -1,7 +1,7 @@
 -- The words that code is made of, one by one.
 use Rattle.std.proofs.Common.{◌≡◌, ℕ, ◌<◌, ◌^◌, Bool, true, false, not, ◌&&◌, ◌==◌, List, [], ◌∷◌, Option, Some, None, length, slice_get, refl, ap, ◌∙◌, arith, lt-ltb}
 use Rattle.std.specs.Prelude.{nat_lt}
-use Rattle.std.specs.List.{list_any, list_all}
+use Rattle.std.specs.List.{list_all}
 use Rattle.code_core.specs.declared.opcode.Opcode.{Opcode}
 use Rattle.code_core.specs.declared.opcode.Opcode.TheVariants.{Move, LoadI, LoadFalse, LoadTrue, LoadNil, GetTable, GetI, Unm, BNot, Not, Len, Concat, Close, Tbc, Add, Sub, Mul, Mod, IDiv, BAnd, BOr, BXor, Shl, Shr, AddI, ShrI, Eq, Lt, Le, EqI, LtI, LeI, GtI, GeI, Test, TestSet, NewTable, TForCall, TForLoop, MmBin, MmBinI, ExtraArg, Jmp, GetUpval, SetUpval, GetTabUp, GetField, LoadK, SetI, SetField, SetTabUp, SetTable, OpSelf, ForPrep, ForLoop, TForPrep, LFalseSkip, LoadKx, SetList, EqK}
 use Rattle.code_core.specs.declared.instruction.Instruction.{Instruction}
@@ -302,35 +302,6 @@ module _ (p : Prototype) where
   pub simple_wide : {H : Type 0} {pc : ℕ} (op : Opcode) → IsSimple op → (a bx line : ℕ) → a < 2 ^ 8 → bx < 2 ^ 17 → Piece p H closed closed pc (with_abx op a bx line ∷ [])
   simple_wide {H} {pc} op s a bx line af bf = one p closed closed (abx op a bx) line (plain op s (abx op a bx) (opcode_of-abx op a bx) (abx_fits op a bx af bf))
 
-  abbrev pub pair : (op second : Opcode) → IsFirst op second → IsLast second → (w v : Instruction) → opcode_of w ≡ Some op → word_fits w ≡ true → opcode_of v ≡ Some second → word_fits v ≡ true → agrees w v second ≡ true → Couple p closed w v
-  pair op second s l w v is fits second_is second_fits agree = record {
-    opcode = op;
-    is = is;
-    whole = s.whole;
-    fits = fits;
-    alone = s.alone;
-    constant = list_none _ _ (s.constant w (extra_of p v));
-    upvalue = list_none _ _ (s.upvalue w);
-    inner = s.inner w;
-    still = λ pc. s.still pc w;
-    gives = s.gives w;
-    takes = s.takes w;
-    varargs = λ pc h. s.varargs pc ∙ h;
-    second = second;
-    half = s.half w;
-    agree = agree;
-    second_is = second_is;
-    second_whole = l.whole;
-    second_fits = second_fits;
-    second_constant = λ extra. list_none _ _ (l.constant v extra);
-    second_upvalue = list_none _ _ (l.upvalue v);
-    second_inner = l.inner v;
-    second_half_none = l.half v;
-    second_gives = l.gives v;
-    second_takes = l.takes v;
-    second_varargs = λ pc h. l.varargs pc ∙ h;
-  }
-
   -- a pair whose first half names constants that are there, or takes a list
   abbrev pub joined : (f : Seam) (op second : Opcode) → IsJoined op → IsLast second → (w v : Instruction) → opcode_of w ≡ Some op → word_fits w ≡ true
       → list_all (λ used. there (constant_is used.0) (slice_get p.own.constants used.1)) (constants op w (extra_of p v)) ≡ true → Takes p f op w → second_half op w ≡ Some second
@@ -362,3 +333,9 @@ module _ (p : Prototype) where
     second_takes = l.takes v;
     second_varargs = λ pc h. l.varargs pc ∙ h;
   }
+
+  -- a pair that names no constant and takes no list
+  abbrev pub pair : (op second : Opcode) → IsFirst op second → IsLast second → (w v : Instruction) → opcode_of w ≡ Some op → word_fits w ≡ true → opcode_of v ≡ Some second → word_fits v ≡ true → agrees w v second ≡ true → Couple p closed w v
+  pair op second s l w v is fits second_is second_fits agree =
+      joined closed op second (record { whole = s.whole; alone = s.alone; upvalue = s.upvalue; inner = s.inner; gives = s.gives; still = s.still; varargs = s.varargs }) l w v is fits
+      (list_none _ _ (s.constant w (extra_of p v))) (s.takes w) (s.half w) second_is second_fits agree

@@ -5,7 +5,7 @@ use Rattle.int_core.specs.Value.{Value, bind}
 use Rattle.int_core.specs.Ask.{CellName, of_local, of_upvalue, makes_function, values_in, Captured, Next, goes_on, stuck, cell_held}
 use Rattle.tree_core.specs.declared.name.UpName.{UpName}
 use Rattle.tree_core.specs.Tree.{Body}
-use Rattle.tree_activation.specs.Work.{Control, complete, capture, make, give, function_to, Work, Pending}
+use Rattle.tree_activation.specs.Work.{Control, capture, make, give, Work, Pending}
 use Rattle.tree_activation.specs.Work as tree
 use Rattle.tree_activation.specs.Activation.{step}
 use Rattle.tree_activation.specs.Asking.{captures_one, captures, captured_locals, cell_names}
@@ -96,6 +96,25 @@ module _ (S : Setting) (pending : List Pending) where
       one_still S pending n s r (makes_function body names) (makes_function q names) (line_of_body body) pc opened u env regs c k give_first (to_register t (read 0)) [] e d
       (λ m lt. (alike m lt, refl)) refl tt (λ reply fits. fits) rel here next
 
+  -- what is asked for the function, whose cells are there
+  pub asks_for : (t j pc opened : ℕ) (body : Body) (r : code.State) (regs : List Value) (c : Captured) (inner : Inner S j body)
+      → talk_step S.code r ≡ talk S.code (make_text t j) [] (of_code S pending pc regs opened) c
+      → talk_step S.code r ≡ elim (bind (cell_names (upvalues_of body) c.held) (λ names. Some (makes_function inner.prototype names))) as (λ _. Next Prototype code.State) [
+        | None ↦ stuck
+        | Some ask ↦ says_so ask S.code (of_code S pending pc regs opened) c (λ x b d. amid (to_register t (read 0)) ([] ++ values_in x.reply) b d)
+      ]
+  asks_for t j pc opened body r regs c inner d =
+      let q = inner.prototype in
+      d
+      ∙ ap (λ o. elim (bind {A = Prototype} o (λ r. bind (names_of r.own.upvalues c.held) (λ names. Some (makes_function r names)))) as (λ _. Next Prototype code.State) [
+        | None ↦ stuck
+        | Some ask ↦ says_so ask S.code (of_code S pending pc regs opened) c (λ x b d. amid (to_register t (read 0)) ([] ++ values_in x.reply) b d)
+      ]) inner.there
+      ∙ ap (λ o. elim (bind {A = List CellName} o (λ names. Some (makes_function q names))) as (λ _. Next Prototype code.State) [
+        | None ↦ stuck
+        | Some ask ↦ says_so ask S.code (of_code S pending pc regs opened) c (λ x b d. amid (to_register t (read 0)) ([] ++ values_in x.reply) b d)
+      ]) (ap (λ l. names_of l c.held) inner.upvalues ∙ names_same (upvalues_of body) c.held)
+
   -- cells and then the function, which is for register t
   pub closure_still : (n t j pc opened u : ℕ) (body : Body) (s : tree.State) (env regs : List Value) (c : Captured) (k : List Work) → s ≡ tree.at (capture (line_of_body body) (captured_locals (upvalues_of body)) (make body)) (of_tree S pending env c) k
       → HasAt S pc (with_abx Closure t j (line_of_body body) ∷ []) → n ≤ S.bound → Inner S j body → Captures S.hidden (upvalues_of body) (length env) → length env ≤ u → t < S.code.own.stack → Rel S.hidden S.code.own.stack pending env c regs
@@ -108,15 +127,7 @@ module _ (S : Setting) (pending : List Pending) where
       captures_goes ups n (line_of_body body) pc opened u s _ (make body) env regs [] c k (make_text t j) is
       (closure_step S.code q t j ups (of_code S pending pc regs opened) c has.0 inner.there inner.upvalues (omega (arith, room, S.small)) inner.near) ok le rel here
       (λ env1 regs1 c1 t1 af st d1. make_goes (cell_names ups c1.held) n t j pc opened u body q _ t1 env1 regs1 c1 k (λ m lt. inner.alike m (omega (arith, lt, bound))) refl
-      (d1
-      ∙ ap (λ o. elim (bind {A = Prototype} o (λ r. bind (names_of r.own.upvalues c1.held) (λ names. Some (makes_function r names)))) as (λ _. Next Prototype code.State) [
-        | None ↦ stuck
-        | Some ask ↦ says_so ask S.code (of_code S pending pc regs1 opened) c1 (λ x b d. amid (to_register t (read 0)) ([] ++ values_in x.reply) b d)
-      ]) inner.there
-      ∙ ap (λ o. elim (bind {A = List CellName} o (λ names. Some (makes_function q names))) as (λ _. Next Prototype code.State) [
-        | None ↦ stuck
-        | Some ask ↦ says_so ask S.code (of_code S pending pc regs1 opened) c1 (λ x b d. amid (to_register t (read 0)) ([] ++ values_in x.reply) b d)
-      ]) (ap (λ l. names_of l c1.held) inner.upvalues ∙ names_same ups c1.held))
+      (asks_for t j pc opened body t1 regs1 c1 inner d1)
       here af.rel
       (λ v env2 regs2 c2 af2 st2. next v env2 regs2 c2 (after_then S.hidden S.code.own.stack pending env regs env1 regs1 env2 regs2 c1 c2 u u (omega arith) af af2) (still_then env env1 env2 st st2)))
 

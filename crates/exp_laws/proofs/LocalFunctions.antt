@@ -20,7 +20,7 @@ use Rattle.lua_meaning.specs.World.{without_name}
 use Rattle.machine_core.specs.Text.{read, Text, open_cell}
 use Rattle.machine_core.specs.InstructionRows.{to_register, opens as opens_all}
 use Rattle.machine_core.specs.Talk as code
-use Rattle.machine_core.specs.Talk.{before, amid, talk, talk_step, says_so, names_of}
+use Rattle.machine_core.specs.Talk.{before, amid, talk, talk_step, says_so}
 use Rattle.code_of.specs.Coded.{with_abx}
 use Rattle.code_of.specs.CodeOf.{upvalue}
 use Rattle.code_of.specs.Parts.{captures_local, closure_code, function_code}
@@ -33,7 +33,7 @@ use Rattle.exp_laws.specs.Placed.{Captures, Inner}
 use Rattle.exp_laws.proofs.Going.{next_there, at_place}
 use Rattle.exp_laws.proofs.Steps.{to_register_step}
 use Rattle.exp_laws.proofs.Loads.{nil_step}
-use Rattle.exp_laws.proofs.FunctionForms.{names_same, make_text, closure_step, captures_in_scope, closure_goes}
+use Rattle.exp_laws.proofs.FunctionForms.{make_text, closure_step, captures_in_scope, closure_goes, asks_for}
 use Rattle.list_laws.proofs.Values.{length_write, nth_old}
 use Rattle.list_laws.proofs.Tests.{eq_refl, split}
 
@@ -206,15 +206,7 @@ module _ (S : Setting) (pending : List Pending) where
         captures_beside ups n (line_of_body body) pc opened u s _ (make body) env regs [] c k (make_text t j) is
         (closure_step S.code q t j ups (of_code S pending pc regs opened) c has.0 inner.there inner.upvalues (omega (arith, room, S.small)) inner.near) ok rel here
         (λ env1 regs1 c1 t1 af d1. make_beside (cell_names ups c1.held) n t j pc opened u body q _ t1 env1 regs1 c1 k (λ m lt. inner.alike m (omega (arith, lt, bound))) refl
-        (d1
-        ∙ ap (λ o. elim (bind {A = Prototype} o (λ r. bind (names_of r.own.upvalues c1.held) (λ names. Some (makes_function r names)))) as (λ _. Next Prototype code.State) [
-          | None ↦ stuck
-          | Some ask ↦ says_so ask S.code (of_code S pending pc regs1 opened) c1 (λ x b d. amid (to_register t (read 0)) ([] ++ values_in x.reply) b d)
-        ]) inner.there
-        ∙ ap (λ o. elim (bind {A = List CellName} o (λ names. Some (makes_function q names))) as (λ _. Next Prototype code.State) [
-          | None ↦ stuck
-          | Some ask ↦ says_so ask S.code (of_code S pending pc regs1 opened) c1 (λ x b d. amid (to_register t (read 0)) ([] ++ values_in x.reply) b d)
-        ]) (ap (λ l. names_of l c1.held) inner.upvalues ∙ names_same ups c1.held))
+        (asks_for S pending t j pc opened body t1 regs1 c1 inner d1)
         here af.rel
         (λ v env2 regs2 c2 af2. next v env2 regs2 c2 (after_then S.hidden S.code.own.stack pending env regs env1 regs1 env2 regs2 c1 c2 u u (omega arith) af af2)))
 

@@ -22,7 +22,7 @@ use Rattle.machine_core.specs.World.{for_value, for_truth, for_concat}
 use Rattle.machine_core.specs.Text.{read, written, go_by}
 use Rattle.machine_core.specs.InstructionRows.{fast, integer_of_shape, rest_at, to_register, told_values}
 use Rattle.machine_core.specs.Talk.{before, amid, talk, talk_step, says_so, heard}
-use Rattle.code_of.specs.Coded.{Coded, with_abc, jump_over}
+use Rattle.code_of.specs.Coded.{with_abc, jump_over}
 use Rattle.code_of.specs.Truths.{pick}
 use Rattle.code_of.specs.Operands.{joins, computes}
 use Rattle.code_of.specs.Operators.{prefix_opcode, prefix_code, operator_code, number_code, number_opcode, arithmetic_code, sum_code, truth_code}
@@ -266,6 +266,17 @@ module _ (S : Setting) (pending : List Pending) where
       (g.means line v (first ws) (of_tree S pending env c) k)
       (into_at S pending n many t f (pc + 2) (pc + length (operator_code op x y t line)) env regs k (omega (arith, size)) goes)
 
+  -- where the numeral m stands in one instruction beside the register x
+  summed_into : (op : BinOp) (d : Exp) (m : ℕ) (f : NumberForm op d m) (g : Sum op m) (n : ℕ) (many : Bool) (line x t free pc opened : ℕ) (v : Value) (env regs : List Value) (c : Captured) (k : List Work)
+      → HasAt S pc (number_code op x m t line) → pc + length (number_code op x m t line) < length S.code.own.code → t < S.code.own.stack → x < S.code.own.stack
+      → Rel S.hidden S.code.own.stack pending env c regs → nth regs x ≡ v → GoesInto S pending n many t free env regs (pc + length (number_code op x m t line)) k
+      → Agree S n (tree.at (give (known (integer (pos m)) ∷ [])) (of_tree S pending env c) (left_of line op v ∷ k)) (before (of_code S pending pc regs opened) c)
+  summed_into op d m f g n many line x t free pc opened v env regs c k has inside room x_room rel x_is goes =
+      let size = ap length (g.emits x t line) in
+      sum_into op m g n many line x t free pc opened v env regs c k _ (subst (HasAt S pc) (g.emits x t line) has) (omega (arith, inside, size)) room x_room f.numeral.small rel x_is
+      (g.means line v (known (integer (pos m))) (of_tree S pending env c) k)
+      (into_at S pending n many t free (pc + 2) (pc + length (number_code op x m t line)) env regs k (omega (arith, size)) goes)
+
   -- and between the value in the register x and the numeral m
   pub number_into : (op : BinOp) → IsArithmetic op → (d : Exp) (m : ℕ) (f : NumberForm op d m) (n : ℕ) (many : Bool) (line x t free pc opened : ℕ) (v : Value) (env regs : List Value) (c : Captured) (k : List Work)
       → HasAt S pc (number_code op x m t line) → pc + length (number_code op x m t line) < length S.code.own.code → t < S.code.own.stack → x < S.code.own.stack
@@ -273,15 +284,8 @@ module _ (S : Setting) (pending : List Pending) where
       → Agree S n (tree.at (give (known (integer (pos m)) ∷ [])) (of_tree S pending env c) (left_of line op v ∷ k)) (before (of_code S pending pc regs opened) c)
   number_into op is d m f n many line x t free pc opened v env regs c k has inside room x_room rel x_is goes = by f.form
     where
-      w : Value
-      w = known (integer (pos m))
-
-      by : Sum op m ⊎ Comparison op → Agree S n (tree.at (give (w ∷ [])) (of_tree S pending env c) (left_of line op v ∷ k)) (before (of_code S pending pc regs opened) c)
-      by (inl g) =
-          let size = ap length (g.emits x t line) in
-          sum_into op m g n many line x t free pc opened v env regs c k _ (subst (HasAt S pc) (g.emits x t line) has) (omega (arith, inside, size)) room x_room f.numeral.small rel x_is
-          (g.means line v w (of_tree S pending env c) k)
-          (into_at S pending n many t free (pc + 2) (pc + length (number_code op x m t line)) env regs k (omega (arith, size)) goes)
+      by : Sum op m ⊎ Comparison op → Agree S n (tree.at (give (known (integer (pos m)) ∷ [])) (of_tree S pending env c) (left_of line op v ∷ k)) (before (of_code S pending pc regs opened) c)
+      by (inl g) = summed_into op d m f g n many line x t free pc opened v env regs c k has inside room x_room rel x_is goes
       by (inr g) =
           let two = ap length ((arithmetic_by op is).emits 0 0 0 0) in
           let four = ap length (g.emits 0 0 0 0) in
@@ -335,10 +339,8 @@ module _ (S : Setting) (pending : List Pending) where
 
       by : Sum op m ⊎ Comparison op → Agree S n (tree.at (give (w ∷ [])) (of_tree S pending env c) (left_of line op v ∷ k)) (before (of_code S pending pc regs opened) c)
       by (inl g) =
-          let size = ap length (g.emits x t line) in
-          sum_into op m g n many line x t t pc opened v env regs c k _ (subst (HasAt S pc) (g.emits x t line) has) (omega (arith, inside, size)) room x_room f.numeral.small rel x_is
-          (g.means line v w (of_tree S pending env c) k)
-          (into_goes S pending n many t (pc + 2) env regs k le (goes_at S pending n many t (pc + 2) (pc + length (number_code op x m t line)) env regs k (omega (arith, size)) goes))
+          summed_into op d m f g n many line x t t pc opened v env regs c k has inside room x_room rel x_is
+          (into_goes S pending n many t (pc + length (number_code op x m t line)) env regs k le goes)
       by (inr g) =
           let size = ap length (g.emits_number x m t line) in
           let there = subst (HasAt S pc) (g.emits_number x m t line) has in

@@ -8,7 +8,7 @@ use Rattle.tree_core.specs.declared.operator.UnOp.TheVariants.{Neg, BitNot, Not 
 use Rattle.tree_core.specs.declared.operator.BinOp.{BinOp}
 use Rattle.tree_core.specs.declared.operator.BinOp.TheVariants.{Eq as Equal, Ne, Lt as Less, Le as AtMost, Gt, Ge}
 use Rattle.tree_core.specs.Tree.{Exp, True, Unary, Binary, And, Or, Paren}
-use Rattle.tree_activation.specs.Work.{give, evaluate, Work, Pending, operand_of, right_of, left_of, and_right, or_right, first_only}
+use Rattle.tree_activation.specs.Work.{give, evaluate, Work, Pending, operand_of, right_of, and_right, or_right, first_only}
 use Rattle.tree_activation.specs.Work as tree
 use Rattle.tree_activation.specs.Asking.{first}
 use Rattle.tree_activation.specs.Expressions.{truth_of}
@@ -307,14 +307,32 @@ module _ (S : Setting) (pending : List Pending) where
       (λ vs env1 regs1 c1 o1 af is. go_left S n _ (tree.at (give (first vs ∷ [])) (of_tree S pending env1 c1) w) _ (same_cond (holds (shape (first vs))) true _ _ (truth_not _ false is))
       (short k k (first vs) n t _ _ _ o1 env regs env1 regs1 c1 w (ap (λ b. same_truth b k) (truth_not _ false is)) (or_place k pc (length front) (length second) ahead (length (front ++ second)) whole) af on away)))
 
+  -- the code of a comparison: as a value, or by the instruction that compares
+  abbrev compared_other : (line : ℕ) (op : BinOp) (e d : Exp) (k : Bool) (ahead t j : ℕ) → List Coded
+  compared_other line op e d k ahead t j = value_test S.code.own.constants (Binary line op e d) k ahead t j
+
+  abbrev by_registers : (line : ℕ) (k : Bool) (ahead : ℕ) → Opcode → (swapped wanted : Bool) → (x y : ℕ) → List Coded
+  by_registers line k ahead opcode swapped wanted x y = jump_if opcode (pick swapped x y) (pick swapped y x) (cond wanted (not k) k) ahead line
+
+  abbrev by_constant : (line : ℕ) (k : Bool) (ahead : ℕ) → (wanted : Bool) → (x m : ℕ) → List Coded
+  by_constant line k ahead wanted x m = jump_if EqK x m (cond wanted (not k) k) ahead line
+
+  abbrev by_number : (line : ℕ) (op : BinOp) (k : Bool) (ahead : ℕ) → (wanted : Bool) → (x m : ℕ) → List Coded
+  by_number line op k ahead wanted x m = jump_if (number_opcode op) x (m + 127) (cond wanted (not k) k) ahead line
+
+  abbrev compared_by : (line : ℕ) (op : BinOp) (e d : Exp) (k : Bool) (ahead t j : ℕ) → Opcode → (swapped wanted : Bool) → List Coded
+  compared_by line op e d k ahead t j opcode swapped wanted =
+      operation_by (constant_in S.code.own.constants op d) op e d (exp_code S.code.own.constants e t j 2) (exp_code S.code.own.constants d (t + 1) (j + made_by e) 2) t
+      (by_constant line k ahead wanted) (by_registers line k ahead opcode swapped wanted) (by_number line op k ahead wanted)
+
   -- a comparison
   pub compared_truth : (line : ℕ) (op : BinOp) (e d : Exp) → Comparison op → ExpSame S pending e → ExpSame S pending d → TruthSame (Binary line op e d)
   compared_truth line op e d f law_e law_d k ahead t j n pc opened env regs c w bound has ok inside le room rel on away =
-      let is = f.tests other code_by in
+      let is = f.tests (compared_other line op e d k ahead t j) (compared_by line op e d k ahead t j) in
       let size = ap length is in
-      let end = pc + length (code_by f.opcode f.swapped f.wanted) in
+      let end = pc + length (compared_by line op e d k ahead t j f.opcode f.swapped f.wanted) in
       go_left S n _ (tree.at (evaluate e) (of_tree S pending env c) (right_of line op d ∷ w)) _ refl
-      (operation_same S pending line op e d (by_constant f.wanted) (by_registers f.opcode f.swapped f.wanted) (by_number f.wanted) n t end env regs w (cond (is_compared op) 0 1) j pc opened c
+      (operation_same S pending line op e d (by_constant line k ahead f.wanted) (by_registers line k ahead f.opcode f.swapped f.wanted) (by_number line op k ahead f.wanted) n t end env regs w (cond (is_compared op) 0 1) j pc opened c
       law_e law_d
       (room_some S.code.own.constants e) (room_some S.code.own.constants d) bound (subst (HasAt S pc) is has) ok.0 ok.1 refl (omega (arith, inside, size)) le room rel
       (λ x m place o1 v q env1 regs1 c1 af x_room x_is here ends. let z = known (constant q.value) in
@@ -335,47 +353,13 @@ module _ (S : Setting) (pending : List Pending) where
       (numbered_so S pending op f x m place o1 (cond f.wanted (not k) k) v env1 regs1 c1 here.0 x_room ((operator_stands op d).number m is).small af.rel x_is) (f.means line v z (of_tree S pending env1 c1) w)
       (truth_at n t _ _ env1 regs1 w k true (omega (arith, size, ends)) (truth_after n t _ env regs env1 regs1 c1 w k true af on))
       (truth_at n t _ _ env1 regs1 w k false (omega (arith, size, ends)) (truth_after n t _ env regs env1 regs1 c1 w k false af away))))
-    where
-      other : List Coded
-      other = value_test S.code.own.constants (Binary line op e d) k ahead t j
-
-      by_registers : Opcode → (swapped wanted : Bool) → (x y : ℕ) → List Coded
-      by_registers opcode swapped wanted x y = jump_if opcode (pick swapped x y) (pick swapped y x) (cond wanted (not k) k) ahead line
-
-      by_constant : (wanted : Bool) → (x m : ℕ) → List Coded
-      by_constant wanted x m = jump_if EqK x m (cond wanted (not k) k) ahead line
-
-      by_number : (wanted : Bool) → (x m : ℕ) → List Coded
-      by_number wanted x m = jump_if (number_opcode op) x (m + 127) (cond wanted (not k) k) ahead line
-
-      code_by : Opcode → (swapped wanted : Bool) → List Coded
-      code_by opcode swapped wanted =
-          operation_by (constant_in S.code.own.constants op d) op e d (exp_code S.code.own.constants e t j 2) (exp_code S.code.own.constants d (t + 1) (j + made_by e) 2) t
-          (by_constant wanted) (by_registers opcode swapped wanted) (by_number wanted)
 
   pub binary_tested : (line : ℕ) (op : BinOp) (e d : Exp) → ExpSame S pending (Binary line op e d) → ExpSame S pending e → ExpSame S pending d → TestSame (Binary line op e d)
   binary_tested line op e d value law_e law_d k ahead t j n pc opened env regs c w bound has ok inside le room rel on away = by (sort op)
     where
-      other : List Coded
-      other = value_test S.code.own.constants (Binary line op e d) k ahead t j
-
-      by_registers : Opcode → (swapped wanted : Bool) → (x y : ℕ) → List Coded
-      by_registers opcode swapped wanted x y = jump_if opcode (pick swapped x y) (pick swapped y x) (cond wanted (not k) k) ahead line
-
-      by_constant : (wanted : Bool) → (x m : ℕ) → List Coded
-      by_constant wanted x m = jump_if EqK x m (cond wanted (not k) k) ahead line
-
-      by_number : (wanted : Bool) → (x m : ℕ) → List Coded
-      by_number wanted x m = jump_if (number_opcode op) x (m + 127) (cond wanted (not k) k) ahead line
-
-      code_by : Opcode → (swapped wanted : Bool) → List Coded
-      code_by opcode swapped wanted =
-          operation_by (constant_in S.code.own.constants op d) op e d (exp_code S.code.own.constants e t j 2) (exp_code S.code.own.constants d (t + 1) (j + made_by e) 2) t
-          (by_constant wanted) (by_registers opcode swapped wanted) (by_number wanted)
-
       by : Comparison op ⊎ Other op → Agree S n (tree.at (evaluate (Binary line op e d)) (of_tree S pending env c) w) (before (of_code S pending pc regs opened) c)
       by (inr f) =
-          let is = f.tests other code_by in
+          let is = f.tests (compared_other line op e d k ahead t j) (compared_by line op e d k ahead t j) in
           let size = ap length is in
           let own : ◌≡◌ {A = ℕ} (cond (is_compared op) 0 1) 1 = ap (λ b. cond b 0 1) f.compares_not in
           by_value (Binary line op e d) value k ahead t j n pc opened env regs c w bound (subst (HasAt S pc) is has) ok (omega (arith, inside, size)) le

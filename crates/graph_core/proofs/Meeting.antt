@@ -33,21 +33,10 @@ object_same a b = go a.sort b.sort a.number b.number
   where
     go : (s t : Sort) (m n : ℕ) → object_eq (record { sort = s; number = m }) (record { sort = t; number = n }) ≡ same_part (part_of t n) (part_of s m)
     go Table Table m n = equal_turned m n
-    go Table Func m n = refl
-    go Table Cell m n = refl
-    go Table Coro m n = refl
-    go Func Table m n = refl
     go Func Func m n = equal_turned m n
-    go Func Cell m n = refl
-    go Func Coro m n = refl
-    go Cell Table m n = refl
-    go Cell Func m n = refl
     go Cell Cell m n = equal_turned m n
-    go Cell Coro m n = refl
-    go Coro Table m n = refl
-    go Coro Func m n = refl
-    go Coro Cell m n = refl
     go Coro Coro m n = equal_turned m n
+    go _ _ m n = refl
 
 pub met_any : (xs : List Object) (o : Object) → list_any (object_eq o) xs ≡ met same_part (map part xs) (part o)
 met_any [] o = refl

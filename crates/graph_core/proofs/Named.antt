@@ -26,21 +26,10 @@ read_same o p = go o.sort p.sort o.number p.number
   where
     go : (s t : PermanentSort) (m n : ℕ) → permanent_eq (record { sort = s; number = m }) (record { sort = t; number = n }) ≡ same (value_of t n) (value_of s m)
     go Primitive Primitive m n = equal_turned m n
-    go Primitive Table m n = refl
-    go Primitive Func m n = refl
-    go Primitive Coro m n = refl
-    go Table Primitive m n = refl
     go Table Table m n = equal_turned m n
-    go Table Func m n = refl
-    go Table Coro m n = refl
-    go Func Primitive m n = refl
-    go Func Table m n = refl
     go Func Func m n = equal_turned m n
-    go Func Coro m n = refl
-    go Coro Primitive m n = refl
-    go Coro Table m n = refl
-    go Coro Func m n = refl
     go Coro Coro m n = equal_turned m n
+    go _ _ m n = refl
 
 pub found : (es : List (Permanent × PermanentKey)) (o : Permanent) → option_map key_read (lookup (permanent_eq o) es) ≡ key_of (map permanent es) (object_read o)
 found [] o = refl
