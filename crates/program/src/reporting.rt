@@ -40,8 +40,7 @@ fn report_line<E: Sink>(err: &mut E, line: u32) -> Result<(), Failed>
     ensures written { OnOk result (E.written err.new ≡ option_map (λ text. text ++ line_of_fault (Fault.Refused line)) (E.written err.old)) }
     ensures front { OnErr result (GrowsByFront (line_of_fault (Fault.Refused line)) (E.written err.old) (E.written err.new)) }
 {
-    write_all(err, b"luaris: source refused at line ")?;
-    write_end(err, line)
+    write_numbered(err, b"luaris: source refused at line ", line)
 }
 
 /// Writes which static rule a source breaks.
@@ -62,8 +61,7 @@ fn report_kind<E: Sink>(err: &mut E, kind: u8) -> Result<(), Failed>
     ensures written { OnOk result (E.written err.new ≡ option_map (λ text. text ++ line_of_fault (Fault.NoChunk kind)) (E.written err.old)) }
     ensures front { OnErr result (GrowsByFront (line_of_fault (Fault.NoChunk kind)) (E.written err.old) (E.written err.new)) }
 {
-    write_all(err, b"luaris: chunk refused: kind ")?;
-    write_end(err, u32::from(kind))
+    write_numbered(err, b"luaris: chunk refused: kind ", u32::from(kind))
 }
 
 /// Writes which rule a chunk breaks.
@@ -86,8 +84,7 @@ fn report_image<E: Sink>(err: &mut E, kind: u8) -> Result<(), Failed>
     ensures written { OnOk result (E.written err.new ≡ option_map (λ text. text ++ line_of_fault (Fault.NoImage kind)) (E.written err.old)) }
     ensures front { OnErr result (GrowsByFront (line_of_fault (Fault.NoImage kind)) (E.written err.old) (E.written err.new)) }
 {
-    write_all(err, b"luaris: image refused: kind ")?;
-    write_end(err, u32::from(kind))
+    write_numbered(err, b"luaris: image refused: kind ", u32::from(kind))
 }
 
 /// Writes which permanent of an image is refused.
@@ -122,6 +119,16 @@ fn write_number<E: Sink>(err: &mut E, number: u32) -> Result<(), Failed>
     ensures front { OnErr result (GrowsByFront (decimal number) (E.written err.old) (E.written err.new)) }
 {
     write_all(err, Buffer::new().format(number).as_bytes())
+}
+
+/// Writes a line of a text and a number.
+fn write_numbered<E: Sink>(err: &mut E, text: &[u8], number: u32) -> Result<(), Failed>
+    ensures cause { HasCause (E.faults err.old) (E.faults err.new) (is_err result) }
+    ensures written { OnOk result (E.written err.new ≡ option_map (λ before. before ++ (text.now ++ (decimal number ++ codes "\n"))) (E.written err.old)) }
+    ensures front { OnErr result (GrowsByFront (text.now ++ (decimal number ++ codes "\n")) (E.written err.old) (E.written err.new)) }
+{
+    write_all(err, text)?;
+    write_end(err, number)
 }
 
 /// Writes a number and the end of the line.

@@ -1,20 +1,7 @@
-use Rattle.std.proofs.Common.{◌++◌}
-use Rattle.std.specs.Prelude.{codes, decimal}
-use Rattle.std.proofs.lemmas.Result.{on_err_weaker}
-use Rattle.lua_feed.proofs.Fed.{front_behind, front_more}
-use Rattle.program.proofs.ReportLemmas.{at_fault}
 use Rattle.program.proofs.reporting.report_line.Goals as goal
 
--- a front of the line, where a write fails
-
-pub returns-in_err-write_all-clause-front : goal.returns-in_err-write_all-clause-front
-returns-in_err-write_all-clause-front g c =
-    at_fault c.from_residual.result
-    (front_more (codes "luaris: source refused at line ") (decimal c.args.line ++ codes "\n") (g.E.Sink.written c.args.err.now) (g.E.Sink.written c.write_all.new.out) c.in_err-write_all.ensures.front)
+pub returns-clause-written : goal.returns-clause-written
+returns-clause-written g c = c.write_numbered.ensures.written
 
 pub returns-clause-front : goal.returns-clause-front
-returns-clause-front g c =
-    on_err_weaker c.write_end.result (λ last.
-    front_behind (codes "luaris: source refused at line ") (decimal c.args.line ++ codes "\n") (g.E.Sink.written c.args.err.now) (g.E.Sink.written c.write_all.new.out) (g.E.Sink.written c.write_end.new.err)
-    c.in_ok-write_all.ensures.written
-    last) c.write_end.ensures.front
+returns-clause-front g c = c.write_numbered.ensures.front
