@@ -11,6 +11,7 @@ use Rattle.code_core.specs.declared.proto.LocVar.{LocVar}
 use Rattle.code_core.specs.Instruction.{opcode_of}
 use Rattle.code_core.specs.Fields.{registers}
 use Rattle.code_core.specs.Prototype.{Parts, Prototype, Prototypes, none, more}
+use Rattle.code_core.specs.declared.proto.Const.{Const}
 use Rattle.code_of.specs.Coded.{Coded, words, lines, with_abc}
 use Rattle.code_of.specs.declared.leaving.Leaving.{Leaving}
 use Rattle.code_of.specs.Constants.{of_block}
@@ -90,24 +91,29 @@ variables_of (BodyOf params vararg inner ups line) =
 abbrev pub last_line_of : Block → (line : ℕ) → ℕ
 last_line_of inner line = cond (nat_eq line 0) 0 (line_of_end inner)
 
+-- of a body and of what is made of it: instructions with the line of each, constants and local variables
+abbrev pub parts_with : (source : Option (List ℕ)) → Body → (code : List Instruction) (code_lines : List ℕ) (constants : List Const) (locals : List LocVar) → Parts
+parts_with source (BodyOf params vararg inner ups line) code code_lines constants locals = record {
+  source = source;
+  line_defined = line;
+  last_line = last_line_of inner line;
+  params = length params;
+  vararg = vararg;
+  stack = room code (length params);
+  code = code;
+  constants = constants;
+  upvalues = map upvalue ups;
+  line_info = where_known source (changes line code_lines);
+  abs_lines = where_known source (far_lines 0 line code_lines);
+  locals = locals;
+  up_names = where_known source (map (λ u. Some u.text) ups);
+}
+
 abbrev pub parts_of : (source : Option (List ℕ)) → Body → Parts
 parts_of source (BodyOf params vararg inner ups line) =
-    let code = body_code (BodyOf params vararg inner ups line) in
-    record {
-      source = source;
-      line_defined = line;
-      last_line = last_line_of inner line;
-      params = length params;
-      vararg = vararg;
-      stack = room (words code) (length params);
-      code = words code;
-      constants = of_block inner [];
-      upvalues = map upvalue ups;
-      line_info = where_known source (changes line (lines code));
-      abs_lines = where_known source (far_lines 0 line (lines code));
-      locals = where_known source (variables_of (BodyOf params vararg inner ups line));
-      up_names = where_known source (map (λ u. Some u.text) ups);
-    }
+    let body = BodyOf params vararg inner ups line in
+    let code = body_code body in
+    parts_with source body (words code) (lines code) (of_block inner []) (where_known source (variables_of body))
 
 -- the functions that a piece of tree makes, in the order of the text, in front of those that follow
 module _ (source : Option (List ℕ)) where

@@ -1,32 +1,15 @@
 -- A function's prototype of its body and of what is written for it: code with lines, constants and local variables.
-use Rattle.std.specs.Prelude.{ℕ, List, length, map, Option, Some}
-use Rattle.tree_core.specs.Tree.{Body, BodyOf}
+use Rattle.std.specs.Prelude.{ℕ, List, map, Option}
+use Rattle.tree_core.specs.Tree.{Body}
 use Rattle.code_core.specs.declared.proto.Const.{Const}
 use Rattle.code_core.specs.declared.proto.LocVar.{LocVar}
 use Rattle.code_core.specs.Prototype.{Parts, Prototype, Prototypes, none, more}
-use Rattle.code_of.specs.CodeOf.{room, changes, far_lines, upvalue, where_known, last_line_of}
+use Rattle.code_of.specs.CodeOf.{parts_with}
 use Rattle.code_emitter.specs.Listing.{low}
 use Rattle.code_emitter.specs.declared.emitter.Step.{Step}
 
 abbrev pub assembled : (source : Option (List ℕ)) → Body → List Step → List Const → List LocVar → Parts
-assembled source (BodyOf params vararg inner ups line) steps constants locals =
-    let code = map (λ s. s.instruction) steps in
-    let lines = map (λ s. s.line) steps in
-    record {
-      source = source;
-      line_defined = line;
-      last_line = last_line_of inner line;
-      params = length params;
-      vararg = vararg;
-      stack = room code (length params);
-      code = code;
-      constants = constants;
-      upvalues = map upvalue ups;
-      line_info = where_known source (changes line lines);
-      abs_lines = where_known source (far_lines 0 line lines);
-      locals = locals;
-      up_names = where_known source (map (λ u. Some u.text) ups);
-    }
+assembled source body steps constants locals = parts_with source body (map (λ s. s.instruction) steps) (map (λ s. s.line) steps) constants locals
 
 -- prototypes with the low 32 bits of each word
 

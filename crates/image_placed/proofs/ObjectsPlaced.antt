@@ -1,16 +1,14 @@
 -- Objects that are placed one after another.
-use Rattle.std.proofs.Common.{◌≡◌, ℕ, zero, suc, ◌+◌, ◌≤◌, List, [], ◌∷◌, ◌++◌, Option, Some, None, map, length, refl, ap, sym, subst, ◌∙◌, append_assoc, arith}
+use Rattle.std.proofs.Common.{◌≡◌, ℕ, suc, ◌+◌, ◌≤◌, List, [], ◌∷◌, ◌++◌, Option, Some, None, map, length, refl, ap, sym, subst, ◌∙◌, append_assoc, arith, ◌<◌, get_or, take}
 use Rattle.std.specs.Prelude.{slice_get}
-use Rattle.std.specs.Option.{option_map}
+use Rattle.std.proofs.Math.Seq.{take-suc}
 use Rattle.code_core.specs.Prototype.{Prototype}
 use Rattle.object_pool.specs.Pool.{Pool}
-use Rattle.int_core.specs.Value.{a_coroutine}
-use Rattle.machine_core.specs.World.{Function, Cell as CellShown, open_at, closed, Coroutine}
+use Rattle.machine_core.specs.World.{Function, open_at, closed}
 use Rattle.list_laws.proofs.Items.{append_nil}
 use Rattle.image_core.specs.Image.{Item, Record, table_record, function_record, closed_record, open_record}
-use Rattle.image_core.specs.Loading.{Target, table_made, function_made, cell_made, coroutine_made, chosen, value_made, new_number}
+use Rattle.image_core.specs.Loading.{Target, table_made, function_made, cell_made, coroutine_made, chosen}
 use Rattle.table_core.specs.Table.{Contents}
-use Rattle.table_core.specs.declared.value.CellId.{CellId}
 use Rattle.table_core.specs.declared.value.CoroId.{CoroId}
 use Rattle.table_core.specs.declared.value.Value.{Value as Kept}
 use Rattle.lua_stack.specs.declared.frame.OpenCell.{OpenCell}
@@ -25,14 +23,12 @@ use Rattle.lua_heap.specs.Codes.{functions, prototype_at}
 use Rattle.lua_heap.specs.Plain.{table, function, cell, coroutine}
 use Rattle.lua_heap.proofs.Added.{begins_same, begins_more}
 use Rattle.image_made.specs.declared.making.Maker.{Maker}
-use Rattle.image_made.specs.declared.place.Place.{Place}
 use Rattle.image_made.specs.declared.place.Place.TheVariants.{Coro as CoroPlace}
 use Rattle.image_made.specs.declared.stack.Opening.{Opening}
 use Rattle.image_made.specs.Making.{IsMaker, Makes, MakesCells, MakesTable}
-use Rattle.image_made.specs.Stacks.{Lists, ListsIn, MakesCoroutine}
+use Rattle.image_made.specs.Stacks.{ListsIn, MakesCoroutine}
 use Rattle.image_placed.specs.declared.texts.Part.{Part}
-use Rattle.image_placed.specs.declared.texts.Part.TheVariants.{Function as FunctionPart, Other}
-use Rattle.image_placed.specs.Placing.{AddsObjects, AreMade, PlacesObjects, AreOpen, AreAll, AreListedBut, PlacesCoroutines, PlacesAll, part_read}
+use Rattle.image_placed.specs.Placing.{AddsObjects, PlacesObjects, AreOpen, AreAll, AreListedBut, PlacesCoroutines, PlacesAll, part_read}
 use Rattle.image_placed.proofs.ObjectsAdded.{objects_none, objects_then}
 use Rattle.image_placed.proofs.OpenListed.{stack_listed, none_listed, cells_listed, all_listed}
 use Rattle.image_placed.proofs.MoreAdded.{map_push}
@@ -305,3 +301,9 @@ adds_so_far maker made a b c g e = subst (AddsObjects a) (sym e) g.adds
 
 pub coroutine_adds_so_far : (maker : Maker) (made : List Record) (os : List Opening) (from to : ℕ) (a b c : Memory) → PlacesCoroutines maker made os from to a b → c ≡ b → AddsObjects a c
 coroutine_adds_so_far maker made os from to a b c g e = subst (AddsObjects a) (sym e) (coroutine_adds maker made os from to a b g)
+
+-- one item more is taken from a list
+pub taken_more : {A : Type 0} (xs : List A) (i : ℕ) (x : A) → i < length xs → x ≡ get_or xs i x → take (i + 1) xs ≡ take i xs ++ x ∷ []
+taken_more xs i x inside is =
+    let on : i + 1 ≡ suc i = omega arith in
+    ap (λ n. take n xs) on ∙ take-suc xs i x inside ∙ ap (λ y. take i xs ++ y ∷ []) (sym is)

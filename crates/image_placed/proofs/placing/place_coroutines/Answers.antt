@@ -1,10 +1,8 @@
-use Rattle.std.proofs.Common.{◌≡◌, ◌+◌, suc, ◌∷◌, [], ◌++◌, List, ℕ, map, take, rules, arith, ap, sym, subst, ◌∙◌}
-use Rattle.std.proofs.Math.Seq.{take-suc}
+use Rattle.std.proofs.Common.{◌+◌, map, take, rules, subst}
 use Rattle.lua_heap.specs.Codes.{functions}
-use Rattle.image_placed.specs.declared.texts.Part.{Part}
 use Rattle.image_placed.specs.Placing.{PlacesCoroutines, part_read}
 use Rattle.lua_heap.proofs.Added.{take_over}
-use Rattle.image_placed.proofs.ObjectsPlaced.{coroutines_none, coroutines_more, coroutine_adds}
+use Rattle.image_placed.proofs.ObjectsPlaced.{taken_more, coroutines_none, coroutines_more}
 use Rattle.image_placed.proofs.placing.place_coroutines.Goals as goal
 
 pub loop-part-init : goal.loop-part-init
@@ -12,12 +10,8 @@ loop-part-init c = coroutines_none c.args.maker.now c.args.world.now c.args.open
 
 pub loop-part-preserved : goal.loop-part-preserved
 loop-part-preserved c =
-    let i : ℕ = c.loop-part.part-index in
-    let ps : List Part = c.args.parts.now in
-    let on : i + 1 ≡ suc i = omega arith in
-    let taken : take (i + 1) ps ≡ take i ps ++ c.part-item.result ∷ [] =
-    ap (λ n. take n ps) on ∙ take-suc ps i c.part-item.result (search rules) ∙ ap (λ p. take i ps ++ p ∷ []) (sym c.part-item.is) in
-    coroutines_more c.args.maker.now c.args.world.now c.loop-part.world c.place_coroutine.new.world c.args.openings.now 0 c.loop-part.at c.in_ok-at.at (take i ps) (take (i + 1) ps) c.part-item.result
+    let taken = taken_more c.args.parts.now c.loop-part.part-index c.part-item.result (search rules) c.part-item.is in
+    coroutines_more c.args.maker.now c.args.world.now c.loop-part.world c.place_coroutine.new.world c.args.openings.now 0 c.loop-part.at c.in_ok-at.at (take c.loop-part.part-index c.args.parts.now) (take (c.loop-part.part-index + 1) c.args.parts.now) c.part-item.result
     c.loop-part.invariant c.in_ok-at.ensures.placed taken
 
 pub returns-clause-placed : goal.returns-clause-placed
