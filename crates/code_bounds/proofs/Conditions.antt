@@ -1,20 +1,19 @@
 -- The code of a condition is short, and takes the registers that are counted for it.
-use Rattle.std.proofs.Common.{◌≡◌, ℕ, ◌+◌, ◌*◌, ◌≤◌, max, Bool, true, false, cond, not, List, [], ◌∷◌, ◌++◌, length, Option, Some, None, refl, lit≤, arith, length-append}
+use Rattle.std.proofs.Common.{◌≡◌, ℕ, ◌+◌, ◌≤◌, max, Bool, true, false, cond, not, List, [], ◌∷◌, ◌++◌, length, Option, Some, None, refl, lit≤, arith}
 use Rattle.tree_core.specs.declared.operator.UnOp.{UnOp}
-use Rattle.tree_core.specs.declared.operator.UnOp.TheVariants.{Neg, BitNot, Not as Negation, Len as Length}
+use Rattle.tree_core.specs.declared.operator.UnOp.TheVariants.{Not as Negation}
 use Rattle.tree_core.specs.declared.operator.BinOp.{BinOp}
-use Rattle.tree_core.specs.declared.operator.BinOp.TheVariants.{Add as Plus, Sub as Minus, Mul as Times, Mod as Modulo, Idiv, Band, Bor, Bxor, Shl as ShiftLeft, Shr as ShiftRight, Concat as Join, Eq as Equal, Ne, Lt as Less, Le as AtMost, Gt, Ge}
-use Rattle.tree_core.specs.Tree.{Exp, Nil, True, False, Int, Str, Vararg, Function, Var, Index, Call, Method, Unary, Binary, And, Or, Paren, Table}
+use Rattle.tree_core.specs.declared.operator.BinOp.TheVariants.{Eq as Equal, Ne, Lt as Less, Le as AtMost, Gt, Ge}
+use Rattle.tree_core.specs.Tree.{Exp, True, Unary, Binary, And, Or, Paren}
 use Rattle.code_core.specs.declared.opcode.Opcode.{Opcode}
 use Rattle.code_core.specs.declared.opcode.Opcode.TheVariants.{Jmp, Test, Eq, Lt, Le, EqK, EqI, LtI, LeI, GtI, GeI}
 use Rattle.code_core.specs.declared.proto.Const.{Const}
 use Rattle.code_core.specs.Instruction.{abc}
 use Rattle.code_of.specs.Coded.{Coded, jump_over}
 use Rattle.code_of.specs.Expressions.{made_by, exp_code}
-use Rattle.code_of.specs.Truths.{jump_if, pick, compared, line_of}
+use Rattle.code_of.specs.Truths.{jump_if, line_of}
 use Rattle.code_of.specs.Conditions.{value_test, test_code}
 use Rattle.code_of.specs.Operands.{local_of, operand_code, Second, a_number, a_local, made, second_of, first_of, operands_code, operands_room, seat, unless}
-use Rattle.code_of.specs.Operators.{number_opcode}
 use Rattle.code_of.specs.FieldReads.{object_room}
 use Rattle.code_of.proofs.Operands.{second_local, first_local}
 use Rattle.code_of.specs.Operations.{constant_in, operation_by, operation_room}
@@ -63,9 +62,7 @@ module _ (cs : List Const) (hidden : List ℕ) (ups stack : ℕ) where
 
   not_room : (line : ℕ) (op : UnOp) (e : Exp) → Room e → Room (Unary line op e)
   not_room line Negation e h k ahead size t j known above few = h (not k) ahead size t j known above few
-  not_room line Neg e h k ahead size t j known above few = value_room (Unary line Neg e) k ahead size t j known above few
-  not_room line BitNot e h k ahead size t j known above few = value_room (Unary line BitNot e) k ahead size t j known above few
-  not_room line Length e h k ahead size t j known above few = value_room (Unary line Length e) k ahead size t j known above few
+  not_room line op e h k ahead size t j known above few = value_room (Unary line op e) k ahead size t j known above few
 
   -- a comparison, whose two ways to be written name no register but those of its operands
   module _ (line : ℕ) (op : BinOp) (e d : Exp) (by_constant by_registers by_number : (x y : ℕ) → List Coded) (size t j : ℕ) (known_e : ExpFinds e hidden size ups) (known_d : ExpFinds d hidden size ups) (above : size ≤ t)
@@ -146,17 +143,7 @@ module _ (cs : List Const) (hidden : List ℕ) (ups stack : ℕ) where
       (λ x y xf yf. turned_room Lt x y (not k) ahead line (one_ab Lt y x 0 (not k) refl (omega (arith, yf)) (omega (arith, xf))) xf yf) (λ x n xf. single_room GtI x n (not k) ahead line (one_a GtI x (n + 127) 0 (not k) refl (omega (arith, xf))) xf)
   binary_room line Ge e d k ahead size t j known above few = compare_room line Ge e d _ _ _ size t j known above few (λ x n xf. constant_room x n (not k) ahead line xf)
       (λ x y xf yf. turned_room Le x y (not k) ahead line (one_ab Le y x 0 (not k) refl (omega (arith, yf)) (omega (arith, xf))) xf yf) (λ x n xf. single_room GeI x n (not k) ahead line (one_a GeI x (n + 127) 0 (not k) refl (omega (arith, xf))) xf)
-  binary_room line Plus e d k ahead size t j known above few = value_room (Binary line Plus e d) k ahead size t j known above few
-  binary_room line Minus e d k ahead size t j known above few = value_room (Binary line Minus e d) k ahead size t j known above few
-  binary_room line Times e d k ahead size t j known above few = value_room (Binary line Times e d) k ahead size t j known above few
-  binary_room line Modulo e d k ahead size t j known above few = value_room (Binary line Modulo e d) k ahead size t j known above few
-  binary_room line Idiv e d k ahead size t j known above few = value_room (Binary line Idiv e d) k ahead size t j known above few
-  binary_room line Band e d k ahead size t j known above few = value_room (Binary line Band e d) k ahead size t j known above few
-  binary_room line Bor e d k ahead size t j known above few = value_room (Binary line Bor e d) k ahead size t j known above few
-  binary_room line Bxor e d k ahead size t j known above few = value_room (Binary line Bxor e d) k ahead size t j known above few
-  binary_room line ShiftLeft e d k ahead size t j known above few = value_room (Binary line ShiftLeft e d) k ahead size t j known above few
-  binary_room line ShiftRight e d k ahead size t j known above few = value_room (Binary line ShiftRight e d) k ahead size t j known above few
-  binary_room line Join e d k ahead size t j known above few = value_room (Binary line Join e d) k ahead size t j known above few
+  binary_room line op e d k ahead size t j known above few = value_room (Binary line op e d) k ahead size t j known above few
 
   true_room : (line : ℕ) → Room (True line)
   true_room line true ahead size t j known above few = room_as room_end (λ h. omega arith)
@@ -177,14 +164,4 @@ module _ (cs : List Const) (hidden : List ℕ) (ups stack : ℕ) where
       both_room e d (test_room e) (test_room d) false k (length (test_code cs d k ahead t (j + made_by e)) + cond k 0 ahead) ahead size t j known.0 known.1 above (omega (arith, few)) (omega (arith, few))
   test_room (Binary line op e d) k ahead size t j known above few = binary_room line op e d k ahead size t j known above few
   test_room (True line) k ahead size t j known above few = true_room line k ahead size t j known above few
-  test_room (Nil line) k ahead size t j known above few = value_room (Nil line) k ahead size t j known above few
-  test_room (False line) k ahead size t j known above few = value_room (False line) k ahead size t j known above few
-  test_room (Int line z) k ahead size t j known above few = value_room (Int line z) k ahead size t j known above few
-  test_room (Str line bytes) k ahead size t j known above few = value_room (Str line bytes) k ahead size t j known above few
-  test_room (Vararg line) k ahead size t j known above few = value_room (Vararg line) k ahead size t j known above few
-  test_room (Function line body) k ahead size t j known above few = value_room (Function line body) k ahead size t j known above few
-  test_room (Var line name) k ahead size t j known above few = value_room (Var line name) k ahead size t j known above few
-  test_room (Index line object key) k ahead size t j known above few = value_room (Index line object key) k ahead size t j known above few
-  test_room (Call line f es) k ahead size t j known above few = value_room (Call line f es) k ahead size t j known above few
-  test_room (Method line object name es) k ahead size t j known above few = value_room (Method line object name es) k ahead size t j known above few
-  test_room (Table line fs) k ahead size t j known above few = value_room (Table line fs) k ahead size t j known above few
+  test_room e k ahead size t j known above few = value_room e k ahead size t j known above few

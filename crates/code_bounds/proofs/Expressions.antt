@@ -3,9 +3,9 @@ use Rattle.std.proofs.Common.{◌≡◌, ℕ, zero, suc, ◌+◌, ◌-◌, ◌<�
 use Rattle.tree_core.specs.declared.name.Place.{Place}
 use Rattle.tree_core.specs.declared.name.Place.TheVariants.{Local as LocalPlace}
 use Rattle.tree_core.specs.declared.operator.UnOp.{UnOp}
-use Rattle.tree_core.specs.declared.operator.UnOp.TheVariants.{Neg, BitNot, Not as Negation, Len as Length}
+use Rattle.tree_core.specs.declared.operator.UnOp.TheVariants.{Not as Negation}
 use Rattle.tree_core.specs.declared.operator.BinOp.{BinOp}
-use Rattle.tree_core.specs.declared.operator.BinOp.TheVariants.{Add as Plus, Sub as Minus, Mul as Times, Mod as Modulo, Idiv, Band, Bor, Bxor, Shl as ShiftLeft, Shr as ShiftRight, Concat as Join, Eq as Equal, Ne, Lt as Less, Le as AtMost, Gt, Ge}
+use Rattle.tree_core.specs.declared.operator.BinOp.TheVariants.{Eq as Equal, Ne, Lt as Less, Le as AtMost, Gt, Ge}
 use Rattle.tree_core.specs.Tree.{Exp, Nil, True, False, Int, Str, Vararg, Function, Var, Index, Call, Method, Unary, Binary, And, Or, Paren, Table, Exps, EndExps, MoreExps, Fields, EndFields, MoreFields, Item, Keyed}
 use Rattle.tree_terms.specs.Bodies.{line_of_body}
 use Rattle.code_core.specs.declared.opcode.Opcode.TheVariants.{LoadFalse, LoadTrue, GetTable, GetI, GetField, NewTable, Concat, Closure, ExtraArg, Call as CallCode, Jmp, Test, TestSet, Eq, Lt, Le, EqK, EqI, LtI, LeI, GtI, GeI}
@@ -347,9 +347,7 @@ module _ (cs : List Const) where
 
     not_tests : (line : ℕ) (op : UnOp) (e : Exp) → ExpTakes (Unary line op e) → TestTakes e → TestTakes (Unary line op e)
     not_tests line Negation e value law k ahead size t j known in_scope small = law (not k) ahead size t j known in_scope small
-    not_tests line Neg e value law k ahead size t j known in_scope small = value_tests (Unary line Neg e) value k ahead size t j known in_scope small
-    not_tests line BitNot e value law k ahead size t j known in_scope small = value_tests (Unary line BitNot e) value k ahead size t j known in_scope small
-    not_tests line Length e value law k ahead size t j known in_scope small = value_tests (Unary line Length e) value k ahead size t j known in_scope small
+    not_tests line op e value law k ahead size t j known in_scope small = value_tests (Unary line op e) value k ahead size t j known in_scope small
 
     -- a comparison, whose ways to be written name no register but those of its operands
     compare_tests : (op : BinOp) (e d : Exp) (by_constant by_registers by_number : (x y : ℕ) → List Coded) → ExpTakes e → ExpTakes d → (size t j : ℕ) → ExpFinds e hidden size ups → ExpFinds d hidden size ups → size ≤ t
@@ -398,17 +396,7 @@ module _ (cs : List Const) where
         (λ x n xf. pair_top (abc EqK x n 0 (not k)) ahead line ∙ one_a EqK x n 0 (not k) refl xf)
         (λ x y xf yf. let o = pair_top (abc Le y x 0 (not k)) ahead line in let p = one_ab Le y x 0 (not k) refl yf xf in omega (arith, o, p))
         (λ x n xf. pair_top (abc GeI x (n + 127) 0 (not k)) ahead line ∙ one_a GeI x (n + 127) 0 (not k) refl xf) small
-    binary_tests line Plus e d value law_e law_d k ahead size t j known in_scope small = value_tests (Binary line Plus e d) value k ahead size t j known in_scope small
-    binary_tests line Minus e d value law_e law_d k ahead size t j known in_scope small = value_tests (Binary line Minus e d) value k ahead size t j known in_scope small
-    binary_tests line Times e d value law_e law_d k ahead size t j known in_scope small = value_tests (Binary line Times e d) value k ahead size t j known in_scope small
-    binary_tests line Modulo e d value law_e law_d k ahead size t j known in_scope small = value_tests (Binary line Modulo e d) value k ahead size t j known in_scope small
-    binary_tests line Idiv e d value law_e law_d k ahead size t j known in_scope small = value_tests (Binary line Idiv e d) value k ahead size t j known in_scope small
-    binary_tests line Band e d value law_e law_d k ahead size t j known in_scope small = value_tests (Binary line Band e d) value k ahead size t j known in_scope small
-    binary_tests line Bor e d value law_e law_d k ahead size t j known in_scope small = value_tests (Binary line Bor e d) value k ahead size t j known in_scope small
-    binary_tests line Bxor e d value law_e law_d k ahead size t j known in_scope small = value_tests (Binary line Bxor e d) value k ahead size t j known in_scope small
-    binary_tests line ShiftLeft e d value law_e law_d k ahead size t j known in_scope small = value_tests (Binary line ShiftLeft e d) value k ahead size t j known in_scope small
-    binary_tests line ShiftRight e d value law_e law_d k ahead size t j known in_scope small = value_tests (Binary line ShiftRight e d) value k ahead size t j known in_scope small
-    binary_tests line Join e d value law_e law_d k ahead size t j known in_scope small = value_tests (Binary line Join e d) value k ahead size t j known in_scope small
+    binary_tests line op e d value law_e law_d k ahead size t j known in_scope small = value_tests (Binary line op e d) value k ahead size t j known in_scope small
 
     true_tests : (line : ℕ) → TestTakes (True line)
     true_tests line true ahead size t j known in_scope small = (omega arith, omega arith)
@@ -461,9 +449,7 @@ module _ (cs : List Const) where
 
     unary_keeps : (line : ℕ) (op : UnOp) (e : Exp) → ExpTakes (Unary line op e) → TestTakes e → KeepTakes (Unary line op e)
     unary_keeps line Negation e value law k ahead size t j known in_scope small = truth_takes (Unary line Negation e) (not_tests line Negation e value law) k ahead size t j known in_scope small
-    unary_keeps line Neg e value law k ahead size t j known in_scope small = leaf_takes (Unary line Neg e) value k ahead size t j known in_scope small
-    unary_keeps line BitNot e value law k ahead size t j known in_scope small = leaf_takes (Unary line BitNot e) value k ahead size t j known in_scope small
-    unary_keeps line Length e value law k ahead size t j known in_scope small = leaf_takes (Unary line Length e) value k ahead size t j known in_scope small
+    unary_keeps line op e value law k ahead size t j known in_scope small = leaf_takes (Unary line op e) value k ahead size t j known in_scope small
 
     binary_keeps : (line : ℕ) (op : BinOp) (e d : Exp) → ExpTakes (Binary line op e d) → ExpTakes e → ExpTakes d → KeepTakes (Binary line op e d)
     binary_keeps line Equal e d value law_e law_d k ahead size t j known in_scope small = truth_takes (Binary line Equal e d) (binary_tests line Equal e d value law_e law_d) k ahead size t j known in_scope small
@@ -472,17 +458,7 @@ module _ (cs : List Const) where
     binary_keeps line AtMost e d value law_e law_d k ahead size t j known in_scope small = truth_takes (Binary line AtMost e d) (binary_tests line AtMost e d value law_e law_d) k ahead size t j known in_scope small
     binary_keeps line Gt e d value law_e law_d k ahead size t j known in_scope small = truth_takes (Binary line Gt e d) (binary_tests line Gt e d value law_e law_d) k ahead size t j known in_scope small
     binary_keeps line Ge e d value law_e law_d k ahead size t j known in_scope small = truth_takes (Binary line Ge e d) (binary_tests line Ge e d value law_e law_d) k ahead size t j known in_scope small
-    binary_keeps line Plus e d value law_e law_d k ahead size t j known in_scope small = leaf_takes (Binary line Plus e d) value k ahead size t j known in_scope small
-    binary_keeps line Minus e d value law_e law_d k ahead size t j known in_scope small = leaf_takes (Binary line Minus e d) value k ahead size t j known in_scope small
-    binary_keeps line Times e d value law_e law_d k ahead size t j known in_scope small = leaf_takes (Binary line Times e d) value k ahead size t j known in_scope small
-    binary_keeps line Modulo e d value law_e law_d k ahead size t j known in_scope small = leaf_takes (Binary line Modulo e d) value k ahead size t j known in_scope small
-    binary_keeps line Idiv e d value law_e law_d k ahead size t j known in_scope small = leaf_takes (Binary line Idiv e d) value k ahead size t j known in_scope small
-    binary_keeps line Band e d value law_e law_d k ahead size t j known in_scope small = leaf_takes (Binary line Band e d) value k ahead size t j known in_scope small
-    binary_keeps line Bor e d value law_e law_d k ahead size t j known in_scope small = leaf_takes (Binary line Bor e d) value k ahead size t j known in_scope small
-    binary_keeps line Bxor e d value law_e law_d k ahead size t j known in_scope small = leaf_takes (Binary line Bxor e d) value k ahead size t j known in_scope small
-    binary_keeps line ShiftLeft e d value law_e law_d k ahead size t j known in_scope small = leaf_takes (Binary line ShiftLeft e d) value k ahead size t j known in_scope small
-    binary_keeps line ShiftRight e d value law_e law_d k ahead size t j known in_scope small = leaf_takes (Binary line ShiftRight e d) value k ahead size t j known in_scope small
-    binary_keeps line Join e d value law_e law_d k ahead size t j known in_scope small = leaf_takes (Binary line Join e d) value k ahead size t j known in_scope small
+    binary_keeps line op e d value law_e law_d k ahead size t j known in_scope small = leaf_takes (Binary line op e d) value k ahead size t j known in_scope small
 
     and_keeps : (line : ℕ) (e d : Exp) → TestTakes e → KeepTakes e → KeepTakes d → KeepTakes (And line e d)
     and_keeps line e d test_e keep_e keep_d false ahead size t j known in_scope small =
@@ -573,36 +549,15 @@ module _ (cs : List Const) where
       test_takes (Or line e d) law = or_tests line e d (test_takes e (exp_takes e)) (test_takes d (exp_takes d))
       test_takes (Binary line op e d) law = binary_tests line op e d law (exp_takes e) (exp_takes d)
       test_takes (True line) law = true_tests line
-      test_takes (Nil line) law = value_tests (Nil line) law
-      test_takes (False line) law = value_tests (False line) law
-      test_takes (Int line z) law = value_tests (Int line z) law
-      test_takes (Str line bytes) law = value_tests (Str line bytes) law
-      test_takes (Vararg line) law = value_tests (Vararg line) law
-      test_takes (Function line body) law = value_tests (Function line body) law
-      test_takes (Var line name) law = value_tests (Var line name) law
-      test_takes (Index line object key) law = value_tests (Index line object key) law
-      test_takes (Call line f es) law = value_tests (Call line f es) law
-      test_takes (Method line object name es) law = value_tests (Method line object name es) law
-      test_takes (Table line fs) law = value_tests (Table line fs) law
+      test_takes e law = value_tests e law
 
       keep_takes : (e : Exp) → ExpTakes e → KeepTakes e
       keep_takes (Paren line e) law = keep_takes e (exp_takes e)
       keep_takes (And line e d) law = and_keeps line e d (test_takes e (exp_takes e)) (keep_takes e (exp_takes e)) (keep_takes d (exp_takes d))
       keep_takes (Or line e d) law = or_keeps line e d (test_takes e (exp_takes e)) (keep_takes e (exp_takes e)) (keep_takes d (exp_takes d))
-      keep_takes (Nil line) law = leaf_takes (Nil line) law
-      keep_takes (True line) law = leaf_takes (True line) law
-      keep_takes (False line) law = leaf_takes (False line) law
-      keep_takes (Int line z) law = leaf_takes (Int line z) law
-      keep_takes (Str line bytes) law = leaf_takes (Str line bytes) law
-      keep_takes (Vararg line) law = leaf_takes (Vararg line) law
-      keep_takes (Function line body) law = leaf_takes (Function line body) law
-      keep_takes (Var line name) law = leaf_takes (Var line name) law
-      keep_takes (Index line object key) law = leaf_takes (Index line object key) law
-      keep_takes (Call line f es) law = leaf_takes (Call line f es) law
-      keep_takes (Method line object name es) law = leaf_takes (Method line object name es) law
-      keep_takes (Table line fs) law = leaf_takes (Table line fs) law
       keep_takes (Unary line op e) law = unary_keeps line op e law (test_takes e (exp_takes e))
       keep_takes (Binary line op e d) law = binary_keeps line op e d law (exp_takes e) (exp_takes d)
+      keep_takes e law = leaf_takes e law
 
       pub exps_take : (es : Exps) → ExpsTake es
       exps_take EndExps wanted above t p size j line is known in_scope fits small = nils_take wanted above t p line is small

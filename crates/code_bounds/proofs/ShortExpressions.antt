@@ -1,11 +1,11 @@
 -- The code of an expression is short.
-use Rattle.std.proofs.Common.{◌≡◌, ℕ, zero, suc, ◌+◌, ◌*◌, ◌≤◌, ◌/◌, ◌%◌, ℤ, Bool, true, false, cond, List, [], ◌∷◌, ◌++◌, length, Some, None, arith, length-append}
+use Rattle.std.proofs.Common.{ℕ, zero, suc, ◌+◌, ◌*◌, ◌≤◌, ◌/◌, ◌%◌, ℤ, Bool, true, false, cond, List, [], ◌∷◌, ◌++◌, length, Some, None, arith, length-append}
 use Rattle.std.specs.Prelude.{nat_lt}
 use Rattle.tree_core.specs.declared.name.Place.{Place}
 use Rattle.tree_core.specs.declared.name.Place.TheVariants.{Unset, Upvalue, GlobalIn, GlobalOf, Local as LocalPlace}
 use Rattle.tree_core.specs.declared.operator.BinOp.{BinOp}
 use Rattle.tree_core.specs.declared.operator.BinOp.TheVariants.{Add as Plus}
-use Rattle.tree_core.specs.Tree.{Exp, Nil, True, False, Int, Str, Vararg, Var, Function, Index, Call, Method, Unary, Binary, And, Or, Paren, Table, BodyOf, Exps, EndExps, MoreExps, Fields, EndFields, MoreFields, Item, Keyed}
+use Rattle.tree_core.specs.Tree.{Exp, Nil, True, False, Int, Str, Var, Function, Index, Call, Method, Unary, Binary, And, Or, Paren, Table, BodyOf, Exps, EndExps, MoreExps, Fields, EndFields, MoreFields, Item, Keyed}
 use Rattle.code_core.specs.declared.opcode.Opcode.TheVariants.{GetTabUp, GetUpval, GetTable, OpSelf, LoadI, LoadK, LoadKx, ExtraArg, SetList, Call as CallCode, GetField}
 use Rattle.code_core.specs.declared.proto.Const.{Const}
 use Rattle.code_core.specs.declared.proto.Const.TheVariants.{Int as IntConst, Str as StrConst}
@@ -223,36 +223,15 @@ module _ (cs : List Const) where
     tested_short (Or line e d) law = or_short cs line e d (tested_short e (λ u i. exp_short e u i 2)) (tested_short d (λ u i. exp_short d u i 2))
     tested_short (Binary line op e d) law = binary_short cs line op e d law (λ u i. exp_short e u i 2) (λ u i. exp_short d u i 2)
     tested_short (True line) law = true_short cs line
-    tested_short (Nil line) law = value_short cs (Nil line) law
-    tested_short (False line) law = value_short cs (False line) law
-    tested_short (Int line n) law = value_short cs (Int line n) law
-    tested_short (Str line bytes) law = value_short cs (Str line bytes) law
-    tested_short (Vararg line) law = value_short cs (Vararg line) law
-    tested_short (Function line body) law = value_short cs (Function line body) law
-    tested_short (Var line name) law = value_short cs (Var line name) law
-    tested_short (Index line object key) law = value_short cs (Index line object key) law
-    tested_short (Call line f es) law = value_short cs (Call line f es) law
-    tested_short (Method line object name es) law = value_short cs (Method line object name es) law
-    tested_short (Table line fs) law = value_short cs (Table line fs) law
+    tested_short e law = value_short cs e law
 
     kept_short : (e : Exp) → ValueShort cs e → KeepShort cs e
     kept_short (Paren line e) law = paren_keeps cs line e (kept_short e (λ u i. exp_short e u i 2))
     kept_short (And line e d) law = and_keeps cs line e d (tested_short e (λ u i. exp_short e u i 2)) (kept_short e (λ u i. exp_short e u i 2)) (kept_short d (λ u i. exp_short d u i 2))
     kept_short (Or line e d) law = or_keeps cs line e d (tested_short e (λ u i. exp_short e u i 2)) (kept_short e (λ u i. exp_short e u i 2)) (kept_short d (λ u i. exp_short d u i 2))
-    kept_short (Nil line) law = leaf_short cs (Nil line) law
-    kept_short (True line) law = leaf_short cs (True line) law
-    kept_short (False line) law = leaf_short cs (False line) law
-    kept_short (Int line n) law = leaf_short cs (Int line n) law
-    kept_short (Str line bytes) law = leaf_short cs (Str line bytes) law
-    kept_short (Vararg line) law = leaf_short cs (Vararg line) law
-    kept_short (Function line body) law = leaf_short cs (Function line body) law
-    kept_short (Var line name) law = leaf_short cs (Var line name) law
-    kept_short (Index line object key) law = leaf_short cs (Index line object key) law
-    kept_short (Call line f es) law = leaf_short cs (Call line f es) law
-    kept_short (Method line object name es) law = leaf_short cs (Method line object name es) law
-    kept_short (Table line fs) law = leaf_short cs (Table line fs) law
     kept_short (Unary line op e) law = unary_keeps cs line op e law (tested_short e (λ u i. exp_short e u i 2))
     kept_short (Binary line op e d) law = binary_keeps cs line op e d law (λ u i. exp_short e u i 2) (λ u i. exp_short d u i 2)
+    kept_short e law = leaf_short cs e law
 
     pub arguments_short : (es : Exps) (t j line : ℕ) → length (exps_code cs es None t j line) + 2 ≤ 6 * weight_of_arguments es
     arguments_short EndExps t j line = omega arith

@@ -1,9 +1,9 @@
 -- The code of a condition, and of a first operand whose value is kept, is short where the code of the values is. The laws of the parts are given.
 use Rattle.std.proofs.Common.{◌≡◌, ℕ, ◌+◌, ◌*◌, ◌≤◌, Bool, true, false, cond, not, List, ◌++◌, length, refl, arith, length-append}
 use Rattle.tree_core.specs.declared.operator.UnOp.{UnOp}
-use Rattle.tree_core.specs.declared.operator.UnOp.TheVariants.{Neg, BitNot, Not as Negation, Len as Length}
+use Rattle.tree_core.specs.declared.operator.UnOp.TheVariants.{Not as Negation}
 use Rattle.tree_core.specs.declared.operator.BinOp.{BinOp}
-use Rattle.tree_core.specs.declared.operator.BinOp.TheVariants.{Add as Plus, Sub as Minus, Mul as Times, Mod as Modulo, Idiv, Band, Bor, Bxor, Shl as ShiftLeft, Shr as ShiftRight, Concat as Join, Eq as Equal, Ne, Lt as Less, Le as AtMost, Gt, Ge}
+use Rattle.tree_core.specs.declared.operator.BinOp.TheVariants.{Eq as Equal, Ne, Lt as Less, Le as AtMost, Gt, Ge}
 use Rattle.tree_core.specs.Tree.{Exp, True, Unary, Binary, And, Or, Paren}
 use Rattle.tree_terms.specs.Weight.{weight}
 use Rattle.code_core.specs.declared.opcode.Opcode.{Opcode}
@@ -33,9 +33,7 @@ module _ (cs : List Const) where
 
   pub not_short : (line : ℕ) (op : UnOp) (e : Exp) → ValueShort (Unary line op e) → Short e → Short (Unary line op e)
   not_short line Negation e value h k ahead t j = let a = h (not k) ahead t j in omega (arith, a)
-  not_short line Neg e value h k ahead t j = value_short (Unary line Neg e) value k ahead t j
-  not_short line BitNot e value h k ahead t j = value_short (Unary line BitNot e) value k ahead t j
-  not_short line Length e value h k ahead t j = value_short (Unary line Length e) value k ahead t j
+  not_short line op e value h k ahead t j = value_short (Unary line op e) value k ahead t j
 
   -- a comparison leaves two instructions over
   module _ (line : ℕ) (op : BinOp) (e d : Exp) (short_e : ValueShort e) (short_d : ValueShort d) (ahead t j : ℕ) where
@@ -69,17 +67,7 @@ module _ (cs : List Const) where
   binary_short line AtMost e d value a b k ahead t j = let h = compared_short line AtMost e d a b refl k ahead t j in omega (arith, h)
   binary_short line Gt e d value a b k ahead t j = let h = compared_short line Gt e d a b refl k ahead t j in omega (arith, h)
   binary_short line Ge e d value a b k ahead t j = let h = compared_short line Ge e d a b refl k ahead t j in omega (arith, h)
-  binary_short line Plus e d value a b k ahead t j = value_short (Binary line Plus e d) value k ahead t j
-  binary_short line Minus e d value a b k ahead t j = value_short (Binary line Minus e d) value k ahead t j
-  binary_short line Times e d value a b k ahead t j = value_short (Binary line Times e d) value k ahead t j
-  binary_short line Modulo e d value a b k ahead t j = value_short (Binary line Modulo e d) value k ahead t j
-  binary_short line Idiv e d value a b k ahead t j = value_short (Binary line Idiv e d) value k ahead t j
-  binary_short line Band e d value a b k ahead t j = value_short (Binary line Band e d) value k ahead t j
-  binary_short line Bor e d value a b k ahead t j = value_short (Binary line Bor e d) value k ahead t j
-  binary_short line Bxor e d value a b k ahead t j = value_short (Binary line Bxor e d) value k ahead t j
-  binary_short line ShiftLeft e d value a b k ahead t j = value_short (Binary line ShiftLeft e d) value k ahead t j
-  binary_short line ShiftRight e d value a b k ahead t j = value_short (Binary line ShiftRight e d) value k ahead t j
-  binary_short line Join e d value a b k ahead t j = value_short (Binary line Join e d) value k ahead t j
+  binary_short line op e d value a b k ahead t j = value_short (Binary line op e d) value k ahead t j
 
   pub true_short : (line : ℕ) → Short (True line)
   true_short line true ahead t j = omega arith
@@ -122,9 +110,7 @@ module _ (cs : List Const) where
 
   pub unary_keeps : (line : ℕ) (op : UnOp) (e : Exp) → ValueShort (Unary line op e) → Short e → KeepShort (Unary line op e)
   unary_keeps line Negation e value h k ahead t j = truth_keeps (Unary line Negation e) k ahead t j (let a = h (not k) 2 t j in omega (arith, a))
-  unary_keeps line Neg e value h k ahead t j = leaf_short (Unary line Neg e) value k ahead t j
-  unary_keeps line BitNot e value h k ahead t j = leaf_short (Unary line BitNot e) value k ahead t j
-  unary_keeps line Length e value h k ahead t j = leaf_short (Unary line Length e) value k ahead t j
+  unary_keeps line op e value h k ahead t j = leaf_short (Unary line op e) value k ahead t j
 
   pub binary_keeps : (line : ℕ) (op : BinOp) (e d : Exp) → ValueShort (Binary line op e d) → ValueShort e → ValueShort d → KeepShort (Binary line op e d)
   binary_keeps line Equal e d value a b k ahead t j = truth_keeps (Binary line Equal e d) k ahead t j (compared_short line Equal e d a b refl k 2 t j)
@@ -133,17 +119,7 @@ module _ (cs : List Const) where
   binary_keeps line AtMost e d value a b k ahead t j = truth_keeps (Binary line AtMost e d) k ahead t j (compared_short line AtMost e d a b refl k 2 t j)
   binary_keeps line Gt e d value a b k ahead t j = truth_keeps (Binary line Gt e d) k ahead t j (compared_short line Gt e d a b refl k 2 t j)
   binary_keeps line Ge e d value a b k ahead t j = truth_keeps (Binary line Ge e d) k ahead t j (compared_short line Ge e d a b refl k 2 t j)
-  binary_keeps line Plus e d value a b k ahead t j = leaf_short (Binary line Plus e d) value k ahead t j
-  binary_keeps line Minus e d value a b k ahead t j = leaf_short (Binary line Minus e d) value k ahead t j
-  binary_keeps line Times e d value a b k ahead t j = leaf_short (Binary line Times e d) value k ahead t j
-  binary_keeps line Modulo e d value a b k ahead t j = leaf_short (Binary line Modulo e d) value k ahead t j
-  binary_keeps line Idiv e d value a b k ahead t j = leaf_short (Binary line Idiv e d) value k ahead t j
-  binary_keeps line Band e d value a b k ahead t j = leaf_short (Binary line Band e d) value k ahead t j
-  binary_keeps line Bor e d value a b k ahead t j = leaf_short (Binary line Bor e d) value k ahead t j
-  binary_keeps line Bxor e d value a b k ahead t j = leaf_short (Binary line Bxor e d) value k ahead t j
-  binary_keeps line ShiftLeft e d value a b k ahead t j = leaf_short (Binary line ShiftLeft e d) value k ahead t j
-  binary_keeps line ShiftRight e d value a b k ahead t j = leaf_short (Binary line ShiftRight e d) value k ahead t j
-  binary_keeps line Join e d value a b k ahead t j = leaf_short (Binary line Join e d) value k ahead t j
+  binary_keeps line op e d value a b k ahead t j = leaf_short (Binary line op e d) value k ahead t j
 
   pub paren_keeps : (line : ℕ) (e : Exp) → KeepShort e → KeepShort (Paren line e)
   paren_keeps line e h k ahead t j = let a = h k ahead t j in omega (arith, a)

@@ -3,7 +3,7 @@ use Rattle.std.proofs.Common.{◌≡◌, ℕ, suc, ◌+◌, ◌<◌, ◌≤◌, 
 use Rattle.std.specs.Prelude.{nat_eq}
 use Rattle.tree_core.specs.declared.operator.BinOp.{BinOp}
 use Rattle.tree_core.specs.declared.operator.BinOp.TheVariants.{Concat as Join}
-use Rattle.tree_core.specs.Tree.{Exp, Nil, True, False, Int, Str, Vararg, Function, Var, Index, Call, Method, Unary, Binary, And, Or, Paren, Table}
+use Rattle.tree_core.specs.Tree.{Exp, Binary}
 use Rattle.code_core.specs.declared.opcode.Opcode.TheVariants.{Concat}
 use Rattle.code_core.specs.declared.proto.Const.{Const}
 use Rattle.code_core.specs.Prototype.{Prototype, Prototypes}
@@ -33,22 +33,7 @@ link_near t l false rest r = omega (arith, r)
 
 links_near : (source : Option (List ℕ)) (p : Prototype) (line : ℕ) (d : Exp) (size t : ℕ) → ExpIsNear source p d size t → t + links line d + 1 < 2 ^ 8
 links_near source p line (Binary own op e d) size t near = link_near t (links line d) (joins op && nat_eq own line) (links_near source p line d size (t + 1) near.1.1) near.0
-links_near source p line (Nil own) size t near = let r = exp_register source p (Nil own) size t near in omega (arith, r)
-links_near source p line (True own) size t near = let r = exp_register source p (True own) size t near in omega (arith, r)
-links_near source p line (False own) size t near = let r = exp_register source p (False own) size t near in omega (arith, r)
-links_near source p line (Int own z) size t near = let r = exp_register source p (Int own z) size t near in omega (arith, r)
-links_near source p line (Str own bytes) size t near = let r = exp_register source p (Str own bytes) size t near in omega (arith, r)
-links_near source p line (Vararg own) size t near = let r = exp_register source p (Vararg own) size t near in omega (arith, r)
-links_near source p line (Function own body) size t near = let r = exp_register source p (Function own body) size t near in omega (arith, r)
-links_near source p line (Var own name) size t near = let r = exp_register source p (Var own name) size t near in omega (arith, r)
-links_near source p line (Index own o k) size t near = let r = exp_register source p (Index own o k) size t near in omega (arith, r)
-links_near source p line (Call own f es) size t near = let r = exp_register source p (Call own f es) size t near in omega (arith, r)
-links_near source p line (Method own o name es) size t near = let r = exp_register source p (Method own o name es) size t near in omega (arith, r)
-links_near source p line (Unary own op e) size t near = let r = exp_register source p (Unary own op e) size t near in omega (arith, r)
-links_near source p line (And own e d) size t near = let r = exp_register source p (And own e d) size t near in omega (arith, r)
-links_near source p line (Or own e d) size t near = let r = exp_register source p (Or own e d) size t near in omega (arith, r)
-links_near source p line (Paren own e) size t near = let r = exp_register source p (Paren own e) size t near in omega (arith, r)
-links_near source p line (Table own fs) size t near = let r = exp_register source p (Table own fs) size t near in omega (arith, r)
+links_near source p line d size t near = let r = exp_register source p d size t near in omega (arith, r)
 
 module _ (p : Prototype) (W : Whole p) (source : Option (List ℕ)) (H : Type 0) where
   -- a right operand, without the CONCAT of a chain that goes on

@@ -24,7 +24,7 @@ use Rattle.code_of.specs.StoredValues.{stored_value}
 use Rattle.code_of.specs.Targets.{waiting_key, text_key, global_store, single_store}
 use Rattle.code_of.proofs.Targets.{single_store_is, some_store}
 use Rattle.code_of.specs.Operands.{local_of, lone_local, joins, seat, unless, Second, a_number, a_local, made, second_of, key_operand, first_of, assigned, second_code, operands_code, second_assigned}
-use Rattle.code_of.specs.Operators.{name_into, self_code, operator_code, number_opcode, number_code, name_code}
+use Rattle.code_of.specs.Operators.{name_into, self_code, operator_code, number_opcode, number_code}
 use Rattle.code_of.specs.Expressions.{made_by, made_in, count, Wanted, is_last_item, field_of, wanted_after, nils_code, set_list, exp_code, exps_code, fields_code, kept_value, waiting_code, item_code}
 use Rattle.code_of.specs.Items.{waits, is_full, item_register, stored_behind, waiting_behind}
 use Rattle.code_of.specs.Truths.{jump_if, pick, line_of, is_not, compared, is_compared, set_if}
@@ -287,17 +287,7 @@ module _ (cs : List Const) where
     tested_lines (Binary line op e d) k ahead t j w h =
         comparison_lines line op e d k ahead t j w.0 (exp_lines e t j 2 w.1.0) (exp_lines d (t + 1) (j + made_by e) 2 w.1.1) (by_value_lines (Binary line op e d) k ahead t j w h)
     tested_lines (True line) k ahead t j w h = either k _ _ tt (w, tt)
-    tested_lines (Nil line) k ahead t j w h = by_value_lines (Nil line) k ahead t j w h
-    tested_lines (False line) k ahead t j w h = by_value_lines (False line) k ahead t j w h
-    tested_lines (Int line z) k ahead t j w h = by_value_lines (Int line z) k ahead t j w h
-    tested_lines (Str line bytes) k ahead t j w h = by_value_lines (Str line bytes) k ahead t j w h
-    tested_lines (Vararg line) k ahead t j w h = by_value_lines (Vararg line) k ahead t j w h
-    tested_lines (Function line body) k ahead t j w h = by_value_lines (Function line body) k ahead t j w h
-    tested_lines (Var line name) k ahead t j w h = by_value_lines (Var line name) k ahead t j w h
-    tested_lines (Index line o key) k ahead t j w h = by_value_lines (Index line o key) k ahead t j w h
-    tested_lines (Call line f es) k ahead t j w h = by_value_lines (Call line f es) k ahead t j w h
-    tested_lines (Method line o name es) k ahead t j w h = by_value_lines (Method line o name es) k ahead t j w h
-    tested_lines (Table line fs) k ahead t j w h = by_value_lines (Table line fs) k ahead t j w h
+    tested_lines e k ahead t j w h = by_value_lines e k ahead t j w h
 
     kept_lines : (e : Exp) (k : Bool) (ahead t j : ℕ) → ExpIsWritten e → LinesFit (exp_code cs e t j 2) → LinesFit (keep_code cs e k ahead t j)
     kept_lines (Paren line e) k ahead t j w h = kept_lines e k ahead t j w.1 h
@@ -313,18 +303,6 @@ module _ (cs : List Const) where
     kept_lines (Or line e d) false ahead t j w h =
         let far = length (keep_code cs d false ahead t (j + made_by e)) in
         lines_both (test_code cs e false far t j) _ (tested_lines e false far t j w.1.0 (exp_lines e t j 2 w.1.0)) (kept_lines d false ahead t (j + made_by e) w.1.1 (exp_lines d t (j + made_by e) 2 w.1.1))
-    kept_lines (Nil line) k ahead t j w h = leaf_lines (Nil line) k ahead t j w h
-    kept_lines (True line) k ahead t j w h = leaf_lines (True line) k ahead t j w h
-    kept_lines (False line) k ahead t j w h = leaf_lines (False line) k ahead t j w h
-    kept_lines (Int line z) k ahead t j w h = leaf_lines (Int line z) k ahead t j w h
-    kept_lines (Str line bytes) k ahead t j w h = leaf_lines (Str line bytes) k ahead t j w h
-    kept_lines (Vararg line) k ahead t j w h = leaf_lines (Vararg line) k ahead t j w h
-    kept_lines (Function line body) k ahead t j w h = leaf_lines (Function line body) k ahead t j w h
-    kept_lines (Var line name) k ahead t j w h = leaf_lines (Var line name) k ahead t j w h
-    kept_lines (Index line o key) k ahead t j w h = leaf_lines (Index line o key) k ahead t j w h
-    kept_lines (Call line f es) k ahead t j w h = leaf_lines (Call line f es) k ahead t j w h
-    kept_lines (Method line o name es) k ahead t j w h = leaf_lines (Method line o name es) k ahead t j w h
-    kept_lines (Table line fs) k ahead t j w h = leaf_lines (Table line fs) k ahead t j w h
     kept_lines (Unary line op e) k ahead t j w h =
         either (is_not op) _ _ (lines_both (test_code cs e (not k) 2 t j) _ (tested_lines e (not k) 2 t j w.1 (exp_lines e t j 2 w.1)) (w.0, (w.0, tt))) (leaf_lines (Unary line op e) k ahead t j w h)
     kept_lines (Binary line op e d) k ahead t j w h =
@@ -332,6 +310,7 @@ module _ (cs : List Const) where
         (lines_both (test_code cs (Binary line op e d) k 2 t j) _
         (comparison_lines line op e d k 2 t j w.0 (exp_lines e t j 2 w.1.0) (exp_lines d (t + 1) (j + made_by e) 2 w.1.1) (by_value_lines (Binary line op e d) k 2 t j w h)) (w.0, (w.0, tt)))
         (leaf_lines (Binary line op e d) k ahead t j w h)
+    kept_lines e k ahead t j w h = leaf_lines e k ahead t j w h
 
     pub exps_lines : (es : Exps) (wanted : Wanted) (t j line : ℕ) → LineFits line → ExpsAreWritten es → LinesFit (exps_code cs es wanted t j line)
     exps_lines EndExps wanted t j line h w = nils_lines wanted t line h

@@ -118,57 +118,21 @@ module _ (p : Prototype) (W : Whole p) (source : Option (List ℕ)) where
     tested_law (Or line e d) law = or_law p W source e d (tested_law e (λ G. one_of_any p W source G e (exp_law e G))) (tested_law d (λ G. one_of_any p W source G d (exp_law d G))) line
     tested_law (Binary line op e d) law = binary_law p W source line op e d law (λ G. one_of_any p W source G e (exp_law e G)) (λ G. one_of_any p W source G d (exp_law d G))
     tested_law (True line) law = true_law p W source line
-    tested_law (Nil line) law = value_law p W source (Nil line) law
-    tested_law (False line) law = value_law p W source (False line) law
-    tested_law (Int line z) law = value_law p W source (Int line z) law
-    tested_law (Str line bytes) law = value_law p W source (Str line bytes) law
-    tested_law (Vararg line) law = value_law p W source (Vararg line) law
-    tested_law (Function line body) law = value_law p W source (Function line body) law
-    tested_law (Var line name) law = value_law p W source (Var line name) law
-    tested_law (Index line o k) law = value_law p W source (Index line o k) law
-    tested_law (Call line f es) law = value_law p W source (Call line f es) law
-    tested_law (Method line o name es) law = value_law p W source (Method line o name es) law
-    tested_law (Table line fs) law = value_law p W source (Table line fs) law
+    tested_law e law = value_law p W source e law
 
     kept_law : (e : Exp) → OneAll p W source e → KeepLaw p W source e
     kept_law (Paren line e) law = paren_kept p W source line e (kept_law e (λ G. one_of_any p W source G e (exp_law e G)))
     kept_law (And line e d) law = and_kept p W source e d (tested_law e (λ G. one_of_any p W source G e (exp_law e G))) (kept_law e (λ G. one_of_any p W source G e (exp_law e G))) (kept_law d (λ G. one_of_any p W source G d (exp_law d G))) line
     kept_law (Or line e d) law = or_kept p W source e d (tested_law e (λ G. one_of_any p W source G e (exp_law e G))) (kept_law e (λ G. one_of_any p W source G e (exp_law e G))) (kept_law d (λ G. one_of_any p W source G d (exp_law d G))) line
-    kept_law (Nil line) law = leaf_law p W source (Nil line) law
-    kept_law (True line) law = leaf_law p W source (True line) law
-    kept_law (False line) law = leaf_law p W source (False line) law
-    kept_law (Int line z) law = leaf_law p W source (Int line z) law
-    kept_law (Str line bytes) law = leaf_law p W source (Str line bytes) law
-    kept_law (Vararg line) law = leaf_law p W source (Vararg line) law
-    kept_law (Function line body) law = leaf_law p W source (Function line body) law
-    kept_law (Var line name) law = leaf_law p W source (Var line name) law
-    kept_law (Index line o k) law = leaf_law p W source (Index line o k) law
-    kept_law (Call line f es) law = leaf_law p W source (Call line f es) law
-    kept_law (Method line o name es) law = leaf_law p W source (Method line o name es) law
-    kept_law (Table line fs) law = leaf_law p W source (Table line fs) law
     kept_law (Unary line op e) law = unary_kept p W source line op e law (tested_law e (λ G. one_of_any p W source G e (exp_law e G)))
     kept_law (Binary line op e d) law = binary_kept p W source line op e d law (λ G. one_of_any p W source G e (exp_law e G)) (λ G. one_of_any p W source G d (exp_law d G))
+    kept_law e law = leaf_law p W source e law
 
     -- the right operand of a `..`, of which the law is known
     chain_law : (d : Exp) (H : Type 0) → OneLaw p W source H d → ChainsLaw p W source H d
     chain_law (Binary own op e d) H one =
         chain_binary p W source H own op e d (one_of_any p W source H e (exp_law e H)) (chain_law d H (one_of_any p W source H d (exp_law d H))) one
-    chain_law (Nil own) H one = λ line. chain_end p W source H (Nil own) one line refl
-    chain_law (True own) H one = λ line. chain_end p W source H (True own) one line refl
-    chain_law (False own) H one = λ line. chain_end p W source H (False own) one line refl
-    chain_law (Int own z) H one = λ line. chain_end p W source H (Int own z) one line refl
-    chain_law (Str own bytes) H one = λ line. chain_end p W source H (Str own bytes) one line refl
-    chain_law (Vararg own) H one = λ line. chain_end p W source H (Vararg own) one line refl
-    chain_law (Function own body) H one = λ line. chain_end p W source H (Function own body) one line refl
-    chain_law (Var own name) H one = λ line. chain_end p W source H (Var own name) one line refl
-    chain_law (Index own o k) H one = λ line. chain_end p W source H (Index own o k) one line refl
-    chain_law (Call own f es) H one = λ line. chain_end p W source H (Call own f es) one line refl
-    chain_law (Method own o name es) H one = λ line. chain_end p W source H (Method own o name es) one line refl
-    chain_law (Unary own op e) H one = λ line. chain_end p W source H (Unary own op e) one line refl
-    chain_law (And own e d) H one = λ line. chain_end p W source H (And own e d) one line refl
-    chain_law (Or own e d) H one = λ line. chain_end p W source H (Or own e d) one line refl
-    chain_law (Paren own e) H one = λ line. chain_end p W source H (Paren own e) one line refl
-    chain_law (Table own fs) H one = λ line. chain_end p W source H (Table own fs) one line refl
+    chain_law d H one = λ line. chain_end p W source H d one line refl
 
     pub list_law : (es : Exps) (H : Type 0) → ListLaw p W source H es
     list_law EndExps H = no_list p W source H

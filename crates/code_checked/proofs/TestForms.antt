@@ -1,9 +1,9 @@
 -- The code of a condition, and of a first operand whose value is kept, is a piece where its jumps lead to a place that may be landed on. The laws of the parts are given.
-use Rattle.std.proofs.Common.{◌≡◌, ℕ, ◌+◌, ◌<◌, ◌≤◌, ◌^◌, lit<, Bool, true, false, not, List, ◌++◌, slice_get, length, Option, Some, None, refl, arith, length-append}
+use Rattle.std.proofs.Common.{◌≡◌, ℕ, ◌+◌, ◌<◌, ◌≤◌, ◌^◌, lit<, Bool, true, false, not, List, ◌++◌, length, Option, Some, None, refl, arith, length-append}
 use Rattle.tree_core.specs.declared.operator.UnOp.{UnOp}
-use Rattle.tree_core.specs.declared.operator.UnOp.TheVariants.{Neg, BitNot, Not as Negation, Len as Length}
+use Rattle.tree_core.specs.declared.operator.UnOp.TheVariants.{Not as Negation}
 use Rattle.tree_core.specs.declared.operator.BinOp.{BinOp}
-use Rattle.tree_core.specs.declared.operator.BinOp.TheVariants.{Add as Plus, Sub as Minus, Mul as Times, Mod as Modulo, Idiv, Band, Bor, Bxor, Shl as ShiftLeft, Shr as ShiftRight, Concat as Join, Eq as Equal, Ne, Lt as Less, Le as AtMost, Gt, Ge}
+use Rattle.tree_core.specs.declared.operator.BinOp.TheVariants.{Eq as Equal, Ne, Lt as Less, Le as AtMost, Gt, Ge}
 use Rattle.tree_core.specs.Tree.{Exp, True, Unary, Binary, And, Or, Paren}
 use Rattle.code_core.specs.declared.opcode.Opcode.{Opcode}
 use Rattle.code_core.specs.declared.opcode.Opcode.TheVariants.{LoadFalse, LoadTrue, Jmp, Test, TestSet, Eq, Lt, Le, EqK}
@@ -65,9 +65,7 @@ module _ (p : Prototype) (W : Whole p) (source : Option (List ℕ)) where
 
   pub not_law : (line : ℕ) (op : UnOp) (e : Exp) → OneAll (Unary line op e) → TestLaw e → TestLaw (Unary line op e)
   not_law line Negation e value law H k ahead t j pc size q cs rest near le g fs short place to = law H (not k) ahead t j pc size q cs rest near.1 le g fs short place to
-  not_law line Neg e value law H k ahead t j pc size q cs rest near le g fs short place to = value_law (Unary line Neg e) value H k ahead t j pc size q cs rest near le g fs short place to
-  not_law line BitNot e value law H k ahead t j pc size q cs rest near le g fs short place to = value_law (Unary line BitNot e) value H k ahead t j pc size q cs rest near le g fs short place to
-  not_law line Length e value law H k ahead t j pc size q cs rest near le g fs short place to = value_law (Unary line Length e) value H k ahead t j pc size q cs rest near le g fs short place to
+  not_law line op e value law H k ahead t j pc size q cs rest near le g fs short place to = value_law (Unary line op e) value H k ahead t j pc size q cs rest near le g fs short place to
 
   -- both operands lead to one place, or the first one leads past the second
   module _ (e d : Exp) (law_e : TestLaw e) (law_d : TestLaw d) where
@@ -200,17 +198,7 @@ module _ (p : Prototype) (W : Whole p) (source : Option (List ℕ)) where
   binary_law line AtMost e d value law_e law_d H k ahead t j pc = compare_law line AtMost e d law_e law_d Le (first_le p) (first_le_i p) false (not k) H ahead t j pc
   binary_law line Gt e d value law_e law_d H k ahead t j pc = compare_law line Gt e d law_e law_d Lt (first_lt p) (first_gt_i p) true (not k) H ahead t j pc
   binary_law line Ge e d value law_e law_d H k ahead t j pc = compare_law line Ge e d law_e law_d Le (first_le p) (first_ge_i p) true (not k) H ahead t j pc
-  binary_law line Plus e d value law_e law_d H k ahead t j pc = value_law (Binary line Plus e d) value H k ahead t j pc
-  binary_law line Minus e d value law_e law_d H k ahead t j pc = value_law (Binary line Minus e d) value H k ahead t j pc
-  binary_law line Times e d value law_e law_d H k ahead t j pc = value_law (Binary line Times e d) value H k ahead t j pc
-  binary_law line Modulo e d value law_e law_d H k ahead t j pc = value_law (Binary line Modulo e d) value H k ahead t j pc
-  binary_law line Idiv e d value law_e law_d H k ahead t j pc = value_law (Binary line Idiv e d) value H k ahead t j pc
-  binary_law line Band e d value law_e law_d H k ahead t j pc = value_law (Binary line Band e d) value H k ahead t j pc
-  binary_law line Bor e d value law_e law_d H k ahead t j pc = value_law (Binary line Bor e d) value H k ahead t j pc
-  binary_law line Bxor e d value law_e law_d H k ahead t j pc = value_law (Binary line Bxor e d) value H k ahead t j pc
-  binary_law line ShiftLeft e d value law_e law_d H k ahead t j pc = value_law (Binary line ShiftLeft e d) value H k ahead t j pc
-  binary_law line ShiftRight e d value law_e law_d H k ahead t j pc = value_law (Binary line ShiftRight e d) value H k ahead t j pc
-  binary_law line Join e d value law_e law_d H k ahead t j pc = value_law (Binary line Join e d) value H k ahead t j pc
+  binary_law line op e d value law_e law_d H k ahead t j pc = value_law (Binary line op e d) value H k ahead t j pc
 
   pub true_law : (line : ℕ) → TestLaw (True line)
   true_law line H true ahead t j pc size q cs rest near le g fs short place to = nothing p
@@ -259,9 +247,7 @@ module _ (p : Prototype) (W : Whole p) (source : Option (List ℕ)) where
 
   pub unary_kept : (line : ℕ) (op : UnOp) (e : Exp) → OneAll (Unary line op e) → TestLaw e → KeepLaw (Unary line op e)
   unary_kept line Negation e value law H k ahead t j pc size q cs rest near le g fs short place to = truth_law (Unary line Negation e) (not_law line Negation e value law) H k ahead t j pc size q cs rest near le g fs short place to
-  unary_kept line Neg e value law H k ahead t j pc size q cs rest near le g fs short place to = leaf_law (Unary line Neg e) value H k ahead t j pc size q cs rest near le g fs short place to
-  unary_kept line BitNot e value law H k ahead t j pc size q cs rest near le g fs short place to = leaf_law (Unary line BitNot e) value H k ahead t j pc size q cs rest near le g fs short place to
-  unary_kept line Length e value law H k ahead t j pc size q cs rest near le g fs short place to = leaf_law (Unary line Length e) value H k ahead t j pc size q cs rest near le g fs short place to
+  unary_kept line op e value law H k ahead t j pc size q cs rest near le g fs short place to = leaf_law (Unary line op e) value H k ahead t j pc size q cs rest near le g fs short place to
 
   pub binary_kept : (line : ℕ) (op : BinOp) (e d : Exp) → OneAll (Binary line op e d) → OneAll e → OneAll d → KeepLaw (Binary line op e d)
   binary_kept line Equal e d value law_e law_d H k ahead t j pc size q cs rest near le g fs short place to = truth_law (Binary line Equal e d) (binary_law line Equal e d value law_e law_d) H k ahead t j pc size q cs rest near le g fs short place to
@@ -270,17 +256,7 @@ module _ (p : Prototype) (W : Whole p) (source : Option (List ℕ)) where
   binary_kept line AtMost e d value law_e law_d H k ahead t j pc size q cs rest near le g fs short place to = truth_law (Binary line AtMost e d) (binary_law line AtMost e d value law_e law_d) H k ahead t j pc size q cs rest near le g fs short place to
   binary_kept line Gt e d value law_e law_d H k ahead t j pc size q cs rest near le g fs short place to = truth_law (Binary line Gt e d) (binary_law line Gt e d value law_e law_d) H k ahead t j pc size q cs rest near le g fs short place to
   binary_kept line Ge e d value law_e law_d H k ahead t j pc size q cs rest near le g fs short place to = truth_law (Binary line Ge e d) (binary_law line Ge e d value law_e law_d) H k ahead t j pc size q cs rest near le g fs short place to
-  binary_kept line Plus e d value law_e law_d H k ahead t j pc size q cs rest near le g fs short place to = leaf_law (Binary line Plus e d) value H k ahead t j pc size q cs rest near le g fs short place to
-  binary_kept line Minus e d value law_e law_d H k ahead t j pc size q cs rest near le g fs short place to = leaf_law (Binary line Minus e d) value H k ahead t j pc size q cs rest near le g fs short place to
-  binary_kept line Times e d value law_e law_d H k ahead t j pc size q cs rest near le g fs short place to = leaf_law (Binary line Times e d) value H k ahead t j pc size q cs rest near le g fs short place to
-  binary_kept line Modulo e d value law_e law_d H k ahead t j pc size q cs rest near le g fs short place to = leaf_law (Binary line Modulo e d) value H k ahead t j pc size q cs rest near le g fs short place to
-  binary_kept line Idiv e d value law_e law_d H k ahead t j pc size q cs rest near le g fs short place to = leaf_law (Binary line Idiv e d) value H k ahead t j pc size q cs rest near le g fs short place to
-  binary_kept line Band e d value law_e law_d H k ahead t j pc size q cs rest near le g fs short place to = leaf_law (Binary line Band e d) value H k ahead t j pc size q cs rest near le g fs short place to
-  binary_kept line Bor e d value law_e law_d H k ahead t j pc size q cs rest near le g fs short place to = leaf_law (Binary line Bor e d) value H k ahead t j pc size q cs rest near le g fs short place to
-  binary_kept line Bxor e d value law_e law_d H k ahead t j pc size q cs rest near le g fs short place to = leaf_law (Binary line Bxor e d) value H k ahead t j pc size q cs rest near le g fs short place to
-  binary_kept line ShiftLeft e d value law_e law_d H k ahead t j pc size q cs rest near le g fs short place to = leaf_law (Binary line ShiftLeft e d) value H k ahead t j pc size q cs rest near le g fs short place to
-  binary_kept line ShiftRight e d value law_e law_d H k ahead t j pc size q cs rest near le g fs short place to = leaf_law (Binary line ShiftRight e d) value H k ahead t j pc size q cs rest near le g fs short place to
-  binary_kept line Join e d value law_e law_d H k ahead t j pc size q cs rest near le g fs short place to = leaf_law (Binary line Join e d) value H k ahead t j pc size q cs rest near le g fs short place to
+  binary_kept line op e d value law_e law_d H k ahead t j pc size q cs rest near le g fs short place to = leaf_law (Binary line op e d) value H k ahead t j pc size q cs rest near le g fs short place to
 
   pub paren_kept : (line : ℕ) (e : Exp) → KeepLaw e → KeepLaw (Paren line e)
   paren_kept line e law H k ahead t j pc size q cs rest near le g fs short place to = law H k ahead t j pc size q cs rest near.1 le g fs short place to

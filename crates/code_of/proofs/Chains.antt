@@ -4,7 +4,7 @@ use Rattle.std.specs.Prelude.{nat_eq}
 use Rattle.int_core.specs.Value.{without_last}
 use Rattle.tree_core.specs.declared.operator.BinOp.{BinOp}
 use Rattle.tree_core.specs.declared.operator.BinOp.TheVariants.{Concat as Join}
-use Rattle.tree_core.specs.Tree.{Exp, Nil, True, False, Int, Str, Vararg, Function, Var, Index, Call, Method, Unary, Binary, And, Or, Paren, Table}
+use Rattle.tree_core.specs.Tree.{Exp, Binary}
 use Rattle.code_core.specs.declared.opcode.Opcode.TheVariants.{Concat}
 use Rattle.code_core.specs.declared.proto.Const.{Const}
 use Rattle.code_core.proofs.CheckedLemmas.{both}
@@ -127,19 +127,4 @@ link_room cs line own op e d some rest false h = some (Binary own op e d)
 
 pub links_room : (cs : List Const) (line : ℕ) (d : Exp) → ((e : Exp) → 1 ≤ room_of cs e 2) → links line d ≤ room_of cs d 2
 links_room cs line (Binary own op e d) some = link_room cs line own op e d some (links_room cs line d some) (joins op && nat_eq own line) refl
-links_room cs line (Nil own) some = some (Nil own)
-links_room cs line (True own) some = some (True own)
-links_room cs line (False own) some = some (False own)
-links_room cs line (Int own z) some = some (Int own z)
-links_room cs line (Str own bytes) some = some (Str own bytes)
-links_room cs line (Vararg own) some = some (Vararg own)
-links_room cs line (Function own body) some = some (Function own body)
-links_room cs line (Var own name) some = some (Var own name)
-links_room cs line (Index own object key) some = some (Index own object key)
-links_room cs line (Call own f es) some = some (Call own f es)
-links_room cs line (Method own object name es) some = some (Method own object name es)
-links_room cs line (Unary own op e) some = some (Unary own op e)
-links_room cs line (And own e d) some = some (And own e d)
-links_room cs line (Or own e d) some = some (Or own e d)
-links_room cs line (Paren own e) some = some (Paren own e)
-links_room cs line (Table own fs) some = some (Table own fs)
+links_room cs line d some = some d

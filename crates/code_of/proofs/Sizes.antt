@@ -1,7 +1,7 @@
 -- The code of a statement has as many instructions as its size says, wherever it stands and its jumps lead.
 use Rattle.std.proofs.Common.{◌≡◌, ℕ, ◌+◌, Bool, true, false, List, [], ◌∷◌, ◌++◌, length, Option, Some, None, refl, sym, ap, ap₂, ◌∙◌, arith, length-append, ◌≤◌, cond}
 use Rattle.tree_terms.specs.Bodies.{line_of_body, upvalues_of}
-use Rattle.tree_core.specs.Tree.{Body, Block, Falls, Returns, Stats, EndStats, MoreStats, Stat, Local, Do, While, Repeat, If, IfElse, NumFor, NumForStep, GenFor, Goto, Break, Arms, EndArms, MoreArms, Exp, Nil, True, False, Int, Str, Vararg, Function, Var, Index, Call, Method, Unary, Binary, And, Or, Paren, Table}
+use Rattle.tree_core.specs.Tree.{Body, Block, Falls, Returns, Stats, EndStats, MoreStats, Stat, Local, Do, While, Repeat, If, IfElse, NumFor, NumForStep, GenFor, Goto, Break, Arms, EndArms, MoreArms, Exp, True, Unary, Binary, And, Or, Paren}
 use Rattle.tree_core.specs.declared.operator.BinOp.{BinOp}
 use Rattle.tree_core.specs.declared.operator.BinOp.TheVariants.{Eq as Equal, Ne, Lt as Less, Le as AtMost, Gt, Ge}
 use Rattle.code_core.specs.declared.opcode.Opcode.{Opcode}
@@ -82,17 +82,7 @@ module _ (cs : List Const) where
       (λ x y. jump_if o (pick s x y) (pick s y x) field ahead line) (λ x y. jump_if o (pick s x y) (pick s y x) field 0 line)
       (λ x n. jump_if (number_opcode op) x (n + 127) field ahead line) (λ x n. jump_if (number_opcode op) x (n + 127) field 0 line) (λ x n. refl) (λ x y. refl) (λ x n. refl))
   test_sized (True line) k ahead t j = true_sized k ahead line
-  test_sized (Nil line) k ahead t j = value_sized (Nil line) k ahead t j
-  test_sized (False line) k ahead t j = value_sized (False line) k ahead t j
-  test_sized (Int line n) k ahead t j = value_sized (Int line n) k ahead t j
-  test_sized (Str line bytes) k ahead t j = value_sized (Str line bytes) k ahead t j
-  test_sized (Vararg line) k ahead t j = value_sized (Vararg line) k ahead t j
-  test_sized (Function line body) k ahead t j = value_sized (Function line body) k ahead t j
-  test_sized (Var line name) k ahead t j = value_sized (Var line name) k ahead t j
-  test_sized (Index line object key) k ahead t j = value_sized (Index line object key) k ahead t j
-  test_sized (Call line f es) k ahead t j = value_sized (Call line f es) k ahead t j
-  test_sized (Method line object name es) k ahead t j = value_sized (Method line object name es) k ahead t j
-  test_sized (Table line fs) k ahead t j = value_sized (Table line fs) k ahead t j
+  test_sized e k ahead t j = value_sized e k ahead t j
 
 -- the forms of statements, where their parts have these sizes
 

@@ -23,44 +23,13 @@ module _ (k : List Const) where
   closing_return closing es t j line back e = ap (λ b. return_code k b es t j line back) e
 
   pub other_return : (closing : Bool) (e : tree.Exp) (t j line back : ℕ) → is_called e ≡ false → return_code k closing (tree.MoreExps e tree.EndExps) t j line back ≡ values_last k (tree.MoreExps e tree.EndExps) t j line back
-  other_return true e t j line back h = refl
-  other_return false (tree.Nil l) t j line back h = refl
-  other_return false (tree.True l) t j line back h = refl
-  other_return false (tree.False l) t j line back h = refl
-  other_return false (tree.Int l n) t j line back h = refl
-  other_return false (tree.Str l bytes) t j line back h = refl
-  other_return false (tree.Vararg l) t j line back h = refl
-  other_return false (tree.Function l body) t j line back h = refl
-  other_return false (tree.Var l name) t j line back h = refl
-  other_return false (tree.Index l object key) t j line back h = refl
   other_return false (tree.Call l f es) t j line back h = absurd (cc)
   other_return false (tree.Method l object name es) t j line back h = absurd (cc)
-  other_return false (tree.Unary l op e) t j line back h = refl
-  other_return false (tree.Binary l op e d) t j line back h = refl
-  other_return false (tree.And l e d) t j line back h = refl
-  other_return false (tree.Or l e d) t j line back h = refl
-  other_return false (tree.Paren l e) t j line back h = refl
-  other_return false (tree.Table l fs) t j line back h = refl
+  other_return _ _ t j line back h = refl
 
   longer : (closing : Bool) (e d : tree.Exp) (ds : tree.Exps) (t j line back : ℕ) → return_code k closing (tree.MoreExps e (tree.MoreExps d ds)) t j line back ≡ values_last k (tree.MoreExps e (tree.MoreExps d ds)) t j line back
-  longer true e d ds t j line back = refl
   longer false (tree.Nil l) d ds t j line back = refl
-  longer false (tree.True l) d ds t j line back = refl
-  longer false (tree.False l) d ds t j line back = refl
-  longer false (tree.Int l n) d ds t j line back = refl
-  longer false (tree.Str l bytes) d ds t j line back = refl
-  longer false (tree.Vararg l) d ds t j line back = refl
-  longer false (tree.Function l body) d ds t j line back = refl
-  longer false (tree.Var l name) d ds t j line back = refl
-  longer false (tree.Index l object key) d ds t j line back = refl
-  longer false (tree.Call l f es) d ds t j line back = refl
-  longer false (tree.Method l object name es) d ds t j line back = refl
-  longer false (tree.Unary l op e) d ds t j line back = refl
-  longer false (tree.Binary l op e e') d ds t j line back = refl
-  longer false (tree.And l e e') d ds t j line back = refl
-  longer false (tree.Or l e e') d ds t j line back = refl
-  longer false (tree.Paren l e) d ds t j line back = refl
-  longer false (tree.Table l fs) d ds t j line back = refl
+  longer _ _ d ds t j line back = refl
 
   empty_return : (closing : Bool) (t j line back : ℕ) → return_code k closing tree.EndExps t j line back ≡ values_last k tree.EndExps t j line back
   empty_return true t j line back = refl

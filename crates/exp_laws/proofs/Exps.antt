@@ -439,55 +439,20 @@ module _ (S : Setting) (pending : List Pending) where
     test_law (Var line name) law =
         leaf_tested S pending (Var line name) (λ q ahead t j. refl)
         (λ t room none. subst (λ at. t + object_room 0 at (room_of_name S.code.own.constants name.place name.text) ≤ S.code.own.stack) none room) law
-    test_law (Nil line) law = leaf_tested S pending (Nil line) (λ q ahead t j. refl) (λ t room none. room) law
-    test_law (False line) law = leaf_tested S pending (False line) (λ q ahead t j. refl) (λ t room none. room) law
-    test_law (Int line z) law = leaf_tested S pending (Int line z) (λ q ahead t j. refl) (λ t room none. room) law
-    test_law (Str line bytes) law = leaf_tested S pending (Str line bytes) (λ q ahead t j. refl) (λ t room none. room) law
-    test_law (Vararg line) law = leaf_tested S pending (Vararg line) (λ q ahead t j. refl) (λ t room none. room) law
-    test_law (Function line body) law = leaf_tested S pending (Function line body) (λ q ahead t j. refl) (λ t room none. room) law
-    test_law (Index line object key) law = leaf_tested S pending (Index line object key) (λ q ahead t j. refl) (λ t room none. room) law
-    test_law (Call line f es) law = leaf_tested S pending (Call line f es) (λ q ahead t j. refl) (λ t room none. room) law
-    test_law (Method line object name es) law = leaf_tested S pending (Method line object name es) (λ q ahead t j. refl) (λ t room none. room) law
-    test_law (Table line fs) law = leaf_tested S pending (Table line fs) (λ q ahead t j. refl) (λ t room none. room) law
+    test_law e law = leaf_tested S pending e (λ q ahead t j. refl) (λ t room none. room) law
 
     pub keep_law : (e : Exp) → ExpSame S pending e → KeepSame S pending e
     keep_law (Paren line e) law = paren_kept S pending line e (keep_law e (one_same e (all_same e)))
     keep_law (And line e d) law = and_kept S pending line e d (test_law e (one_same e (all_same e))) (keep_law e (one_same e (all_same e))) (keep_law d (one_same d (all_same d)))
     keep_law (Or line e d) law = or_kept S pending line e d (test_law e (one_same e (all_same e))) (keep_law e (one_same e (all_same e))) (keep_law d (one_same d (all_same d)))
-    keep_law (Nil line) law = leaf_kept S pending (Nil line) (λ q ahead t j. refl) (λ q. refl) law
-    keep_law (True line) law = leaf_kept S pending (True line) (λ q ahead t j. refl) (λ q. refl) law
-    keep_law (False line) law = leaf_kept S pending (False line) (λ q ahead t j. refl) (λ q. refl) law
-    keep_law (Int line z) law = leaf_kept S pending (Int line z) (λ q ahead t j. refl) (λ q. refl) law
-    keep_law (Str line bytes) law = leaf_kept S pending (Str line bytes) (λ q ahead t j. refl) (λ q. refl) law
-    keep_law (Vararg line) law = leaf_kept S pending (Vararg line) (λ q ahead t j. refl) (λ q. refl) law
-    keep_law (Function line body) law = leaf_kept S pending (Function line body) (λ q ahead t j. refl) (λ q. refl) law
-    keep_law (Var line name) law = leaf_kept S pending (Var line name) (λ q ahead t j. refl) (λ q. refl) law
-    keep_law (Index line object key) law = leaf_kept S pending (Index line object key) (λ q ahead t j. refl) (λ q. refl) law
-    keep_law (Call line f es) law = leaf_kept S pending (Call line f es) (λ q ahead t j. refl) (λ q. refl) law
-    keep_law (Method line object name es) law = leaf_kept S pending (Method line object name es) (λ q ahead t j. refl) (λ q. refl) law
     keep_law (Unary line op e) law = unary_kept S pending line op e law (test_law e (one_same e (all_same e)))
     keep_law (Binary line op e d) law = binary_kept S pending line op e d law (one_same e (all_same e)) (one_same d (all_same d))
-    keep_law (Table line fs) law = leaf_kept S pending (Table line fs) (λ q ahead t j. refl) (λ q. refl) law
+    keep_law e law = leaf_kept S pending e (λ q ahead t j. refl) (λ q. refl) law
 
     -- the right operand of a `..`, of which the law is known
     chain_same : (d : Exp) → ExpSame S pending d → ChainsSame S pending d
     chain_same (Binary own op e d) law = chain_binary S pending own op e d (one_same e (all_same e)) (chain_same d (one_same d (all_same d))) law (room_some S.code.own.constants (Binary own op e d))
-    chain_same (Nil own) law = λ line. chain_end S pending (Nil own) law (room_some S.code.own.constants (Nil own)) line refl
-    chain_same (True own) law = λ line. chain_end S pending (True own) law (room_some S.code.own.constants (True own)) line refl
-    chain_same (False own) law = λ line. chain_end S pending (False own) law (room_some S.code.own.constants (False own)) line refl
-    chain_same (Int own z) law = λ line. chain_end S pending (Int own z) law (room_some S.code.own.constants (Int own z)) line refl
-    chain_same (Str own bytes) law = λ line. chain_end S pending (Str own bytes) law (room_some S.code.own.constants (Str own bytes)) line refl
-    chain_same (Vararg own) law = λ line. chain_end S pending (Vararg own) law (room_some S.code.own.constants (Vararg own)) line refl
-    chain_same (Function own body) law = λ line. chain_end S pending (Function own body) law (room_some S.code.own.constants (Function own body)) line refl
-    chain_same (Var own name) law = λ line. chain_end S pending (Var own name) law (room_some S.code.own.constants (Var own name)) line refl
-    chain_same (Index own object key) law = λ line. chain_end S pending (Index own object key) law (room_some S.code.own.constants (Index own object key)) line refl
-    chain_same (Call own f es) law = λ line. chain_end S pending (Call own f es) law (room_some S.code.own.constants (Call own f es)) line refl
-    chain_same (Method own object name es) law = λ line. chain_end S pending (Method own object name es) law (room_some S.code.own.constants (Method own object name es)) line refl
-    chain_same (Unary own op e) law = λ line. chain_end S pending (Unary own op e) law (room_some S.code.own.constants (Unary own op e)) line refl
-    chain_same (And own e d) law = λ line. chain_end S pending (And own e d) law (room_some S.code.own.constants (And own e d)) line refl
-    chain_same (Or own e d) law = λ line. chain_end S pending (Or own e d) law (room_some S.code.own.constants (Or own e d)) line refl
-    chain_same (Paren own e) law = λ line. chain_end S pending (Paren own e) law (room_some S.code.own.constants (Paren own e)) line refl
-    chain_same (Table own fs) law = λ line. chain_end S pending (Table own fs) law (room_some S.code.own.constants (Table own fs)) line refl
+    chain_same d law = λ line. chain_end S pending d law (room_some S.code.own.constants d) line refl
 
     lists_same : (es : Exps) → ListSame es
     lists_same EndExps purpose wanted base above j line n pc opened have env regs c k bound all has wf ok inside size held le below room rel goes =

@@ -4,7 +4,7 @@ use Rattle.std.proofs.Common.{◌⊎◌, inl, inr, ◌≡◌, ℕ, ◌+◌, ◌<
 use Rattle.int_core.specs.Value.{Value, known, boolean, nth, write, shape, holds, same_truth}
 use Rattle.int_core.specs.Ask.{Captured, goes_on}
 use Rattle.tree_core.specs.declared.operator.UnOp.{UnOp}
-use Rattle.tree_core.specs.declared.operator.UnOp.TheVariants.{Neg, BitNot, Not as Negation, Len as Length}
+use Rattle.tree_core.specs.declared.operator.UnOp.TheVariants.{Not as Negation}
 use Rattle.tree_core.specs.declared.operator.BinOp.{BinOp}
 use Rattle.tree_core.specs.Tree.{Exp, Unary, Binary, And, Or, Paren}
 use Rattle.tree_activation.specs.Work.{give, evaluate, Work, Pending, and_right, or_right, first_only}
@@ -177,9 +177,7 @@ module _ (S : Setting) (pending : List Pending) where
 
   pub unary_kept : (line : ℕ) (op : UnOp) (e : Exp) → ExpSame S pending (Unary line op e) → TestSame S pending e → KeepSame (Unary line op e)
   unary_kept line Negation e value law = truth_kept (Unary line Negation e) (λ q ahead t j. refl) (λ q. refl) (not_truth S pending line e law)
-  unary_kept line Neg e value law = leaf_kept (Unary line Neg e) (λ q ahead t j. refl) (λ q. refl) value
-  unary_kept line BitNot e value law = leaf_kept (Unary line BitNot e) (λ q ahead t j. refl) (λ q. refl) value
-  unary_kept line Length e value law = leaf_kept (Unary line Length e) (λ q ahead t j. refl) (λ q. refl) value
+  unary_kept line op e value law = leaf_kept (Unary line op e) (λ q ahead t j. refl) (λ q. refl) value
 
   pub binary_kept : (line : ℕ) (op : BinOp) (e d : Exp) → ExpSame S pending (Binary line op e d) → ExpSame S pending e → ExpSame S pending d → KeepSame (Binary line op e d)
   binary_kept line op e d value law_e law_d = by (sort op)

@@ -4,7 +4,7 @@ use Rattle.int_core.specs.Value.{Value, same_truth, known, integer, boolean, nth
 use Rattle.int_core.specs.Operations.{Event, Operation, arithmetic, computed, by_zero, concat}
 use Rattle.int_core.specs.Ask.{operates, Reply, values, faulted, left, Captured, goes_on}
 use Rattle.tree_core.specs.declared.operator.UnOp.{UnOp}
-use Rattle.tree_core.specs.declared.operator.UnOp.TheVariants.{Neg, BitNot, Not as Negation, Len as Length}
+use Rattle.tree_core.specs.declared.operator.UnOp.TheVariants.{Not as Negation}
 use Rattle.tree_core.specs.declared.operator.BinOp.{BinOp}
 use Rattle.tree_core.specs.declared.operator.BinOp.TheVariants.{Concat as Join, Eq as Equal, Ne, Lt as Less, Le as AtMost, Gt, Ge}
 use Rattle.tree_core.specs.Tree.{Exp}
@@ -92,9 +92,7 @@ module _ (S : Setting) (pending : List Pending) where
       (not_step S.code (of_code S pending pc regs opened) c there.0 there.1 t x has.0 (omega (arith, room, S.small)) (omega (arith, x_room, S.small)) (omega (arith, x_room, rel.room)) (omega (arith, room, rel.room))
       ∙ ap (λ y. goes_on (before (of_code S pending (pc + 1) (write t (known (boolean (not (holds (shape y))))) regs) opened) c)) eq)
       (goes (v ∷ []) env regs c opened (after_none S.hidden S.code.own.stack pending env regs c f rel) (given_one S pending many v)))
-  unary_into Neg n many line x t f pc opened vs env regs c k has inside room x_room rel eq goes = prefix_into Neg (prefix_by Neg tt) n many line x t f pc opened vs env regs c k has inside room x_room rel eq goes
-  unary_into BitNot n many line x t f pc opened vs env regs c k has inside room x_room rel eq goes = prefix_into BitNot (prefix_by BitNot tt) n many line x t f pc opened vs env regs c k has inside room x_room rel eq goes
-  unary_into Length n many line x t f pc opened vs env regs c k has inside room x_room rel eq goes = prefix_into Length (prefix_by Length tt) n many line x t f pc opened vs env regs c k has inside room x_room rel eq goes
+  unary_into op n many line x t f pc opened vs env regs c k has inside room x_room rel eq goes = prefix_into op (prefix_by op tt) n many line x t f pc opened vs env regs c k has inside room x_room rel eq goes
 
   -- arithmetic on the values v and w: an instruction that does it on integers, and one behind it that asks
   module _ (event : Event) (op half : Opcode) (field x y number line t f pc opened : ℕ) (v w : Value) (slots env regs : List Value) (c : Captured) (k : List Work) (s : tree.State)

@@ -4,7 +4,7 @@ use Rattle.int_core.specs.Value.{Value, known, boolean, integer, nth, shape, hol
 use Rattle.int_core.specs.Operations.{Operation}
 use Rattle.int_core.specs.Ask.{operates, Captured}
 use Rattle.tree_core.specs.declared.operator.UnOp.{UnOp}
-use Rattle.tree_core.specs.declared.operator.UnOp.TheVariants.{Neg, BitNot, Not as Negation, Len as Length}
+use Rattle.tree_core.specs.declared.operator.UnOp.TheVariants.{Not as Negation}
 use Rattle.tree_core.specs.declared.operator.BinOp.{BinOp}
 use Rattle.tree_core.specs.declared.operator.BinOp.TheVariants.{Eq as Equal, Ne, Lt as Less, Le as AtMost, Gt, Ge}
 use Rattle.tree_core.specs.Tree.{Exp, True, Unary, Binary, And, Or, Paren}
@@ -273,9 +273,7 @@ module _ (S : Setting) (pending : List Pending) where
   pub unary_tested : (line : ℕ) (op : UnOp) (e : Exp) → ExpSame S pending (Unary line op e) → TestSame e → TestSame (Unary line op e)
   unary_tested line Negation e value law k ahead t j n pc opened env regs c w bound has ok inside le room rel on away =
       truth_tested (Unary line Negation e) (not_truth line e law) k ahead t j n pc opened env regs c w bound has ok inside le room rel on away
-  unary_tested line Neg e value law k ahead t j n pc opened env regs c w bound has ok inside le room rel on away = by_value (Unary line Neg e) value k ahead t j n pc opened env regs c w bound has ok inside le (λ _. room) rel on away
-  unary_tested line BitNot e value law k ahead t j n pc opened env regs c w bound has ok inside le room rel on away = by_value (Unary line BitNot e) value k ahead t j n pc opened env regs c w bound has ok inside le (λ _. room) rel on away
-  unary_tested line Length e value law k ahead t j n pc opened env regs c w bound has ok inside le room rel on away = by_value (Unary line Length e) value k ahead t j n pc opened env regs c w bound has ok inside le (λ _. room) rel on away
+  unary_tested line op e value law k ahead t j n pc opened env regs c w bound has ok inside le room rel on away = by_value (Unary line op e) value k ahead t j n pc opened env regs c w bound has ok inside le (λ _. room) rel on away
 
   pub and_tested : (line : ℕ) (e d : Exp) → TestSame e → TestSame d → TestSame (And line e d)
   and_tested line e d law_e law_d k ahead t j n pc opened env regs c w bound has ok inside le room rel on away =

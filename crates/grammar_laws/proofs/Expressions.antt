@@ -63,16 +63,8 @@ operand_gives Sum = chain_gives Product
 operand_gives Product = unary_gives
 
 right_gives : (level : Level) → GivesExp (right_operand level)
-right_gives Or = operand_gives Or
-right_gives And = operand_gives And
-right_gives Comparison = operand_gives Comparison
-right_gives BitOr = operand_gives BitOr
-right_gives BitXor = operand_gives BitXor
-right_gives BitAnd = operand_gives BitAnd
-right_gives Shift = operand_gives Shift
 right_gives Concat = chain_gives Concat
-right_gives Sum = operand_gives Sum
-right_gives Product = operand_gives Product
+right_gives level = operand_gives level
 
 pub chain_kept : (level : Level) → Kept (chain level)
 chain_kept level room ready =

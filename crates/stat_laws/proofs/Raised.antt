@@ -1,8 +1,8 @@
 -- What holds of a function's pieces for no asks of its inner functions holds for more, where these are alike.
-use Rattle.std.proofs.Common.{◌≡◌, ℕ, ◌+◌, ◌<◌, ◌≤◌, ◌^◌, Bool, true, false, List, [], ◌∷◌, ◌++◌, length, map, Option, Some, None, refl, subst, arith}
+use Rattle.std.proofs.Common.{◌≡◌, ℕ, ◌+◌, ◌<◌, ◌≤◌, ◌^◌, Bool, true, false, List, [], ◌++◌, length, map, Option, Some, None, refl, subst, arith}
 use Rattle.std.specs.Prelude.{slice_get}
 use Rattle.int_core.specs.Value.{Value}
-use Rattle.tree_core.specs.Tree.{Block, Falls, Returns, Body, BodyOf, Stats, EndStats, MoreStats, Stat, Local, LocalFunction, Assign, CallStat, Do, While, Repeat, If, IfElse, NumFor, NumForStep, GenFor, Arms, EndArms, MoreArms, Exp, Nil, True, False, Int, Str, Vararg, Function, Var, Index, Call, Method, Unary, Binary, And, Or, Paren, Table, Exps, EndExps, MoreExps, Fields, EndFields, MoreFields, Item, Keyed}
+use Rattle.tree_core.specs.Tree.{Block, Falls, Returns, Body, BodyOf, Stats, EndStats, MoreStats, Stat, Local, LocalFunction, Assign, CallStat, Do, While, Repeat, If, IfElse, NumFor, NumForStep, GenFor, Arms, EndArms, MoreArms, Exp, Function, Index, Call, Method, Unary, Binary, And, Or, Paren, Table, Exps, EndExps, MoreExps, Fields, EndFields, MoreFields, Item, Keyed}
 use Rattle.tree_terms.specs.Bodies.{upvalues_of}
 use Rattle.code_core.specs.Prototype.{Prototype, list_of}
 use Rattle.code_of.specs.CodeOf.{code_of, upvalue}
@@ -82,38 +82,7 @@ module _ (source : Option (List ℕ)) (p : Prototype) (bound : ℕ) (varargs : L
   last_up hs EndExps t j h g = h
   last_up hs (MoreExps (Call l f es) EndExps) t j h g = (exp_up hs f t j h.0 g.0.0, (exps_up hs es t (j + made_by f) h.1.0 g.0.1, h.1.1))
   last_up hs (MoreExps (Method l o name es) EndExps) t j h g = (exp_up hs o t j h.0 g.0.0, (h.1.0, (exps_up hs es t (j + made_by o) h.1.1.0 g.0.1, h.1.1.1)))
-  last_up hs (MoreExps (Nil l) EndExps) t j h g = (exps_up hs (MoreExps (Nil l) EndExps) t j h.0 g, h.1)
-  last_up hs (MoreExps (True l) EndExps) t j h g = (exps_up hs (MoreExps (True l) EndExps) t j h.0 g, h.1)
-  last_up hs (MoreExps (False l) EndExps) t j h g = (exps_up hs (MoreExps (False l) EndExps) t j h.0 g, h.1)
-  last_up hs (MoreExps (Int l z) EndExps) t j h g = (exps_up hs (MoreExps (Int l z) EndExps) t j h.0 g, h.1)
-  last_up hs (MoreExps (Str l bytes) EndExps) t j h g = (exps_up hs (MoreExps (Str l bytes) EndExps) t j h.0 g, h.1)
-  last_up hs (MoreExps (Vararg l) EndExps) t j h g = (exps_up hs (MoreExps (Vararg l) EndExps) t j h.0 g, h.1)
-  last_up hs (MoreExps (Function l body) EndExps) t j h g = (exps_up hs (MoreExps (Function l body) EndExps) t j h.0 g, h.1)
-  last_up hs (MoreExps (Var l name) EndExps) t j h g = (exps_up hs (MoreExps (Var l name) EndExps) t j h.0 g, h.1)
-  last_up hs (MoreExps (Index l o key) EndExps) t j h g = (exps_up hs (MoreExps (Index l o key) EndExps) t j h.0 g, h.1)
-  last_up hs (MoreExps (Unary l op x) EndExps) t j h g = (exps_up hs (MoreExps (Unary l op x) EndExps) t j h.0 g, h.1)
-  last_up hs (MoreExps (Binary l op x y) EndExps) t j h g = (exps_up hs (MoreExps (Binary l op x y) EndExps) t j h.0 g, h.1)
-  last_up hs (MoreExps (And l x y) EndExps) t j h g = (exps_up hs (MoreExps (And l x y) EndExps) t j h.0 g, h.1)
-  last_up hs (MoreExps (Or l x y) EndExps) t j h g = (exps_up hs (MoreExps (Or l x y) EndExps) t j h.0 g, h.1)
-  last_up hs (MoreExps (Paren l x) EndExps) t j h g = (exps_up hs (MoreExps (Paren l x) EndExps) t j h.0 g, h.1)
-  last_up hs (MoreExps (Table l fs) EndExps) t j h g = (exps_up hs (MoreExps (Table l fs) EndExps) t j h.0 g, h.1)
-  last_up hs (MoreExps (Nil l) (MoreExps d es)) t j h g = (exps_up hs (MoreExps (Nil l) (MoreExps d es)) t j h.0 g, h.1)
-  last_up hs (MoreExps (True l) (MoreExps d es)) t j h g = (exps_up hs (MoreExps (True l) (MoreExps d es)) t j h.0 g, h.1)
-  last_up hs (MoreExps (False l) (MoreExps d es)) t j h g = (exps_up hs (MoreExps (False l) (MoreExps d es)) t j h.0 g, h.1)
-  last_up hs (MoreExps (Int l z) (MoreExps d es)) t j h g = (exps_up hs (MoreExps (Int l z) (MoreExps d es)) t j h.0 g, h.1)
-  last_up hs (MoreExps (Str l bytes) (MoreExps d es)) t j h g = (exps_up hs (MoreExps (Str l bytes) (MoreExps d es)) t j h.0 g, h.1)
-  last_up hs (MoreExps (Vararg l) (MoreExps d es)) t j h g = (exps_up hs (MoreExps (Vararg l) (MoreExps d es)) t j h.0 g, h.1)
-  last_up hs (MoreExps (Function l body) (MoreExps d es)) t j h g = (exps_up hs (MoreExps (Function l body) (MoreExps d es)) t j h.0 g, h.1)
-  last_up hs (MoreExps (Var l name) (MoreExps d es)) t j h g = (exps_up hs (MoreExps (Var l name) (MoreExps d es)) t j h.0 g, h.1)
-  last_up hs (MoreExps (Index l o key) (MoreExps d es)) t j h g = (exps_up hs (MoreExps (Index l o key) (MoreExps d es)) t j h.0 g, h.1)
-  last_up hs (MoreExps (Unary l op x) (MoreExps d es)) t j h g = (exps_up hs (MoreExps (Unary l op x) (MoreExps d es)) t j h.0 g, h.1)
-  last_up hs (MoreExps (Binary l op x y) (MoreExps d es)) t j h g = (exps_up hs (MoreExps (Binary l op x y) (MoreExps d es)) t j h.0 g, h.1)
-  last_up hs (MoreExps (And l x y) (MoreExps d es)) t j h g = (exps_up hs (MoreExps (And l x y) (MoreExps d es)) t j h.0 g, h.1)
-  last_up hs (MoreExps (Or l x y) (MoreExps d es)) t j h g = (exps_up hs (MoreExps (Or l x y) (MoreExps d es)) t j h.0 g, h.1)
-  last_up hs (MoreExps (Paren l x) (MoreExps d es)) t j h g = (exps_up hs (MoreExps (Paren l x) (MoreExps d es)) t j h.0 g, h.1)
-  last_up hs (MoreExps (Table l fs) (MoreExps d es)) t j h g = (exps_up hs (MoreExps (Table l fs) (MoreExps d es)) t j h.0 g, h.1)
-  last_up hs (MoreExps (Call l f args) (MoreExps d es)) t j h g = (exps_up hs (MoreExps (Call l f args) (MoreExps d es)) t j h.0 g, h.1)
-  last_up hs (MoreExps (Method l o name args) (MoreExps d es)) t j h g = (exps_up hs (MoreExps (Method l o name args) (MoreExps d es)) t j h.0 g, h.1)
+  last_up hs es t j h g = (exps_up hs es t j h.0 g, h.1)
 
   pub return_up : (hs : Hidden) (es : Exps) (closing : Bool) (t j : ℕ) → ReturnIsPlaced (low hs) es closing t j → InExps source p es j → ReturnIsPlaced (high hs) es closing t j
   return_up hs es false t j h g = last_up hs es t j h g

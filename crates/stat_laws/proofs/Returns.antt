@@ -77,40 +77,7 @@ return_some cs false (MoreExps (Method l o name es) EndExps) t j line back =
     let two = length-append b (d ++ last) in
     let three = length-append d last in
     omega (arith, one, two, three)
-return_some cs false EndExps t j line back = last_some cs EndExps t j line back
-return_some cs false (MoreExps (Nil l) EndExps) t j line back = last_some cs (MoreExps (Nil l) EndExps) t j line back
-return_some cs false (MoreExps (True l) EndExps) t j line back = last_some cs (MoreExps (True l) EndExps) t j line back
-return_some cs false (MoreExps (False l) EndExps) t j line back = last_some cs (MoreExps (False l) EndExps) t j line back
-return_some cs false (MoreExps (Int l z) EndExps) t j line back = last_some cs (MoreExps (Int l z) EndExps) t j line back
-return_some cs false (MoreExps (Str l bytes) EndExps) t j line back = last_some cs (MoreExps (Str l bytes) EndExps) t j line back
-return_some cs false (MoreExps (Vararg l) EndExps) t j line back = last_some cs (MoreExps (Vararg l) EndExps) t j line back
-return_some cs false (MoreExps (Function l body) EndExps) t j line back = last_some cs (MoreExps (Function l body) EndExps) t j line back
-return_some cs false (MoreExps (Var l name) EndExps) t j line back = last_some cs (MoreExps (Var l name) EndExps) t j line back
-return_some cs false (MoreExps (Index l o key) EndExps) t j line back = last_some cs (MoreExps (Index l o key) EndExps) t j line back
-return_some cs false (MoreExps (Unary l op x) EndExps) t j line back = last_some cs (MoreExps (Unary l op x) EndExps) t j line back
-return_some cs false (MoreExps (Binary l op x y) EndExps) t j line back = last_some cs (MoreExps (Binary l op x y) EndExps) t j line back
-return_some cs false (MoreExps (And l x y) EndExps) t j line back = last_some cs (MoreExps (And l x y) EndExps) t j line back
-return_some cs false (MoreExps (Or l x y) EndExps) t j line back = last_some cs (MoreExps (Or l x y) EndExps) t j line back
-return_some cs false (MoreExps (Paren l x) EndExps) t j line back = last_some cs (MoreExps (Paren l x) EndExps) t j line back
-return_some cs false (MoreExps (Table l fs) EndExps) t j line back = last_some cs (MoreExps (Table l fs) EndExps) t j line back
-return_some cs false (MoreExps (Nil l) (MoreExps d es)) t j line back = last_some cs (MoreExps (Nil l) (MoreExps d es)) t j line back
-return_some cs false (MoreExps (True l) (MoreExps d es)) t j line back = last_some cs (MoreExps (True l) (MoreExps d es)) t j line back
-return_some cs false (MoreExps (False l) (MoreExps d es)) t j line back = last_some cs (MoreExps (False l) (MoreExps d es)) t j line back
-return_some cs false (MoreExps (Int l z) (MoreExps d es)) t j line back = last_some cs (MoreExps (Int l z) (MoreExps d es)) t j line back
-return_some cs false (MoreExps (Str l bytes) (MoreExps d es)) t j line back = last_some cs (MoreExps (Str l bytes) (MoreExps d es)) t j line back
-return_some cs false (MoreExps (Vararg l) (MoreExps d es)) t j line back = last_some cs (MoreExps (Vararg l) (MoreExps d es)) t j line back
-return_some cs false (MoreExps (Function l body) (MoreExps d es)) t j line back = last_some cs (MoreExps (Function l body) (MoreExps d es)) t j line back
-return_some cs false (MoreExps (Var l name) (MoreExps d es)) t j line back = last_some cs (MoreExps (Var l name) (MoreExps d es)) t j line back
-return_some cs false (MoreExps (Index l o key) (MoreExps d es)) t j line back = last_some cs (MoreExps (Index l o key) (MoreExps d es)) t j line back
-return_some cs false (MoreExps (Unary l op x) (MoreExps d es)) t j line back = last_some cs (MoreExps (Unary l op x) (MoreExps d es)) t j line back
-return_some cs false (MoreExps (Binary l op x y) (MoreExps d es)) t j line back = last_some cs (MoreExps (Binary l op x y) (MoreExps d es)) t j line back
-return_some cs false (MoreExps (And l x y) (MoreExps d es)) t j line back = last_some cs (MoreExps (And l x y) (MoreExps d es)) t j line back
-return_some cs false (MoreExps (Or l x y) (MoreExps d es)) t j line back = last_some cs (MoreExps (Or l x y) (MoreExps d es)) t j line back
-return_some cs false (MoreExps (Paren l x) (MoreExps d es)) t j line back = last_some cs (MoreExps (Paren l x) (MoreExps d es)) t j line back
-return_some cs false (MoreExps (Table l fs) (MoreExps d es)) t j line back = last_some cs (MoreExps (Table l fs) (MoreExps d es)) t j line back
-return_some cs false (MoreExps (Call l f args) (MoreExps d es)) t j line back = last_some cs (MoreExps (Call l f args) (MoreExps d es)) t j line back
-return_some cs false (MoreExps (Method l o name args) (MoreExps d es)) t j line back = last_some cs (MoreExps (Method l o name args) (MoreExps d es)) t j line back
-return_some cs true es t j line back = last_some cs es t j line back
+return_some cs closing es t j line back = last_some cs es t j line back
 
 module _ (S : Setting) where
   -- RETURN of no values

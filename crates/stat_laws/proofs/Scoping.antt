@@ -2,7 +2,7 @@
 use Rattle.std.proofs.Common.{lt-ltb, ◌≡◌, ℕ, zero, suc, ◌+◌, Bool, true, false, cond, ◌||◌, List, [], ◌∷◌, ◌++◌, length, Option, Some, None, refl, sym, ap, ◌∙◌, arith}
 use Rattle.std.specs.Prelude.{nat_lt}
 use Rattle.tree_core.specs.declared.name.UpName.{UpName}
-use Rattle.tree_core.specs.Tree.{Block, Falls, Returns, Body, Stats, EndStats, MoreStats, Stat, Local, LocalFunction, Assign, CallStat, Do, While, Repeat, If, IfElse, NumFor, NumForStep, GenFor, Arms, EndArms, MoreArms, Exp, Nil, True, False, Int, Str, Vararg, Function, Var, Index, Call, Method, Unary, Binary, And, Or, Paren, Table, Exps, EndExps, MoreExps, Fields, EndFields, MoreFields, Item, Keyed}
+use Rattle.tree_core.specs.Tree.{Block, Falls, Returns, Body, Stats, EndStats, MoreStats, Stat, Local, LocalFunction, Assign, CallStat, Do, While, Repeat, If, IfElse, NumFor, NumForStep, GenFor, Arms, EndArms, MoreArms, Exp, Function, Index, Call, Method, Unary, Binary, And, Or, Paren, Table, Exps, EndExps, MoreExps, Fields, EndFields, MoreFields, Item, Keyed}
 use Rattle.tree_terms.specs.Bodies.{upvalues_of}
 use Rattle.code_of.specs.Operands.{assigned, second_assigned}
 use Rattle.code_of.specs.Coded.{Coded}
@@ -129,38 +129,7 @@ module _ (captures : Bool) (level : ℕ) (whole : Bool) where
   last_scoped S EndExps t j h g = h
   last_scoped S (MoreExps (Call l f es) EndExps) t j h g = (exp_scoped S f t j h.0 (λ is. omega (arith, g is)), (exps_scoped S es t (j + made_by f) h.1.0 (λ is. omega (arith, g is)), h.1.1))
   last_scoped S (MoreExps (Method l o name es) EndExps) t j h g = (exp_scoped S o t j h.0 (λ is. omega (arith, g is)), (h.1.0, (exps_scoped S es t (j + made_by o) h.1.1.0 (λ is. omega (arith, g is)), h.1.1.1)))
-  last_scoped S (MoreExps (Nil l) EndExps) t j h g = (exps_scoped S (MoreExps (Nil l) EndExps) t j h.0 g, h.1)
-  last_scoped S (MoreExps (True l) EndExps) t j h g = (exps_scoped S (MoreExps (True l) EndExps) t j h.0 g, h.1)
-  last_scoped S (MoreExps (False l) EndExps) t j h g = (exps_scoped S (MoreExps (False l) EndExps) t j h.0 g, h.1)
-  last_scoped S (MoreExps (Int l z) EndExps) t j h g = (exps_scoped S (MoreExps (Int l z) EndExps) t j h.0 g, h.1)
-  last_scoped S (MoreExps (Str l bytes) EndExps) t j h g = (exps_scoped S (MoreExps (Str l bytes) EndExps) t j h.0 g, h.1)
-  last_scoped S (MoreExps (Vararg l) EndExps) t j h g = (exps_scoped S (MoreExps (Vararg l) EndExps) t j h.0 g, h.1)
-  last_scoped S (MoreExps (Function l body) EndExps) t j h g = (exps_scoped S (MoreExps (Function l body) EndExps) t j h.0 g, h.1)
-  last_scoped S (MoreExps (Var l name) EndExps) t j h g = (exps_scoped S (MoreExps (Var l name) EndExps) t j h.0 g, h.1)
-  last_scoped S (MoreExps (Index l o key) EndExps) t j h g = (exps_scoped S (MoreExps (Index l o key) EndExps) t j h.0 g, h.1)
-  last_scoped S (MoreExps (Unary l op x) EndExps) t j h g = (exps_scoped S (MoreExps (Unary l op x) EndExps) t j h.0 g, h.1)
-  last_scoped S (MoreExps (Binary l op x y) EndExps) t j h g = (exps_scoped S (MoreExps (Binary l op x y) EndExps) t j h.0 g, h.1)
-  last_scoped S (MoreExps (And l x y) EndExps) t j h g = (exps_scoped S (MoreExps (And l x y) EndExps) t j h.0 g, h.1)
-  last_scoped S (MoreExps (Or l x y) EndExps) t j h g = (exps_scoped S (MoreExps (Or l x y) EndExps) t j h.0 g, h.1)
-  last_scoped S (MoreExps (Paren l x) EndExps) t j h g = (exps_scoped S (MoreExps (Paren l x) EndExps) t j h.0 g, h.1)
-  last_scoped S (MoreExps (Table l fs) EndExps) t j h g = (exps_scoped S (MoreExps (Table l fs) EndExps) t j h.0 g, h.1)
-  last_scoped S (MoreExps (Nil l) (MoreExps d es)) t j h g = (exps_scoped S (MoreExps (Nil l) (MoreExps d es)) t j h.0 g, h.1)
-  last_scoped S (MoreExps (True l) (MoreExps d es)) t j h g = (exps_scoped S (MoreExps (True l) (MoreExps d es)) t j h.0 g, h.1)
-  last_scoped S (MoreExps (False l) (MoreExps d es)) t j h g = (exps_scoped S (MoreExps (False l) (MoreExps d es)) t j h.0 g, h.1)
-  last_scoped S (MoreExps (Int l z) (MoreExps d es)) t j h g = (exps_scoped S (MoreExps (Int l z) (MoreExps d es)) t j h.0 g, h.1)
-  last_scoped S (MoreExps (Str l bytes) (MoreExps d es)) t j h g = (exps_scoped S (MoreExps (Str l bytes) (MoreExps d es)) t j h.0 g, h.1)
-  last_scoped S (MoreExps (Vararg l) (MoreExps d es)) t j h g = (exps_scoped S (MoreExps (Vararg l) (MoreExps d es)) t j h.0 g, h.1)
-  last_scoped S (MoreExps (Function l body) (MoreExps d es)) t j h g = (exps_scoped S (MoreExps (Function l body) (MoreExps d es)) t j h.0 g, h.1)
-  last_scoped S (MoreExps (Var l name) (MoreExps d es)) t j h g = (exps_scoped S (MoreExps (Var l name) (MoreExps d es)) t j h.0 g, h.1)
-  last_scoped S (MoreExps (Index l o key) (MoreExps d es)) t j h g = (exps_scoped S (MoreExps (Index l o key) (MoreExps d es)) t j h.0 g, h.1)
-  last_scoped S (MoreExps (Unary l op x) (MoreExps d es)) t j h g = (exps_scoped S (MoreExps (Unary l op x) (MoreExps d es)) t j h.0 g, h.1)
-  last_scoped S (MoreExps (Binary l op x y) (MoreExps d es)) t j h g = (exps_scoped S (MoreExps (Binary l op x y) (MoreExps d es)) t j h.0 g, h.1)
-  last_scoped S (MoreExps (And l x y) (MoreExps d es)) t j h g = (exps_scoped S (MoreExps (And l x y) (MoreExps d es)) t j h.0 g, h.1)
-  last_scoped S (MoreExps (Or l x y) (MoreExps d es)) t j h g = (exps_scoped S (MoreExps (Or l x y) (MoreExps d es)) t j h.0 g, h.1)
-  last_scoped S (MoreExps (Paren l x) (MoreExps d es)) t j h g = (exps_scoped S (MoreExps (Paren l x) (MoreExps d es)) t j h.0 g, h.1)
-  last_scoped S (MoreExps (Table l fs) (MoreExps d es)) t j h g = (exps_scoped S (MoreExps (Table l fs) (MoreExps d es)) t j h.0 g, h.1)
-  last_scoped S (MoreExps (Call l f args) (MoreExps d es)) t j h g = (exps_scoped S (MoreExps (Call l f args) (MoreExps d es)) t j h.0 g, h.1)
-  last_scoped S (MoreExps (Method l o name args) (MoreExps d es)) t j h g = (exps_scoped S (MoreExps (Method l o name args) (MoreExps d es)) t j h.0 g, h.1)
+  last_scoped S es t j h g = (exps_scoped S es t j h.0 g, h.1)
 
   pub return_scoped : (S : Setting) (es : Exps) (closing : Bool) (t j : ℕ) → ReturnIsPlaced S es closing t j → Free (made_in es) → ReturnIsPlaced (inside S captures level whole) es closing t j
   return_scoped S es false t j h g = last_scoped S es t j h g

@@ -5,7 +5,7 @@ use Rattle.int_core.specs.Ask.{reads_upvalue, Captured, goes_on}
 use Rattle.tree_core.specs.declared.name.Name.{Name}
 use Rattle.tree_core.specs.declared.name.Place.{Place}
 use Rattle.tree_core.specs.declared.name.Place.TheVariants.{Unset, Upvalue, GlobalIn, GlobalOf, Local as LocalPlace}
-use Rattle.tree_core.specs.Tree.{Exp, Nil, True, False, Int, Str, Vararg, Function, Var, Index, Call, Method, Unary, Binary, And, Or, Paren, Table, Exps, EndExps, MoreExps}
+use Rattle.tree_core.specs.Tree.{Exp, Var, Index, Exps, EndExps, MoreExps}
 use Rattle.tree_activation.specs.Work.{evaluate, give, collect, aim, Target, to_local, to_upvalue, to_field, for_assignment, aimed_key, aimed_field, Work, Pending}
 use Rattle.tree_activation.specs.Work as tree
 use Rattle.tree_activation.specs.Activation.{step}
@@ -232,21 +232,7 @@ module _ (S : Setting) (ps : List Pending) where
   pub target_aims : (e : Exp) → AimLaw e
   target_aims (Var l name) = variable_aims l name
   target_aims (Index l o key) = index_aims l o key
-  target_aims (Nil l) = no_target (Nil l) (λ is. is)
-  target_aims (True l) = no_target (True l) (λ is. is)
-  target_aims (False l) = no_target (False l) (λ is. is)
-  target_aims (Int l z) = no_target (Int l z) (λ is. is)
-  target_aims (Str l bytes) = no_target (Str l bytes) (λ is. is)
-  target_aims (Vararg l) = no_target (Vararg l) (λ is. is)
-  target_aims (Function l body) = no_target (Function l body) (λ is. is)
-  target_aims (Call l f args) = no_target (Call l f args) (λ is. is)
-  target_aims (Method l o name args) = no_target (Method l o name args) (λ is. is)
-  target_aims (Unary l op x) = no_target (Unary l op x) (λ is. is)
-  target_aims (Binary l op x y) = no_target (Binary l op x y) (λ is. is)
-  target_aims (And l x y) = no_target (And l x y) (λ is. is)
-  target_aims (Or l x y) = no_target (Or l x y) (λ is. is)
-  target_aims (Paren l x) = no_target (Paren l x) (λ is. is)
-  target_aims (Table l fs) = no_target (Table l fs) (λ is. is)
+  target_aims e = no_target e (λ is. is)
 
   -- all targets, and the values are next
   pub aim_goes : (ts : Exps) (r t n j pc opened : ℕ) (es : Exps) (aimed : List Target) (env regs : List Value) (c : Captured) (k : List Work)
