@@ -9,24 +9,28 @@ use Rattle.lib_coroutine.proofs.resuming.resume_coroutine.Goals as goal
 pub get-requires : goal.get-requires
 get-requires c = coroutine_there c.requires.sound c.args.co c.requires.first
 
-pub begin-requires-clause-fresh : goal.begin-requires-clause-fresh
-begin-requires-clause-fresh c =
-    c.get.ensures ∙ ap (λ c. Some c) (begins_is c.get.result.now c.len.result c.in-Begins.body (sym c.outcome_of.ensures ∙ c.in-Begins.is)).0
-
-pub begin-requires-clause-few : goal.begin-requires-clause-few
-begin-requires-clause-few c =
+pub begin-requires : goal.begin-requires
+begin-requires c =
     let n : c.len.result ≡ length c.args.world.now.chain.items = search rules in
-    subst (λ n. n ≤ greatest_resumes) n (begins_is c.get.result.now c.len.result c.in-Begins.body (sym c.outcome_of.ensures ∙ c.in-Begins.is)).1
+    record {
+      sound = c.requires.sound;
+      running = c.requires.running;
+      first = c.requires.first;
+      fresh = c.get.ensures ∙ ap (λ c. Some c) (begins_is c.get.result.now c.len.result c.in-Begins.body (sym c.outcome_of.ensures ∙ c.in-Begins.is)).0;
+      few = subst (λ n. n ≤ greatest_resumes) n (begins_is c.get.result.now c.len.result c.in-Begins.body (sym c.outcome_of.ensures ∙ c.in-Begins.is)).1;
+    }
 
-pub go_on-requires-clause-suspended : goal.go_on-requires-clause-suspended
-go_on-requires-clause-suspended c =
+pub go_on-requires : goal.go_on-requires
+go_on-requires c =
     let k = goes_on_is c.get.result.now c.len.result (sym c.outcome_of.ensures ∙ c.in-GoesOn.is) in
-    record { stack = k.0; there = c.get.ensures ∙ ap (λ c. Some c) k.1 }
-
-pub go_on-requires-clause-few : goal.go_on-requires-clause-few
-go_on-requires-clause-few c =
     let n : c.len.result ≡ length c.args.world.now.chain.items = search rules in
-    subst (λ n. n ≤ greatest_resumes) n (goes_on_is c.get.result.now c.len.result (sym c.outcome_of.ensures ∙ c.in-GoesOn.is)).2
+    record {
+      sound = c.requires.sound;
+      running = c.requires.running;
+      first = c.requires.first;
+      suspended = record { stack = k.0; there = c.get.ensures ∙ ap (λ c. Some c) k.1 };
+      few = subst (λ n. n ≤ greatest_resumes) n (goes_on_is c.get.result.now c.len.result (sym c.outcome_of.ensures ∙ c.in-GoesOn.is)).2;
+    }
 
 pub answer_refusal-requires-clause-refused : goal.answer_refusal-requires-clause-refused
 answer_refusal-requires-clause-refused c =

@@ -7,19 +7,13 @@ use Rattle.source_builds.proofs.Lookups.{read_some}
 use Rattle.lua_driver.proofs.Turned.{quiet_may, ready_by, sound_of, turned, waits_again}
 use Rattle.lua_driver.proofs.turning.turn.Goals as goal
 
-pub resume_main-requires-clause-sound : goal.resume_main-requires-clause-sound
-resume_main-requires-clause-sound c =
+pub resume_main-requires : goal.resume_main-requires
+resume_main-requires c =
     let W : Memory = c.args.world.now in
     let quiet : Memory = record W { printed = c.clear.new.self } in
     let none : quiet.printed.items ≡ [] = search rules in
-    sound_of quiet (quiet_may W quiet c.requires refl none)
-
-pub resume_main-requires-clause-may : goal.resume_main-requires-clause-may
-resume_main-requires-clause-may c =
-    let W : Memory = c.args.world.now in
-    let quiet : Memory = record W { printed = c.clear.new.self } in
-    let none : quiet.printed.items ≡ [] = search rules in
-    (quiet_may W quiet c.requires refl none).may
+    let q = quiet_may W quiet c.requires refl none in
+    record { sound = sound_of quiet q; may = q.may }
 
 pub run-requires : goal.run-requires
 run-requires c =

@@ -2,15 +2,12 @@ use Rattle.std.proofs.Common.{length, arith}
 use Rattle.lua_stack.proofs.PendingValues.{next_frame, stacked_at}
 use Rattle.lua_stack.proofs.pending.add_all_pending.Goals as goal
 
-pub add_pending-requires-clause-marks : goal.add_pending-requires-clause-marks
-add_pending-requires-clause-marks c = (stacked_at (length c.args.values.now) (length c.args.pending.now) c.args.frames.now c.loop-k.k c.frame_in.result c.requires c.frame_in.ensures).marks_end
-
-pub add_pending-requires-clause-kept : goal.add_pending-requires-clause-kept
-add_pending-requires-clause-kept c =
+pub add_pending-requires : goal.add_pending-requires
+add_pending-requires c =
     let w = stacked_at (length c.args.values.now) (length c.args.pending.now) c.args.frames.now c.loop-k.k c.frame_in.result c.requires c.frame_in.ensures in
     let e = w.end in
     let k = w.kept in
-    omega (arith, e, k)
+    record { marks = (stacked_at (length c.args.values.now) (length c.args.pending.now) c.args.frames.now c.loop-k.k c.frame_in.result c.requires c.frame_in.ensures).marks_end; kept = omega (arith, e, k) }
 
 pub loop-k-preserved : goal.loop-k-preserved
 loop-k-preserved c =

@@ -34,11 +34,8 @@ returns-then-eq-clause-goes c =
 pub set_above-requires : goal.set_above-requires
 set_above-requires c = each_value c.requires 2 (omega arith)
 
-pub back-requires-clause-there : goal.back-requires-clause-there
-back-requires-clause-there c = next_there c.requires refl
-
-pub back-requires-clause-near : goal.back-requires-clause-near
-back-requires-clause-near c = let l = each_back c.requires in let m = l.0 in let e = c.bx.ensures in omega (arith, m, e)
+pub back-requires : goal.back-requires
+back-requires c = let l = each_back c.requires in let m = l.0 in let e = c.bx.ensures in record { there = next_there c.requires refl; near = omega (arith, m, e) }
 
 pub returns-clause-goes : goal.returns-clause-goes
 returns-clause-goes c = each_goes c.get_above-v.result c.requires c.get_above-v.ensures (sym c.eq.ensures ∙ c.if-eq.false) c.in_ok-pay.ensures.paid c.set_above.ensures (c.back.ensures ∙ ap (λ d. c.args.pc + 1 - d) c.bx.ensures)

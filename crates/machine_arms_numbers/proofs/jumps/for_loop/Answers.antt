@@ -46,11 +46,8 @@ set_above_integer-requires-2 c = let l = loop_register 0 (omega arith) c.require
 pub set_above_integer-requires-3 : goal.set_above_integer-requires-3
 set_above_integer-requires-3 c = let l = loop_register 3 (omega arith) c.requires in let e = ap length c.set_above_integer.ensures ∙ length_set c.args.registers.now _ _ in let f = ap length c.set_above_integer-2.ensures ∙ length_set c.set_above_integer.new.registers _ _ in omega (arith, l, e, f)
 
-pub back-requires-clause-there : goal.back-requires-clause-there
-back-requires-clause-there c = next_there c.requires refl
-
-pub back-requires-clause-near : goal.back-requires-clause-near
-back-requires-clause-near c = let l = loop_back c.requires in let m = l.0 in let e = c.bx.ensures in omega (arith, m, e)
+pub back-requires : goal.back-requires
+back-requires c = let l = loop_back c.requires in let m = l.0 in let e = c.bx.ensures in record { there = next_there c.requires refl; near = omega (arith, m, e) }
 
 pub returns-clause-goes : goal.returns-clause-goes
 returns-clause-goes c =

@@ -31,14 +31,12 @@ returns-then-not-leads_back-clause-goes c =
     let e : c.distance_of-distance.result ≡ distance_of c.sj-by.result = search rules in
     forward_does c.sj-by.result c.requires (sym c.sj-by.ensures) z (c.behind.ensures ∙ ap (λ d. c.args.pc + (d + 1)) e)
 
-pub back-requires-clause-there : goal.back-requires-clause-there
-back-requires-clause-there c = next_there c.requires refl
-
-pub back-requires-clause-near : goal.back-requires-clause-near
-back-requires-clause-near c =
+pub back-requires : goal.back-requires
+back-requires c =
     let z : leads_back c.sj-by.result ≡ true = search rules in
     let e : c.distance_of-distance.result ≡ distance_of c.sj-by.result = search rules in
-    let l = back_fits c.sj-by.result c.requires (sym c.sj-by.ensures) z in omega (arith, l, e)
+    let l = back_fits c.sj-by.result c.requires (sym c.sj-by.ensures) z in
+    record { there = next_there c.requires refl; near = omega (arith, l, e) }
 
 pub returns-clause-goes : goal.returns-clause-goes
 returns-clause-goes c =

@@ -13,11 +13,12 @@ use Rattle.machine_arms_tables.proofs.reads.get_method.Goals as goal
 pub register-object-requires : goal.register-object-requires
 register-object-requires c = below c.b.ensures (register_there c.requires 1 (b_of c.args.i) refl)
 
-pub operand-key-requires-clause-constant : goal.operand-key-requires-clause-constant
-operand-key-requires-clause-constant c = operand_constant c.requires name (λ k. cond k ((name, c_of c.args.i) ∷ []) []) 0 refl refl
-
-pub operand-key-requires-clause-register : goal.operand-key-requires-clause-register
-operand-key-requires-clause-register c = operand_register c.requires (λ k. (a_of c.args.i + 1) ∷ b_of c.args.i ∷ cond k [] (c_of c.args.i ∷ [])) 2 refl refl
+pub operand-key-requires : goal.operand-key-requires
+operand-key-requires c =
+    record {
+      constant = operand_constant c.requires name (λ k. cond k ((name, c_of c.args.i) ∷ []) []) 0 refl refl;
+      register = operand_register c.requires (λ k. (a_of c.args.i + 1) ∷ b_of c.args.i ∷ cond k [] (c_of c.args.i ∷ [])) 2 refl refl;
+    }
 
 pub set_register-requires : goal.set_register-requires
 set_register-requires c = let l = register_there c.requires 0 (a_of c.args.i + 1) refl in let e = c.a-a.ensures in omega (arith, l, e)

@@ -12,11 +12,9 @@ use Rattle.machine_arms_tables.proofs.writes.set_integer.Goals as goal
 pub register-object-requires : goal.register-object-requires
 register-object-requires c = below c.a.ensures (register_there c.requires 0 (a_of c.args.i) refl)
 
-pub operand-v-requires-clause-constant : goal.operand-v-requires-clause-constant
-operand-v-requires-clause-constant c = operand_constant c.requires anything (λ k. cond k ((anything, c_of c.args.i) ∷ []) []) 0 refl refl
-
-pub operand-v-requires-clause-register : goal.operand-v-requires-clause-register
-operand-v-requires-clause-register c = operand_register c.requires (λ k. a_of c.args.i ∷ cond k [] (c_of c.args.i ∷ [])) 1 refl refl
+pub operand-v-requires : goal.operand-v-requires
+operand-v-requires c =
+    record { constant = operand_constant c.requires anything (λ k. cond k ((anything, c_of c.args.i) ∷ []) []) 0 refl refl; register = operand_register c.requires (λ k. a_of c.args.i ∷ cond k [] (c_of c.args.i ∷ [])) 1 refl refl }
 
 pub next-requires : goal.next-requires
 next-requires c = next_there c.requires refl

@@ -17,11 +17,8 @@ pub read_values-requires-clause-safe : goal.read_values-requires-clause-safe
 read_values-requires-clause-safe c =
     may_read c.args.function c.args.count (call_text c.args.keeps c.args.iterates) c.read_register-called.result (c.requires.safe no_code 0) c.read_register-called.ensures
 
-pub make_ready-requires-clause-order : goal.make_ready-requires-clause-order
-make_ready-requires-clause-order c = c.requires.sound.order
-
-pub make_ready-requires-clause-ready : goal.make_ready-requires-clause-ready
-make_ready-requires-clause-ready c = can_prepare c.args.world.now c.args.keeps c.requires.sound c.requires.keeps
+pub make_ready-requires : goal.make_ready-requires
+make_ready-requires c = record { order = c.requires.sound.order; ready = can_prepare c.args.world.now c.args.keeps c.requires.sound c.requires.keeps }
 
 pub returns-clause-calls : goal.returns-clause-calls
 returns-clause-calls c =

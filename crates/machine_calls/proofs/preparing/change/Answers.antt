@@ -7,26 +7,20 @@ use Rattle.machine_calls.proofs.preparing.change.Goals as goal
 pub set-requires : goal.set-requires
 set-requires c = registers_of (c.in-Copied.register + 1) (omega arith) (subst (λ p. CanChange c.args.stack.now p c.args.stack_size) c.in-Copied.is c.requires)
 
-pub give_up-requires-clause-top : goal.give_up-requires-clause-top
-give_up-requires-clause-top c = (subst (λ p. CanChange c.args.stack.now p c.args.stack_size) c.in-GivenUp.is c.requires).0
+pub give_up-requires : goal.give_up-requires
+give_up-requires c =
+    let k = subst (λ p. CanChange c.args.stack.now p c.args.stack_size) c.in-GivenUp.is c.requires in
+    record { top = k.0; within = k.1; closed = k.2 }
 
-pub give_up-requires-clause-within : goal.give_up-requires-clause-within
-give_up-requires-clause-within c = (subst (λ p. CanChange c.args.stack.now p c.args.stack_size) c.in-GivenUp.is c.requires).1
+pub leave_so-requires : goal.leave_so-requires
+leave_so-requires c =
+    let k = subst (λ p. CanChange c.args.stack.now p c.args.stack_size) c.in-LeftSo.is c.requires in
+    record { top = k.0; closed = k.1 }
 
-pub give_up-requires-clause-closed : goal.give_up-requires-clause-closed
-give_up-requires-clause-closed c = (subst (λ p. CanChange c.args.stack.now p c.args.stack_size) c.in-GivenUp.is c.requires).2
-
-pub leave_so-requires-clause-top : goal.leave_so-requires-clause-top
-leave_so-requires-clause-top c = (subst (λ p. CanChange c.args.stack.now p c.args.stack_size) c.in-LeftSo.is c.requires).0
-
-pub leave_so-requires-clause-closed : goal.leave_so-requires-clause-closed
-leave_so-requires-clause-closed c = (subst (λ p. CanChange c.args.stack.now p c.args.stack_size) c.in-LeftSo.is c.requires).1
-
-pub return_so-requires-clause-top : goal.return_so-requires-clause-top
-return_so-requires-clause-top c = (subst (λ p. CanChange c.args.stack.now p c.args.stack_size) c.in-ReturnedSo.is c.requires).0
-
-pub return_so-requires-clause-closed : goal.return_so-requires-clause-closed
-return_so-requires-clause-closed c = (subst (λ p. CanChange c.args.stack.now p c.args.stack_size) c.in-ReturnedSo.is c.requires).1
+pub return_so-requires : goal.return_so-requires
+return_so-requires c =
+    let k = subst (λ p. CanChange c.args.stack.now p c.args.stack_size) c.in-ReturnedSo.is c.requires in
+    record { top = k.0; closed = k.1 }
 
 pub take_pending-requires : goal.take_pending-requires
 take_pending-requires c = lua_top_of (subst (λ p. CanChange c.args.stack.now p c.args.stack_size) c.in-Closed.is c.requires)

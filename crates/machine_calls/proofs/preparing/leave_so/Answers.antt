@@ -5,11 +5,12 @@ use Rattle.machine_calls.proofs.preparing.leave_so.Goals as goal
 pub take_pending-requires : goal.take_pending-requires
 take_pending-requires c = lua_top_of c.requires.top
 
-pub keep_pending-requires-clause-there : goal.keep_pending-requires-clause-there
-keep_pending-requires-clause-there c = registers_of c.args.stack_size (omega arith) (top_after c.args.stack_size c.requires.top c.take_pending.ensures c.requires.top.room)
-
-pub keep_pending-requires-clause-closed : goal.keep_pending-requires-clause-closed
-keep_pending-requires-clause-closed c = none_after c.args.stack_size c.requires.top c.take_pending.ensures c.requires.closed
+pub keep_pending-requires : goal.keep_pending-requires
+keep_pending-requires c =
+    record {
+      there = registers_of c.args.stack_size (omega arith) (top_after c.args.stack_size c.requires.top c.take_pending.ensures c.requires.top.room);
+      closed = none_after c.args.stack_size c.requires.top c.take_pending.ensures c.requires.closed;
+    }
 
 pub returns : goal.returns
 returns c = both c.take_pending.ensures c.keep_pending.ensures

@@ -7,11 +7,10 @@ use Rattle.machine_errors.proofs.Texts.{texts_in_order, texts_read_same}
 use Rattle.machine_calls.proofs.Blamed.{prepared_after, raises_over}
 use Rattle.machine_calls.proofs.waiting.raise_over.Goals as goal
 
-pub make_ready-requires-clause-order : goal.make_ready-requires-clause-order
-make_ready-requires-clause-order c = texts_in_order c.requires.sound.order c.in_ok-error.ensures.added
-
-pub make_ready-requires-clause-ready : goal.make_ready-requires-clause-ready
-make_ready-requires-clause-ready c = let a = c.in_ok-error.ensures.added in prepared_after c.args.prepared a (texts_read_same c.requires.sound a) c.requires.ready
+pub make_ready-requires : goal.make_ready-requires
+make_ready-requires c =
+    let a = c.in_ok-error.ensures.added in
+    record { order = texts_in_order c.requires.sound.order c.in_ok-error.ensures.added; ready = prepared_after c.args.prepared a (texts_read_same c.requires.sound a) c.requires.ready }
 
 pub begin_leaving_with-requires-clause-one : goal.begin_leaving_with-requires-clause-one
 begin_leaving_with-requires-clause-one c = ap length c.in_ok-error.ensures.blamed.one

@@ -8,19 +8,15 @@ use Rattle.lua_heap.specs.Plain.{coroutine, plain}
 use Rattle.machine_coroutines.proofs.Buried.{bare_frames, bare_listed, bare_put, stack_put, stack_buried, stack_listed, stack_once, stack_within}
 use Rattle.machine_coroutines.proofs.burying.bury.Goals as goal
 
-pub close_all-requires-clause-within : goal.close_all-requires-clause-within
-close_all-requires-clause-within c =
+pub close_all-requires : goal.close_all-requires
+close_all-requires c =
     let W = c.args.world.now in
     let there : slice_get W.coros.objects c.args.co.0 ≡ Some (Suspended c.in-Suspended.stack) = c.get_mut.ensures.value ∙ ap (λ (k : Coro). Some k) (sym c.replace.ensures.value ∙ c.in-Suspended.is) in
     let bare : open_cells_in c.replace.new.dest ≡ None = ap open_cells_in c.replace.ensures.after ∙ c.requires.bare in
-    stack_within W c.args.co (Suspended c.in-Suspended.stack) c.replace.new.dest c.requires.listed there bare c.in-Suspended.stack (refl, refl)
-
-pub close_all-requires-clause-once : goal.close_all-requires-clause-once
-close_all-requires-clause-once c =
-    let W = c.args.world.now in
-    let there : slice_get W.coros.objects c.args.co.0 ≡ Some (Suspended c.in-Suspended.stack) = c.get_mut.ensures.value ∙ ap (λ (k : Coro). Some k) (sym c.replace.ensures.value ∙ c.in-Suspended.is) in
-    let bare : open_cells_in c.replace.new.dest ≡ None = ap open_cells_in c.replace.ensures.after ∙ c.requires.bare in
-    stack_once W c.args.co (Suspended c.in-Suspended.stack) c.replace.new.dest c.requires.listed there bare c.in-Suspended.stack (refl, refl)
+    record {
+      within = stack_within W c.args.co (Suspended c.in-Suspended.stack) c.replace.new.dest c.requires.listed there bare c.in-Suspended.stack (refl, refl);
+      once = stack_once W c.args.co (Suspended c.in-Suspended.stack) c.replace.new.dest c.requires.listed there bare c.in-Suspended.stack (refl, refl);
+    }
 
 pub returns-in-Suspended-clause-plain : goal.returns-in-Suspended-clause-plain
 returns-in-Suspended-clause-plain c = λ fuel fs e.
@@ -37,19 +33,15 @@ returns-in-Suspended-clause-listed c =
     let bare : open_cells_in c.replace.new.dest ≡ None = ap open_cells_in c.replace.ensures.after ∙ c.requires.bare in
     stack_listed W c.args.co (Suspended c.in-Suspended.stack) c.replace.new.dest c.requires.listed there bare c.in-Suspended.stack (refl, refl) c.close_all.new.cells.objects c.close_all.ensures
 
-pub close_all-requires-in-Running-clause-within : goal.close_all-requires-in-Running-clause-within
-close_all-requires-in-Running-clause-within c =
+pub close_all-requires-in-Running : goal.close_all-requires-in-Running
+close_all-requires-in-Running c =
     let W = c.args.world.now in
     let there : slice_get W.coros.objects c.args.co.0 ≡ Some (Running c.in-Running.stack) = c.get_mut.ensures.value ∙ ap (λ (k : Coro). Some k) (sym c.replace.ensures.value ∙ c.in-Running.is) in
     let bare : open_cells_in c.replace.new.dest ≡ None = ap open_cells_in c.replace.ensures.after ∙ c.requires.bare in
-    stack_within W c.args.co (Running c.in-Running.stack) c.replace.new.dest c.requires.listed there bare c.in-Running.stack (refl, refl)
-
-pub close_all-requires-in-Running-clause-once : goal.close_all-requires-in-Running-clause-once
-close_all-requires-in-Running-clause-once c =
-    let W = c.args.world.now in
-    let there : slice_get W.coros.objects c.args.co.0 ≡ Some (Running c.in-Running.stack) = c.get_mut.ensures.value ∙ ap (λ (k : Coro). Some k) (sym c.replace.ensures.value ∙ c.in-Running.is) in
-    let bare : open_cells_in c.replace.new.dest ≡ None = ap open_cells_in c.replace.ensures.after ∙ c.requires.bare in
-    stack_once W c.args.co (Running c.in-Running.stack) c.replace.new.dest c.requires.listed there bare c.in-Running.stack (refl, refl)
+    record {
+      within = stack_within W c.args.co (Running c.in-Running.stack) c.replace.new.dest c.requires.listed there bare c.in-Running.stack (refl, refl);
+      once = stack_once W c.args.co (Running c.in-Running.stack) c.replace.new.dest c.requires.listed there bare c.in-Running.stack (refl, refl);
+    }
 
 pub returns-in-Running-clause-plain : goal.returns-in-Running-clause-plain
 returns-in-Running-clause-plain c = λ fuel fs e.
@@ -66,19 +58,15 @@ returns-in-Running-clause-listed c =
     let bare : open_cells_in c.replace.new.dest ≡ None = ap open_cells_in c.replace.ensures.after ∙ c.requires.bare in
     stack_listed W c.args.co (Running c.in-Running.stack) c.replace.new.dest c.requires.listed there bare c.in-Running.stack (refl, refl) c.close_all-in-Running.new.cells.objects c.close_all-in-Running.ensures
 
-pub close_all-requires-in-Normal-clause-within : goal.close_all-requires-in-Normal-clause-within
-close_all-requires-in-Normal-clause-within c =
+pub close_all-requires-in-Normal : goal.close_all-requires-in-Normal
+close_all-requires-in-Normal c =
     let W = c.args.world.now in
     let there : slice_get W.coros.objects c.args.co.0 ≡ Some (Normal c.in-Normal.stack) = c.get_mut.ensures.value ∙ ap (λ (k : Coro). Some k) (sym c.replace.ensures.value ∙ c.in-Normal.is) in
     let bare : open_cells_in c.replace.new.dest ≡ None = ap open_cells_in c.replace.ensures.after ∙ c.requires.bare in
-    stack_within W c.args.co (Normal c.in-Normal.stack) c.replace.new.dest c.requires.listed there bare c.in-Normal.stack (refl, refl)
-
-pub close_all-requires-in-Normal-clause-once : goal.close_all-requires-in-Normal-clause-once
-close_all-requires-in-Normal-clause-once c =
-    let W = c.args.world.now in
-    let there : slice_get W.coros.objects c.args.co.0 ≡ Some (Normal c.in-Normal.stack) = c.get_mut.ensures.value ∙ ap (λ (k : Coro). Some k) (sym c.replace.ensures.value ∙ c.in-Normal.is) in
-    let bare : open_cells_in c.replace.new.dest ≡ None = ap open_cells_in c.replace.ensures.after ∙ c.requires.bare in
-    stack_once W c.args.co (Normal c.in-Normal.stack) c.replace.new.dest c.requires.listed there bare c.in-Normal.stack (refl, refl)
+    record {
+      within = stack_within W c.args.co (Normal c.in-Normal.stack) c.replace.new.dest c.requires.listed there bare c.in-Normal.stack (refl, refl);
+      once = stack_once W c.args.co (Normal c.in-Normal.stack) c.replace.new.dest c.requires.listed there bare c.in-Normal.stack (refl, refl);
+    }
 
 pub returns-in-Normal-clause-plain : goal.returns-in-Normal-clause-plain
 returns-in-Normal-clause-plain c = λ fuel fs e.

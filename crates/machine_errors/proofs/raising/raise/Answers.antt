@@ -4,17 +4,15 @@ use Rattle.machine_errors.proofs.Texts.{leads_from, texts_read_same, texts_in_or
 use Rattle.machine_errors.proofs.Leaving.{blamed_so, can_leave}
 use Rattle.machine_errors.proofs.raising.raise.Goals as goal
 
-pub begin_leaving_with-requires-clause-order : goal.begin_leaving_with-requires-clause-order
-begin_leaving_with-requires-clause-order c = texts_in_order c.requires.sound.order c.in_ok-error.ensures.added
-
-pub begin_leaving_with-requires-clause-frame : goal.begin_leaving_with-requires-clause-frame
-begin_leaving_with-requires-clause-frame c =
+pub begin_leaving_with-requires : goal.begin_leaving_with-requires
+begin_leaving_with-requires c =
     let a = c.in_ok-error.ensures.added in
     let h = c.requires.frame in
-    can_leave _ (texts_sound c.requires.sound a) (record { place = h.place; is = ap place_of ((texts_read_same c.requires.sound a).is 0) ∙ h.is })
-
-pub begin_leaving_with-requires-clause-one : goal.begin_leaving_with-requires-clause-one
-begin_leaving_with-requires-clause-one c = ap Rattle.std.proofs.Common.length c.in_ok-error.ensures.blamed.one
+    record {
+      order = texts_in_order c.requires.sound.order c.in_ok-error.ensures.added;
+      frame = can_leave _ (texts_sound c.requires.sound a) (record { place = h.place; is = ap place_of ((texts_read_same c.requires.sound a).is 0) ∙ h.is });
+      one = ap Rattle.std.proofs.Common.length c.in_ok-error.ensures.blamed.one;
+    }
 
 pub returns-clause-leads : goal.returns-clause-leads
 returns-clause-leads c = λ env.

@@ -11,11 +11,9 @@ use Rattle.machine_frame_rows.proofs.handing.hand_results.Goals as goal
 pub see_top-requires : goal.see_top-requires
 see_top-requires c = reaches_stack handed_to c.requires.safe
 
-pub end_with_results-requires-clause-running : goal.end_with_results-requires-clause-running
-end_with_results-requires-clause-running c = reaches_stack handed_to c.requires.safe
-
-pub end_with_results-requires-clause-safe : goal.end_with_results-requires-clause-safe
-end_with_results-requires-clause-safe c = safe_reached handed_to c.requires.safe (c.see_top.ensures.makes []) (ap (shape_of (runs_main (plain c.args.world.now 0))) c.in-Missing.is)
+pub end_with_results-requires : goal.end_with_results-requires
+end_with_results-requires c =
+    record { order = c.requires.order; running = reaches_stack handed_to c.requires.safe; safe = safe_reached handed_to c.requires.safe (c.see_top.ensures.makes []) (ap (shape_of (runs_main (plain c.args.world.now 0))) c.in-Missing.is) }
 
 pub returns-in-Lua-clause-leads : goal.returns-in-Lua-clause-leads
 returns-in-Lua-clause-leads c = reached handed_to (c.see_top.ensures.makes []) (ap (shape_of (runs_main (plain c.args.world.now 0))) c.in-Lua.is) ended

@@ -5,36 +5,28 @@ use Rattle.machine_step.proofs.Awake.{may_go_on, room, stands, went_on}
 use Rattle.machine_library_calls.specs.Calls.{wait_by}
 use Rattle.machine_library_calls.proofs.answering.go_on.Goals as goal
 
-pub take_results-requires-clause-order : goal.take_results-requires-clause-order
-take_results-requires-clause-order c = c.requires.solid.order
-
-pub take_results-requires-clause-at : goal.take_results-requires-clause-at
-take_results-requires-clause-at c = stands c.requires.awake
-
-pub take_results-requires-clause-room : goal.take_results-requires-clause-room
-take_results-requires-clause-room c = room c.requires.awake
-
-pub take_results-requires-clause-safe : goal.take_results-requires-clause-safe
-take_results-requires-clause-safe c =
-    iterator_takes c.args.world.now c.args.here.word (wait_by c.args.iterates) c.args.values.now c.from-a.result c.from-c.result (ap wait_by c.if-iterates.true) (c.from-a.ensures ∙ c.a.ensures) (c.from-c.ensures ∙ c.c.ensures) (may_go_on c.requires.awake)
+pub take_results-requires : goal.take_results-requires
+take_results-requires c =
+    record {
+      order = c.requires.solid.order;
+      at = stands c.requires.awake;
+      room = room c.requires.awake;
+      safe = iterator_takes c.args.world.now c.args.here.word (wait_by c.args.iterates) c.args.values.now c.from-a.result c.from-c.result (ap wait_by c.if-iterates.true) (c.from-a.ensures ∙ c.a.ensures) (c.from-c.ensures ∙ c.c.ensures) (may_go_on c.requires.awake);
+    }
 
 pub returns-then-iterates-clause-goes : goal.returns-then-iterates-clause-goes
 returns-then-iterates-clause-goes c =
     IfOk-weaker c.take_results.result _ _ (λ next g. went_on g)
     (iterator_goes c.args.world.now c.args.here.word (wait_by c.args.iterates) c.args.values.now c.take_results.new.world c.take_results.result c.from-a.result c.from-c.result (ap wait_by c.if-iterates.true) (c.from-a.ensures ∙ c.a.ensures) (c.from-c.ensures ∙ c.c.ensures) c.take_results.ensures.leads)
 
-pub take_results-requires-2-clause-order : goal.take_results-requires-2-clause-order
-take_results-requires-2-clause-order c = c.requires.solid.order
-
-pub take_results-requires-2-clause-at : goal.take_results-requires-2-clause-at
-take_results-requires-2-clause-at c = stands c.requires.awake
-
-pub take_results-requires-2-clause-room : goal.take_results-requires-2-clause-room
-take_results-requires-2-clause-room c = room c.requires.awake
-
-pub take_results-requires-2-clause-safe : goal.take_results-requires-2-clause-safe
-take_results-requires-2-clause-safe c =
-    call_takes c.args.world.now c.args.here.word (wait_by c.args.iterates) c.args.values.now c.from-a.result c.from-c.result (ap wait_by c.if-iterates.false) (c.from-a.ensures ∙ c.a.ensures) (c.from-c.ensures ∙ c.c.ensures) (may_go_on c.requires.awake)
+pub take_results-requires-2 : goal.take_results-requires-2
+take_results-requires-2 c =
+    record {
+      order = c.requires.solid.order;
+      at = stands c.requires.awake;
+      room = room c.requires.awake;
+      safe = call_takes c.args.world.now c.args.here.word (wait_by c.args.iterates) c.args.values.now c.from-a.result c.from-c.result (ap wait_by c.if-iterates.false) (c.from-a.ensures ∙ c.a.ensures) (c.from-c.ensures ∙ c.c.ensures) (may_go_on c.requires.awake);
+    }
 
 pub returns-clause-goes : goal.returns-clause-goes
 returns-clause-goes c =

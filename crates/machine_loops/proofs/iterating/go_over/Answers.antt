@@ -11,16 +11,15 @@ use Rattle.machine_loops.proofs.iterating.go_over.Goals as goal
 pub write_register-requires : goal.write_register-requires
 write_register-requires c = any_value {x = read 0} (can_do (write_register c.args.to (read 0)) (λ _ _. expand (back c.args.by)) c.requires.safe)
 
-pub go_back-requires-clause-at : goal.go_back-requires-clause-at
-go_back-requires-clause-at c = c.write_register.ensures.at c.args.pc c.requires.at
-
-pub go_back-requires-clause-order : goal.go_back-requires-clause-order
-go_back-requires-clause-order c = order_kept c.requires.order c.write_register.ensures.rest c.write_register.ensures.listed
-
-pub go_back-requires-clause-safe : goal.go_back-requires-clause-safe
-go_back-requires-clause-safe c =
+pub go_back-requires : goal.go_back-requires
+go_back-requires c =
     let v = meant c.args.world.now.strings c.args.v in
-    record { env = v ∷ []; safe = safe_after (λ _ _. expand (back c.args.by)) c.requires.safe (c.write_register.ensures.makes (v ∷ []) (read 0) refl) }
+    record {
+      at = c.write_register.ensures.at c.args.pc c.requires.at;
+      room = c.requires.room;
+      order = order_kept c.requires.order c.write_register.ensures.rest c.write_register.ensures.listed;
+      safe = record { env = v ∷ []; safe = safe_after (λ _ _. expand (back c.args.by)) c.requires.safe (c.write_register.ensures.makes (v ∷ []) (read 0) refl) };
+    }
 
 pub returns-clause-leads : goal.returns-clause-leads
 returns-clause-leads c =

@@ -12,13 +12,8 @@ running_stack-requires c = has_stack c.args.world.now c.requires.there.place c.r
 pub pc-pc-requires : goal.pc-pc-requires
 pc-pc-requires c = lua_top c.args.world.now c.running_stack.ensures.co c.running_stack.result.now c.requires.there.place c.running_stack.ensures.runs c.requires.there.is
 
-pub code_on_top-requires-clause-codes : goal.code_on_top-requires-clause-codes
-code_on_top-requires-clause-codes c = c.requires.sound.order.codes
-
-pub code_on_top-requires-clause-frame : goal.code_on_top-requires-clause-frame
-code_on_top-requires-clause-frame c =
-    let d = c.requires.there in
-    record { place = d.place; is = d.is; checked = (sound_top d.place c.requires.sound d.is).checked }
+pub code_on_top-requires : goal.code_on_top-requires
+code_on_top-requires c = let d = c.requires.there in record { codes = c.requires.sound.order.codes; frame = record { place = d.place; is = d.is; checked = (sound_top d.place c.requires.sound d.is).checked } }
 
 pub overflow_sub-pc : goal.overflow_sub-pc
 overflow_sub-pc c =

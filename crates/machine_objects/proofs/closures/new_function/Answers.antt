@@ -27,13 +27,13 @@ open_captured-requires-clause-safe c =
     let at = c.requires.at in
     may_begin c.args.world.now c.args.inner c.args.to at.place c.requires.sound at.is (c.requires.safe at.place at.is) c.inner_code-code.result c.inner_code-code.ensures
 
-pub make_function-requires-clause-order : goal.make_function-requires-clause-order
-make_function-requires-clause-order c = order_with_cells c.requires.sound.order c.open_captured.ensures.rest c.open_captured.ensures.listed
-
-pub make_function-requires-clause-there : goal.make_function-requires-clause-there
-make_function-requires-clause-there c =
+pub make_function-requires : goal.make_function-requires
+make_function-requires c =
     let at = c.requires.at in
-    makes_there c.args.world.now c.args.inner c.args.to at.place c.requires.sound at.is (c.requires.safe at.place at.is) c.inner_code-code.result c.inner_code-code.ensures c.open_captured.new.world c.in_ok-open_captured.ensures.opens
+    record {
+      order = order_with_cells c.requires.sound.order c.open_captured.ensures.rest c.open_captured.ensures.listed;
+      there = makes_there c.args.world.now c.args.inner c.args.to at.place c.requires.sound at.is (c.requires.safe at.place at.is) c.inner_code-code.result c.inner_code-code.ensures c.open_captured.new.world c.in_ok-open_captured.ensures.opens;
+    }
 
 pub write_register-requires : goal.write_register-requires
 write_register-requires c =

@@ -14,11 +14,8 @@ use Rattle.machine_objects.specs.Filling.{puts}
 use Rattle.machine_objects.proofs.Filled.{safe_listed, safe_filled, leads_listed, table_there, can_end, still_at}
 use Rattle.machine_objects.proofs.filling.fill_from.Goals as goal
 
-pub code_on_top-requires-clause-codes : goal.code_on_top-requires-clause-codes
-code_on_top-requires-clause-codes c = c.requires.sound.order.codes
-
-pub code_on_top-requires-clause-frame : goal.code_on_top-requires-clause-frame
-code_on_top-requires-clause-frame c = let at = c.requires.at in record { place = at.place; is = at.is; checked = (sound_top at.place c.requires.sound at.is).checked }
+pub code_on_top-requires : goal.code_on_top-requires
+code_on_top-requires c = let at = c.requires.at in record { codes = c.requires.sound.order.codes; frame = record { place = at.place; is = at.is; checked = (sound_top at.place c.requires.sound at.is).checked } }
 
 pub listed_values-requires-clause-safe : goal.listed_values-requires-clause-safe
 listed_values-requires-clause-safe c = record { more = λ v _. puts c.args.last (pos c.args.ahead) v; env = object a_table c.args.id.0 ∷ []; safe = c.requires.safe }

@@ -9,16 +9,14 @@ use Rattle.machine_objects.proofs.functions.inner_code.Goals as goal
 pub function_on_top-requires : goal.function_on_top-requires
 function_on_top-requires c = record { place = c.requires.there.place; is = c.requires.there.is }
 
-pub inner-requires-clause-codes : goal.inner-requires-clause-codes
-inner-requires-clause-codes c = c.requires.order.codes
-
-pub inner-requires-clause-there : goal.inner-requires-clause-there
-inner-requires-clause-there c =
+pub inner-requires : goal.inner-requires
+inner-requires c =
     let e = top_code_is c.args.world.now c.requires.there.place c.function_on_top.result.now c.requires.there.is c.function_on_top.ensures in
-    c.checked_code_is_there.ensures (functions c.args.world.now.codes) c.function_on_top.result.now.code.0 (subst IsChecked (sym e) c.requires.there.checked)
-
-pub inner-requires-clause-place : goal.inner-requires-clause-place
-inner-requires-clause-place c = subst (λ (q : Prototype). IsSome (slice_get (list_of q.inner) c.args.inner)) (sym (top_code_is c.args.world.now c.requires.there.place c.function_on_top.result.now c.requires.there.is c.function_on_top.ensures)) c.requires.there.there
+    record {
+      codes = c.requires.order.codes;
+      there = c.checked_code_is_there.ensures (functions c.args.world.now.codes) c.function_on_top.result.now.code.0 (subst IsChecked (sym e) c.requires.there.checked);
+      place = subst (λ (q : Prototype). IsSome (slice_get (list_of q.inner) c.args.inner)) (sym (top_code_is c.args.world.now c.requires.there.place c.function_on_top.result.now c.requires.there.is c.function_on_top.ensures)) c.requires.there.there;
+    }
 
 pub returns : goal.returns
 returns c = record {

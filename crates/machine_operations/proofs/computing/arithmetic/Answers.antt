@@ -11,18 +11,19 @@ use Rattle.machine_operations.specs.Computing.{MayCompute}
 use Rattle.machine_operations.proofs.Integers.{both_read, computes_from, left_is_read, right_is_read}
 use Rattle.machine_operations.proofs.computing.arithmetic.Goals as goal
 
-pub read_integer-m-requires-clause-function : goal.read_integer-m-requires-clause-function
-read_integer-m-requires-clause-function c = function_of c.requires.at.place c.requires.sound c.requires.at.is
+pub read_integer-m-requires : goal.read_integer-m-requires
+read_integer-m-requires c =
+    record {
+      function = function_of c.requires.at.place c.requires.sound c.requires.at.is;
+      there = left_is_read c.args.world.now c.args.left c.args.right c.args.to (event_of c.args.operator) (c.requires.safe c.requires.at.place.function.code);
+    }
 
-pub read_integer-m-requires-clause-there : goal.read_integer-m-requires-clause-there
-read_integer-m-requires-clause-there c = left_is_read c.args.world.now c.args.left c.args.right c.args.to (event_of c.args.operator) (c.requires.safe c.requires.at.place.function.code)
-
-pub read_integer-n-requires-clause-function : goal.read_integer-n-requires-clause-function
-read_integer-n-requires-clause-function c = function_of c.requires.at.place c.requires.sound c.requires.at.is
-
-pub read_integer-n-requires-clause-there : goal.read_integer-n-requires-clause-there
-read_integer-n-requires-clause-there c =
-    right_is_read c.args.world.now c.args.left c.args.right c.args.to (event_of c.args.operator) (c.requires.safe c.requires.at.place.function.code) c.read_integer-m.ensures
+pub read_integer-n-requires : goal.read_integer-n-requires
+read_integer-n-requires c =
+    record {
+      function = function_of c.requires.at.place c.requires.sound c.requires.at.is;
+      there = right_is_read c.args.world.now c.args.left c.args.right c.args.to (event_of c.args.operator) (c.requires.safe c.requires.at.place.function.code) c.read_integer-m.ensures;
+    }
 
 pub compute-requires-clause-safe : goal.compute-requires-clause-safe
 compute-requires-clause-safe c =

@@ -25,17 +25,16 @@ join-requires-clause-last c =
 pub join-requires-clause-safe : goal.join-requires-clause-safe
 join-requires-clause-safe c = came_may c.args.world.now c.args.first c.args.left c.args.came.now c.first_or_nil-last.result c.first_or_nil-last.ensures c.requires.safe
 
-pub keep-requires-clause-order : goal.keep-requires-clause-order
-keep-requires-clause-order c = c.join.ensures.sound.order
-
-pub keep-requires-clause-at : goal.keep-requires-clause-at
-keep-requires-clause-at c = stands_same c.join.ensures.same c.requires.at
-
-pub keep-requires-clause-safe : goal.keep-requires-clause-safe
-keep-requires-clause-safe c =
+pub keep-requires : goal.keep-requires
+keep-requires c =
     let W = c.args.world.now in
     let j = subst (λ o. Joins W c.join.new.world c.args.first c.args.left c.first_or_nil-last.result o) c.in-Whole.is c.in_ok-v.ensures.joins in
-    whole_may (came_comes W c.args.first c.args.left c.args.came.now c.first_or_nil-last.result c.first_or_nil-last.ensures c.join.new.world (Whole c.in-Whole.v) j) c.requires.safe
+    record {
+      order = c.join.ensures.sound.order;
+      at = stands_same c.join.ensures.same c.requires.at;
+      room = c.requires.room;
+      safe = whole_may (came_comes W c.args.first c.args.left c.args.came.now c.first_or_nil-last.result c.first_or_nil-last.ensures c.join.new.world (Whole c.in-Whole.v) j) c.requires.safe;
+    }
 
 pub returns-in-Whole-clause-leads : goal.returns-in-Whole-clause-leads
 returns-in-Whole-clause-leads c =
@@ -43,11 +42,8 @@ returns-in-Whole-clause-leads c =
     let j = subst (λ o. Joins W c.join.new.world c.args.first c.args.left c.first_or_nil-last.result o) c.in-Whole.is c.in_ok-v.ensures.joins in
     whole_leads (came_comes W c.args.first c.args.left c.args.came.now c.first_or_nil-last.result c.first_or_nil-last.ensures c.join.new.world (Whole c.in-Whole.v) j) c.keep.ensures.leads
 
-pub ask_over-requires-clause-order : goal.ask_over-requires-clause-order
-ask_over-requires-clause-order c = c.join.ensures.sound.order
-
-pub ask_over-requires-clause-ready : goal.ask_over-requires-clause-ready
-ask_over-requires-clause-ready c = can_prepare (can_leave c.join.new.world c.join.ensures.sound (frame_at (stands_same c.join.ensures.same c.requires.at)))
+pub ask_over-requires : goal.ask_over-requires
+ask_over-requires c = record { order = c.join.ensures.sound.order; ready = can_prepare (can_leave c.join.new.world c.join.ensures.sound (frame_at (stands_same c.join.ensures.same c.requires.at))) }
 
 pub returns-in_ok-operands-in-Asks-clause-leads : goal.returns-in_ok-operands-in-Asks-clause-leads
 returns-in_ok-operands-in-Asks-clause-leads c =

@@ -6,14 +6,13 @@ use Rattle.machine_operations.proofs.Ended.{fails_so}
 use Rattle.machine_operations.proofs.Written.{copy_same, leave_same}
 use Rattle.machine_operations.proofs.operating.fail.Goals as goal
 
-pub copy_first-requires-clause-order : goal.copy_first-requires-clause-order
-copy_first-requires-clause-order c = texts_in_order c.requires.sound.order c.in_ok-error.ensures.added
-
-pub copy_first-requires-clause-whole : goal.copy_first-requires-clause-whole
-copy_first-requires-clause-whole c = leave_same (texts_read_same c.requires.sound c.in_ok-error.ensures.added) c.requires.whole
-
-pub copy_first-requires-clause-there : goal.copy_first-requires-clause-there
-copy_first-requires-clause-there c = copy_same c.args.also (texts_read_same c.requires.sound c.in_ok-error.ensures.added) c.requires.copy
+pub copy_first-requires : goal.copy_first-requires
+copy_first-requires c =
+    record {
+      order = texts_in_order c.requires.sound.order c.in_ok-error.ensures.added;
+      whole = leave_same (texts_read_same c.requires.sound c.in_ok-error.ensures.added) c.requires.whole;
+      there = copy_same c.args.also (texts_read_same c.requires.sound c.in_ok-error.ensures.added) c.requires.copy;
+    }
 
 pub begin_leaving_with-requires-clause-one : goal.begin_leaving_with-requires-clause-one
 begin_leaving_with-requires-clause-one c = ap length c.in_ok-error.ensures.blamed.one

@@ -26,13 +26,10 @@ use Rattle.machine_operations.proofs.Operated.{are_read, can_prepare_copy, copie
 use Rattle.machine_operations.proofs.Settled.{ask_may, ask_steps, done_leads, done_may, fault_leads, found_leads, found_may, may_take, same_world}
 use Rattle.machine_operations.proofs.operating.operate.Goals as goal
 
-pub read_operands-values-requires-clause-function : goal.read_operands-values-requires-clause-function
-read_operands-values-requires-clause-function c = function_of c.requires.at.place c.requires.sound c.requires.at.is
-
-pub read_operands-values-requires-clause-there : goal.read_operands-values-requires-clause-there
-read_operands-values-requires-clause-there c =
+pub read_operands-values-requires : goal.read_operands-values-requires
+read_operands-values-requires c =
     let at = c.requires.at in
-    are_read at.place c.args.pc c.args.operation c.args.operands c.args.also c.args.after (c.requires.safe at.place at.is)
+    record { function = function_of c.requires.at.place c.requires.sound c.requires.at.is; there = are_read at.place c.args.pc c.args.operation c.args.operands c.args.also c.args.after (c.requires.safe at.place at.is) }
 
 pub operation_on-asked-requires : goal.operation_on-asked-requires
 operation_on-asked-requires c =

@@ -12,11 +12,12 @@ use Rattle.machine_returns.proofs.Woken.{moved, still_framed}
 use Rattle.machine_returns.proofs.Tops.{taken_solid}
 use Rattle.machine_returns.proofs.failing.unwind_function.Goals as goal
 
-pub fail_with-requires-clause-solid : goal.fail_with-requires-clause-solid
-fail_with-requires-clause-solid c = taken_solid c.args.world.now c.take_moving-moved.new.world _ (c.take_moving-moved.ensures.makes []) c.take_moving-moved.ensures.rest c.requires.solid
-
-pub fail_with-requires-clause-frame : goal.fail_with-requires-clause-frame
-fail_with-requires-clause-frame c = still_framed (c.take_moving-moved.ensures.makes []) c.requires.frame
+pub fail_with-requires : goal.fail_with-requires
+fail_with-requires c =
+    record {
+      solid = taken_solid c.args.world.now c.take_moving-moved.new.world _ (c.take_moving-moved.ensures.makes []) c.take_moving-moved.ensures.rest c.requires.solid;
+      frame = still_framed (c.take_moving-moved.ensures.makes []) c.requires.frame;
+    }
 
 pub returns-in-Ok-clause-leads : goal.returns-in-Ok-clause-leads
 returns-in-Ok-clause-leads c =

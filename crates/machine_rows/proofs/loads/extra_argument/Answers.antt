@@ -6,13 +6,8 @@ use Rattle.machine_moves.proofs.Stacks.{got_there}
 use Rattle.machine_rows.proofs.Extra.{extra_kept}
 use Rattle.machine_rows.proofs.loads.extra_argument.Goals as goal
 
-pub code_on_top-requires-clause-codes : goal.code_on_top-requires-clause-codes
-code_on_top-requires-clause-codes c = c.requires.sound.order.codes
-
-pub code_on_top-requires-clause-frame : goal.code_on_top-requires-clause-frame
-code_on_top-requires-clause-frame c =
-    let h = c.requires.there in
-    record { place = h.place; is = h.is; checked = (sound_top h.place c.requires.sound h.is).checked }
+pub code_on_top-requires : goal.code_on_top-requires
+code_on_top-requires c = let h = c.requires.there in record { codes = c.requires.sound.order.codes; frame = record { place = h.place; is = h.is; checked = (sound_top h.place c.requires.sound h.is).checked } }
 
 pub index-requires : goal.index-requires
 index-requires c =

@@ -10,12 +10,12 @@ use Rattle.move_laws.proofs.Rows.{first, can_do, safe_after}
 use Rattle.machine_rows.proofs.Going.{ahead, function_of, goes_on, may_go, safe_as, any_value}
 use Rattle.machine_rows.proofs.loads.load.Goals as goal
 
-pub read_operand-v-requires-clause-function : goal.read_operand-v-requires-clause-function
-read_operand-v-requires-clause-function c = function_of c.requires.at.place c.requires.sound c.requires.at.is
-
-pub read_operand-v-requires-clause-there : goal.read_operand-v-requires-clause-there
-read_operand-v-requires-clause-there c =
-    record { more = λ v. then (write_register c.args.to v) (cond c.args.skips skip next); env = []; safe = c.requires.safe c.requires.at.place.function.code }
+pub read_operand-v-requires : goal.read_operand-v-requires
+read_operand-v-requires c =
+    record {
+      function = function_of c.requires.at.place c.requires.sound c.requires.at.is;
+      there = record { more = λ v. then (write_register c.args.to v) (cond c.args.skips skip next); env = []; safe = c.requires.safe c.requires.at.place.function.code };
+    }
 
 pub write_register-requires : goal.write_register-requires
 write_register-requires c =

@@ -21,19 +21,16 @@ extra_argument-n-requires-clause-there c =
     let at = c.requires.at in
     record { place = at.place; is = at.is; there = has_extra at.place.function.code c.args.pc (loads c.args.to) (c.requires.safe at.place at.is) }
 
-pub read_constant-v-requires-clause-codes : goal.read_constant-v-requires-clause-codes
-read_constant-v-requires-clause-codes c = c.requires.sound.order.codes
-
-pub read_constant-v-requires-clause-frame : goal.read_constant-v-requires-clause-frame
-read_constant-v-requires-clause-frame c =
-    let at = c.requires.at in
-    record { place = at.place; is = at.is; checked = (sound_top at.place c.requires.sound at.is).checked }
-
-pub read_constant-v-requires-clause-there : goal.read_constant-v-requires-clause-there
-read_constant-v-requires-clause-there c =
+pub read_constant-v-requires : goal.read_constant-v-requires
+read_constant-v-requires c =
     let x = c.extra_argument-n.ensures in
     let s = subst (λ t. IsSafe (expand t) [] c.args.world.now) (extra_is x.place.function.code c.args.pc c.extra_argument-n.result (loads c.args.to) x.extra) (c.requires.safe x.place x.is) in
-    can_do (read_constant c.extra_argument-n.result) (λ v _. expand (then (write_register c.args.to (read v)) skip)) s
+    let at = c.requires.at in
+    record {
+      codes = c.requires.sound.order.codes;
+      frame = record { place = at.place; is = at.is; checked = (sound_top at.place c.requires.sound at.is).checked };
+      there = can_do (read_constant c.extra_argument-n.result) (λ v _. expand (then (write_register c.args.to (read v)) skip)) s;
+    }
 
 pub write_register-requires : goal.write_register-requires
 write_register-requires c =

@@ -12,13 +12,10 @@ use Rattle.machine_rows.proofs.loads.store_upvalue.Goals as goal
 pub read_register-v-requires : goal.read_register-v-requires
 read_register-v-requires c = can_do (read_register c.args.from) (λ v _. expand (quick (write_upvalue c.args.upvalue (read v)) (λ _. next))) (c.requires.safe c.requires.at.place.function.code)
 
-pub write_upvalue-requires-clause-listed : goal.write_upvalue-requires-clause-listed
-write_upvalue-requires-clause-listed c = c.requires.order.listed
-
-pub write_upvalue-requires-clause-there : goal.write_upvalue-requires-clause-there
-write_upvalue-requires-clause-there c =
+pub write_upvalue-requires : goal.write_upvalue-requires
+write_upvalue-requires c =
     let s = safe_after (λ v _. expand (quick (write_upvalue c.args.upvalue (read v)) (λ _. next))) (c.requires.safe c.requires.at.place.function.code) (c.read_register-v.ensures []) in
-    can_store c.args.upvalue (read 0) (λ _ _. expand next) s
+    record { listed = c.requires.order.listed; there = can_store c.args.upvalue (read 0) (λ _ _. expand next) s }
 
 pub go_to-requires : goal.go_to-requires
 go_to-requires c =

@@ -3,14 +3,8 @@ use Rattle.step_laws.proofs.Unpaid.{arithmetic_unpaid}
 use Rattle.machine_step.proofs.ByForm.{stands, room, safe, unpaid}
 use Rattle.machine_step.proofs.computing.run_arithmetic.Goals as goal
 
-pub arithmetic-requires-clause-at : goal.arithmetic-requires-clause-at
-arithmetic-requires-clause-at c = stands c.requires.runs
-
-pub arithmetic-requires-clause-room : goal.arithmetic-requires-clause-room
-arithmetic-requires-clause-room c = room c.requires.runs
-
-pub arithmetic-requires-clause-safe : goal.arithmetic-requires-clause-safe
-arithmetic-requires-clause-safe c = λ p. safe c.requires.runs c.requires.sound
+pub arithmetic-requires : goal.arithmetic-requires
+arithmetic-requires c = record { sound = c.requires.sound; at = stands c.requires.runs; room = room c.requires.runs; safe = λ p. safe c.requires.runs c.requires.sound }
 
 pub returns-clause-does : goal.returns-clause-does
 returns-clause-does c =

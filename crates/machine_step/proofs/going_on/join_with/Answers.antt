@@ -5,23 +5,16 @@ use Rattle.machine_step.proofs.Awake.{join_goes, join_near, join_safe, room, sta
 use Rattle.machine_step.proofs.Steps.{same_printed}
 use Rattle.machine_step.proofs.going_on.join_with.Goals as goal
 
-pub join_on-requires-clause-sound : goal.join_on-requires-clause-sound
-join_on-requires-clause-sound c = c.requires.awake.joins c.args.left refl
-
-pub join_on-requires-clause-at : goal.join_on-requires-clause-at
-join_on-requires-clause-at c = stands c.requires.awake
-
-pub join_on-requires-clause-room : goal.join_on-requires-clause-room
-join_on-requires-clause-room c = room c.requires.awake
-
-pub join_on-requires-clause-came : goal.join_on-requires-clause-came
-join_on-requires-clause-came c = c.requires.awake.valid
-
-pub join_on-requires-clause-size : goal.join_on-requires-clause-size
-join_on-requires-clause-size c = subst (λ a. a + c.args.left < 2 ^ 64) (sym (c.from.ensures ∙ c.a.ensures)) (join_near c.requires.awake)
-
-pub join_on-requires-clause-safe : goal.join_on-requires-clause-safe
-join_on-requires-clause-safe c = join_safe c.requires.awake (c.from.ensures ∙ c.a.ensures)
+pub join_on-requires : goal.join_on-requires
+join_on-requires c =
+    record {
+      sound = c.requires.awake.joins c.args.left refl;
+      at = stands c.requires.awake;
+      room = room c.requires.awake;
+      size = subst (λ a. a + c.args.left < 2 ^ 64) (sym (c.from.ensures ∙ c.a.ensures)) (join_near c.requires.awake);
+      came = c.requires.awake.valid;
+      safe = join_safe c.requires.awake (c.from.ensures ∙ c.a.ensures);
+    }
 
 pub returns-clause-goes : goal.returns-clause-goes
 returns-clause-goes c = IfOk-weaker c.join_on.result _ _ (λ next l. join_goes (c.from.ensures ∙ c.a.ensures) l) c.join_on.ensures.leads

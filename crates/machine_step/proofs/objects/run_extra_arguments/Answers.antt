@@ -3,17 +3,8 @@ use Rattle.step_laws.proofs.Unpaid.{extra_unpaid}
 use Rattle.machine_step.proofs.ByForm.{stands, room, safe, unpaid}
 use Rattle.machine_step.proofs.objects.run_extra_arguments.Goals as goal
 
-pub extra_arguments-requires-clause-at : goal.extra_arguments-requires-clause-at
-extra_arguments-requires-clause-at c = stands c.requires.runs
-
-pub extra_arguments-requires-clause-room : goal.extra_arguments-requires-clause-room
-extra_arguments-requires-clause-room c = room c.requires.runs
-
-pub extra_arguments-requires-clause-order : goal.extra_arguments-requires-clause-order
-extra_arguments-requires-clause-order c = c.requires.sound.order
-
-pub extra_arguments-requires-clause-safe : goal.extra_arguments-requires-clause-safe
-extra_arguments-requires-clause-safe c = λ p. safe c.requires.runs c.requires.sound
+pub extra_arguments-requires : goal.extra_arguments-requires
+extra_arguments-requires c = record { at = stands c.requires.runs; room = room c.requires.runs; order = c.requires.sound.order; safe = λ p. safe c.requires.runs c.requires.sound }
 
 pub returns-clause-does : goal.returns-clause-does
 returns-clause-does c =

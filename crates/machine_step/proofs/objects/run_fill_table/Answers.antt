@@ -4,14 +4,17 @@ use Rattle.step_laws.proofs.Unpaid.{fill_unpaid}
 use Rattle.machine_step.proofs.ByForm.{frame_runs, stands, room, safe_here, unpaid, small}
 use Rattle.machine_step.proofs.objects.run_fill_table.Goals as goal
 
-pub fill_table-requires-clause-at : goal.fill_table-requires-clause-at
-fill_table-requires-clause-at c = stands c.requires.runs
-
-pub fill_table-requires-clause-room : goal.fill_table-requires-clause-room
-fill_table-requires-clause-room c = room c.requires.runs
-
-pub fill_table-requires-clause-safe : goal.fill_table-requires-clause-safe
-fill_table-requires-clause-safe c = safe_here c.requires.runs c.requires.sound
+pub fill_table-requires : goal.fill_table-requires
+fill_table-requires c =
+    record {
+      sound = c.requires.sound;
+      at = stands c.requires.runs;
+      runs = frame_runs c.requires.runs;
+      room = room c.requires.runs;
+      near = let l = (small c.requires.runs).0 in omega (arith, l);
+      small = let l = (small c.requires.runs).2 in omega (arith, l);
+      safe = safe_here c.requires.runs c.requires.sound;
+    }
 
 pub returns-clause-does : goal.returns-clause-does
 returns-clause-does c =
@@ -19,12 +22,3 @@ returns-clause-does c =
     let p = r.runs.place.function.code in
     let u = fill_unpaid p c.args.pc c.args.table c.args.count c.args.last c.args.far in
     IfOk-weaker c.fill_table.result _ _ (λ ending l. unpaid r u (l r.runs.place r.runs.is)) c.fill_table.ensures.leads
-
-pub fill_table-requires-clause-near : goal.fill_table-requires-clause-near
-fill_table-requires-clause-near c = let l = (small c.requires.runs).0 in omega (arith, l)
-
-pub fill_table-requires-clause-small : goal.fill_table-requires-clause-small
-fill_table-requires-clause-small c = let l = (small c.requires.runs).2 in omega (arith, l)
-
-pub fill_table-requires-clause-runs : goal.fill_table-requires-clause-runs
-fill_table-requires-clause-runs c = frame_runs c.requires.runs

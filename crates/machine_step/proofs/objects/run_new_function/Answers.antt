@@ -4,17 +4,8 @@ use Rattle.step_laws.proofs.Unpaid.{function_unpaid}
 use Rattle.machine_step.proofs.ByForm.{stands, room, safe_here, unpaid, small}
 use Rattle.machine_step.proofs.objects.run_new_function.Goals as goal
 
-pub new_function-requires-clause-at : goal.new_function-requires-clause-at
-new_function-requires-clause-at c = stands c.requires.runs
-
-pub new_function-requires-clause-room : goal.new_function-requires-clause-room
-new_function-requires-clause-room c = room c.requires.runs
-
-pub new_function-requires-clause-safe : goal.new_function-requires-clause-safe
-new_function-requires-clause-safe c = safe_here c.requires.runs c.requires.sound
-
-pub new_function-requires-clause-small : goal.new_function-requires-clause-small
-new_function-requires-clause-small c = let l = small c.requires.runs in omega (arith, l)
+pub new_function-requires : goal.new_function-requires
+new_function-requires c = let l = small c.requires.runs in record { sound = c.requires.sound; at = stands c.requires.runs; room = room c.requires.runs; small = omega (arith, l); safe = safe_here c.requires.runs c.requires.sound }
 
 pub returns-clause-does : goal.returns-clause-does
 returns-clause-does c =

@@ -8,8 +8,5 @@ returns-clause-does c =
     let r = c.requires.runs in
     IfOk-weaker c.return_some.result _ _ (λ ending s. does r (s [])) c.return_some.ensures.steps
 
-pub return_some-requires-clause-there : goal.return_some-requires-clause-there
-return_some-requires-clause-there c = returns_there c.requires.runs c.requires.sound
-
-pub return_some-requires-clause-safe : goal.return_some-requires-clause-safe
-return_some-requires-clause-safe c = may_return c.requires.runs c.requires.sound
+pub return_some-requires : goal.return_some-requires
+return_some-requires c = record { sound = c.requires.sound; there = returns_there c.requires.runs c.requires.sound; safe = may_return c.requires.runs c.requires.sound }

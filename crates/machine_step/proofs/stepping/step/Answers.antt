@@ -13,41 +13,30 @@ use Rattle.machine_step.proofs.stepping.step.Goals as goal
 pub go_from-requires : goal.go_from-requires
 go_from-requires c = record { ready = ready_as c.requires.ready c.in-Go.is }
 
-pub hand_results-requires-clause-order : goal.hand_results-requires-clause-order
-hand_results-requires-clause-order c = c.requires.ready.order
+pub hand_results-requires : goal.hand_results-requires
+hand_results-requires c = record { order = c.requires.ready.order; safe = results_are_safe (length all_entries) c.args.world.now (ready_as c.requires.ready c.in-Returned.is) }
 
-pub hand_results-requires-clause-safe : goal.hand_results-requires-clause-safe
-hand_results-requires-clause-safe c = results_are_safe (length all_entries) c.args.world.now (ready_as c.requires.ready c.in-Returned.is)
+pub call_asked-requires : goal.call_asked-requires
+call_asked-requires c =
+    record {
+      sound = ready_is_sound (length all_entries) _ c.args.world.now c.requires.ready;
+      running = asks_has_stack (length all_entries) c.args.world.now (ready_as c.requires.ready c.in-Asks.is);
+      safe = asked_is_safe (length all_entries) c.args.world.now (ready_as c.requires.ready c.in-Asks.is);
+    }
 
-pub call_asked-requires-clause-sound : goal.call_asked-requires-clause-sound
-call_asked-requires-clause-sound c = ready_is_sound (length all_entries) _ c.args.world.now c.requires.ready
+pub primitive-requires : goal.primitive-requires
+primitive-requires c =
+    record {
+      sound = ready_is_sound (length all_entries) _ c.args.world.now c.requires.ready;
+      running = call_has_stack (length all_entries) c.in-CallsPrimitive.number c.args.world.now (ready_as c.requires.ready c.in-CallsPrimitive.is);
+      safe = λ builds are. primitive_is_safe (length all_entries) c.in-CallsPrimitive.number (library builds) c.args.world.now (c.loading_is_safe.ensures.safe builds are) (ready_as c.requires.ready c.in-CallsPrimitive.is);
+    }
 
-pub call_asked-requires-clause-running : goal.call_asked-requires-clause-running
-call_asked-requires-clause-running c = asks_has_stack (length all_entries) c.args.world.now (ready_as c.requires.ready c.in-Asks.is)
+pub catch_error-requires : goal.catch_error-requires
+catch_error-requires c = record { sound = ready_is_sound (length all_entries) _ c.args.world.now c.requires.ready; safe = raised_is_safe (length all_entries) c.args.world.now (ready_as c.requires.ready c.in-Raised.is) }
 
-pub call_asked-requires-clause-safe : goal.call_asked-requires-clause-safe
-call_asked-requires-clause-safe c = asked_is_safe (length all_entries) c.args.world.now (ready_as c.requires.ready c.in-Asks.is)
-
-pub primitive-requires-clause-sound : goal.primitive-requires-clause-sound
-primitive-requires-clause-sound c = ready_is_sound (length all_entries) _ c.args.world.now c.requires.ready
-
-pub primitive-requires-clause-running : goal.primitive-requires-clause-running
-primitive-requires-clause-running c = call_has_stack (length all_entries) c.in-CallsPrimitive.number c.args.world.now (ready_as c.requires.ready c.in-CallsPrimitive.is)
-
-pub primitive-requires-clause-safe : goal.primitive-requires-clause-safe
-primitive-requires-clause-safe c = λ builds are. primitive_is_safe (length all_entries) c.in-CallsPrimitive.number (library builds) c.args.world.now (c.loading_is_safe.ensures.safe builds are) (ready_as c.requires.ready c.in-CallsPrimitive.is)
-
-pub catch_error-requires-clause-sound : goal.catch_error-requires-clause-sound
-catch_error-requires-clause-sound c = ready_is_sound (length all_entries) _ c.args.world.now c.requires.ready
-
-pub catch_error-requires-clause-safe : goal.catch_error-requires-clause-safe
-catch_error-requires-clause-safe c = raised_is_safe (length all_entries) c.args.world.now (ready_as c.requires.ready c.in-Raised.is)
-
-pub unwind_top-requires-clause-sound : goal.unwind_top-requires-clause-sound
-unwind_top-requires-clause-sound c = ready_is_sound (length all_entries) _ c.args.world.now c.requires.ready
-
-pub unwind_top-requires-clause-safe : goal.unwind_top-requires-clause-safe
-unwind_top-requires-clause-safe c = error_is_safe (length all_entries) c.args.world.now (ready_as c.requires.ready c.in-Unwinding.is)
+pub unwind_top-requires : goal.unwind_top-requires
+unwind_top-requires c = record { sound = ready_is_sound (length all_entries) _ c.args.world.now c.requires.ready; safe = error_is_safe (length all_entries) c.args.world.now (ready_as c.requires.ready c.in-Unwinding.is) }
 
 pub returns-in-Go-clause-does : goal.returns-in-Go-clause-does
 returns-in-Go-clause-does c = IfOk-weaker c.go_from.result _ _ (λ next d. did_as c.in-Go.is d) c.go_from.ensures.does

@@ -6,30 +6,19 @@ use Rattle.running_frame.specs.Calling.{HoldsCallee, one_less}
 use Rattle.running_frame.proofs.Calls.{less_is}
 use Rattle.running_frame.proofs.calling.enter.Goals as goal
 
-pub call-requires-clause-arguments : goal.call-requires-clause-arguments
-call-requires-clause-arguments c =
+pub call-requires : goal.call-requires
+call-requires c =
     let h = c.requires.top in
     let many = ap length (sym (c.registers.ensures h.value h.below h.top h.is)) ∙ length-map c.registers.result.now h.value in
     let room = c.in_ok-id.ensures.room in
-    record { value = h.value; below = h.below; top = h.top; is = h.is; room = omega (arith, many, room) }
-
-pub call-requires-clause-size : goal.call-requires-clause-size
-call-requires-clause-size c =
     let yes : c.may_give_up.result ≡ true = search rules in
-    c.may_give_up.ensures.there yes
-
-pub call-requires-clause-within : goal.call-requires-clause-within
-call-requires-clause-within c =
-    let yes : c.may_give_up.result ≡ true = search rules in
-    c.may_give_up.ensures.within yes
-
-pub call-requires-clause-closed : goal.call-requires-clause-closed
-call-requires-clause-closed c =
-    let yes : c.may_give_up.result ≡ true = search rules in
-    c.may_give_up.ensures.closed yes
-
-pub call-requires-clause-params : goal.call-requires-clause-params
-call-requires-clause-params c = c.in_ok-shape.ensures.params
+    record {
+      arguments = record { value = h.value; below = h.below; top = h.top; is = h.is; room = omega (arith, many, room) };
+      size = c.may_give_up.ensures.there yes;
+      within = c.may_give_up.ensures.within yes;
+      closed = c.may_give_up.ensures.closed yes;
+      params = c.in_ok-shape.ensures.params;
+    }
 
 pub returns-in-Ok-clause-enters : goal.returns-in-Ok-clause-enters
 returns-in-Ok-clause-enters c =

@@ -7,11 +7,8 @@ use Rattle.running_frame.proofs.place.find_here.Goals as goal
 pub place_on_top-pc-requires : goal.place_on_top-pc-requires
 place_on_top-pc-requires c = go_has_frame (length all_entries) c.args.world.now c.requires.ready
 
-pub word_at-requires-clause-codes : goal.word_at-requires-clause-codes
-word_at-requires-clause-codes c = c.requires.ready.order.codes
-
-pub word_at-requires-clause-there : goal.word_at-requires-clause-there
-word_at-requires-clause-there c = has_word (ready_is_sound (length all_entries) _ c.args.world.now c.requires.ready) c.place_on_top-pc.ensures
+pub word_at-requires : goal.word_at-requires
+word_at-requires c = record { codes = c.requires.ready.order.codes; there = has_word (ready_is_sound (length all_entries) _ c.args.world.now c.requires.ready) c.place_on_top-pc.ensures }
 
 pub is_running-requires : goal.is_running-requires
 is_running-requires c = go_has_frame (length all_entries) c.args.world.now c.requires.ready

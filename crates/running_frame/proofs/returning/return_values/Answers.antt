@@ -5,20 +5,14 @@ use Rattle.running_frame.specs.Standing.{IsClosedFrom}
 use Rattle.running_frame.proofs.Takers.{caller_kept, frames_there}
 use Rattle.running_frame.proofs.returning.return_values.Goals as goal
 
-pub pop-requires-clause-there : goal.pop-requires-clause-there
-pop-requires-clause-there c = frames_there c.requires.top
-
-pub pop-requires-clause-closed : goal.pop-requires-clause-closed
-pop-requires-clause-closed c =
+pub pop-requires : goal.pop-requires
+pop-requires c =
     let yes : c.is_first.result ≡ true = search rules in
     let closed = subst (λ o. IfSome o (λ register. IsClosedFrom c.args.stack.now register)) (c.is_first.ensures yes) c.requires.closed in
-    λ f below t e. closed.none
+    record { there = frames_there c.requires.top; closed = λ f below t e. closed.none }
 
-pub hand-requires-clause-few : goal.hand-requires-clause-few
-hand-requires-clause-few c = c.in_ok-taker.ensures.takes.few
-
-pub hand-requires-clause-room : goal.hand-requires-clause-room
-hand-requires-clause-room c = caller_kept _ c.in_ok-caller.ensures c.pop.ensures.frames c.in_ok-taker.ensures.takes.room
+pub hand-requires : goal.hand-requires
+hand-requires c = record { few = c.in_ok-taker.ensures.takes.few; room = caller_kept _ c.in_ok-caller.ensures c.pop.ensures.frames c.in_ok-taker.ensures.takes.room }
 
 pub returns-clause-returns : goal.returns-clause-returns
 returns-clause-returns c =

@@ -8,21 +8,14 @@ use Rattle.running_frame.specs.Standing.{IsClosedFrom}
 use Rattle.running_frame.proofs.Calls.{less_is}
 use Rattle.running_frame.proofs.tail_calling.replace.Goals as goal
 
-pub tail_call-requires-clause-arguments : goal.tail_call-requires-clause-arguments
-tail_call-requires-clause-arguments c =
+pub tail_call-requires : goal.tail_call-requires
+tail_call-requires c =
     let h = c.requires.top in
     let many = ap length (sym (c.registers.ensures h.value h.below h.top h.is)) ∙ length-map c.registers.result.now h.value in
     let room = c.in_ok-id.ensures.room in
-    record { value = h.value; below = h.below; top = h.top; is = h.is; room = omega (arith, many, room) }
-
-pub tail_call-requires-clause-closed : goal.tail_call-requires-clause-closed
-tail_call-requires-clause-closed c =
     let yes : c.is_first.result ≡ true = search rules in
     let closed = subst (λ o. IfSome o (λ register. IsClosedFrom c.args.stack.now register)) (c.is_first.ensures yes) c.requires.closed in
-    closed.none
-
-pub tail_call-requires-clause-params : goal.tail_call-requires-clause-params
-tail_call-requires-clause-params c = c.in_ok-shape.ensures.params
+    record { arguments = record { value = h.value; below = h.below; top = h.top; is = h.is; room = omega (arith, many, room) }; closed = closed.none; params = c.in_ok-shape.ensures.params }
 
 pub returns-in-Ok-clause-replaces : goal.returns-in-Ok-clause-replaces
 returns-in-Ok-clause-replaces c =

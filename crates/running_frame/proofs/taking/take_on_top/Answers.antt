@@ -20,14 +20,14 @@ running-co-requires c =
 pub get_mut-requires : goal.get_mut-requires
 get_mut-requires c = within c.running-co.ensures
 
-pub take_values-requires-clause-top : goal.take_values-requires-clause-top
-take_values-requires-clause-top c =
+pub take_values-requires : goal.take_values-requires
+take_values-requires c =
     let f = go_has_frame (length all_entries) c.args.world.now c.requires.ready in
     let r = found_runs c.get_mut.result.now c.in-Running.stack c.running-co.ensures c.get_mut.ensures.value c.in-Running.is in
-    lua_top c.args.world.now c.running-co.result c.in-Running.stack f.place r f.is
-
-pub take_values-requires-clause-codes : goal.take_values-requires-clause-codes
-take_values-requires-clause-codes c = (are_functions (length all_entries) c.args.world.now c.requires.ready.after c.requires.ready.order c.checked_code_is_there.ensures).have
+    record {
+      top = lua_top c.args.world.now c.running-co.result c.in-Running.stack f.place r f.is;
+      codes = (are_functions (length all_entries) c.args.world.now c.requires.ready.after c.requires.ready.order c.checked_code_is_there.ensures).have;
+    }
 
 pub returns-clause-takes : goal.returns-clause-takes
 returns-clause-takes c =

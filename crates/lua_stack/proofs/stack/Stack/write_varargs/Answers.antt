@@ -6,20 +6,16 @@ use Rattle.lua_stack.proofs.stack.Stack.write_varargs.Goals as goal
 pub extra_in-count-requires : goal.extra_in-count-requires
 extra_in-count-requires c = c.self.invariant.0.within.extra
 
-pub copy-requires-clause-from : goal.copy-requires-clause-from
-copy-requires-clause-from c =
+pub copy-requires : goal.copy-requires
+copy-requires c =
     let i = c.self.invariant.0.within in
     let x = i.extra in
     let z = i.end in
     let n = c.extra_in-count.ensures in
     let g = c.in_ok-grow.ensures.longer in
-    omega (arith, x, z, n, g)
-
-pub copy-requires-clause-to : goal.copy-requires-clause-to
-copy-requires-clause-to c =
     let a = c.in_ok-grow.ensures.room in
     let b = c.in_ok-end.ensures in
-    omega (arith, a, b)
+    record { from = omega (arith, x, z, n, g); to = omega (arith, a, b) }
 
 pub invariant_of-self-2 : goal.invariant_of-self-2
 invariant_of-self-2 c =

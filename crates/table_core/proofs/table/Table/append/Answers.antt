@@ -5,18 +5,14 @@ use Rattle.table_core.proofs.BorderLemmas.{beside-grown, border-few, get-grown}
 use Rattle.table_core.proofs.TableLemmas.{kept-crowded, kept-roomy}
 use Rattle.table_core.proofs.table.Table.append.Goals as goal
 
-pub mended-self-inside-requires-clause-beside : goal.mended-self-inside-requires-clause-beside
-mended-self-inside-requires-clause-beside c =
-    beside-grown c.self.inside.rows c.insert_last.new.self c.args.key c.args.value c.self.inside.border c.self.invariant.1 c.in_ok-insert_last.ensures.added
-
-pub mended-self-inside-requires-clause-small : goal.mended-self-inside-requires-clause-small
-mended-self-inside-requires-clause-small c =
-    border-few c.self.inside.rows c.self.inside.border c.self.invariant.1 c.self.invariant.0.few
-
-pub mended-self-inside-requires-clause-written : goal.mended-self-inside-requires-clause-written
-mended-self-inside-requires-clause-written c =
+pub mended-self-inside-requires : goal.mended-self-inside-requires
+mended-self-inside-requires c =
     let absent : has_row lua_values c.self.inside.rows c.args.key ≡ false = rw (← c.self.view_is) at c.requires.absent in
-    get-grown c.self.inside.rows c.insert_last.new.self c.args.key c.args.value absent c.in_ok-insert_last.ensures.added
+    record {
+      beside = beside-grown c.self.inside.rows c.insert_last.new.self c.args.key c.args.value c.self.inside.border c.self.invariant.1 c.in_ok-insert_last.ensures.added;
+      small = border-few c.self.inside.rows c.self.inside.border c.self.invariant.1 c.self.invariant.0.few;
+      written = get-grown c.self.inside.rows c.insert_last.new.self c.args.key c.args.value absent c.in_ok-insert_last.ensures.added;
+    }
 
 pub returns-then-len-self-clause-ok : goal.returns-then-len-self-clause-ok
 returns-then-len-self-clause-ok c =

@@ -9,20 +9,15 @@ use Rattle.table_core.proofs.TableLemmas.{IsKept-filter, IsKept-grown, tally}
 use Rattle.table_core.proofs.ValueLemmas.{lua_values-AreValues}
 use Rattle.table_core.proofs.table.Table.append_dropping.Goals as goal
 
-pub mended-self-inside-requires-clause-beside : goal.mended-self-inside-requires-clause-beside
-mended-self-inside-requires-clause-beside c =
-    let rows = c.self.inside.rows in
-    beside-grown (filter (is_filled lua_values) rows) c.insert_dropping.new.self c.args.key c.args.value c.self.inside.border (border-filter rows c.self.inside.border c.self.invariant.0.are_rows.distinct c.self.invariant.1) c.in_ok-insert_dropping.ensures.added
-
-pub mended-self-inside-requires-clause-small : goal.mended-self-inside-requires-clause-small
-mended-self-inside-requires-clause-small c =
-    border-few c.self.inside.rows c.self.inside.border c.self.invariant.1 c.self.invariant.0.few
-
-pub mended-self-inside-requires-clause-written : goal.mended-self-inside-requires-clause-written
-mended-self-inside-requires-clause-written c =
+pub mended-self-inside-requires : goal.mended-self-inside-requires
+mended-self-inside-requires c =
     let rows = c.self.inside.rows in
     let absent : has_row lua_values rows c.args.key ≡ false = rw (← c.self.view_is) at c.requires.absent in
-    get-grown (filter (is_filled lua_values) rows) c.insert_dropping.new.self c.args.key c.args.value (absent-filter lua_values lua_values-AreValues (is_filled lua_values) rows c.args.key absent) c.in_ok-insert_dropping.ensures.added
+    record {
+      beside = beside-grown (filter (is_filled lua_values) rows) c.insert_dropping.new.self c.args.key c.args.value c.self.inside.border (border-filter rows c.self.inside.border c.self.invariant.0.are_rows.distinct c.self.invariant.1) c.in_ok-insert_dropping.ensures.added;
+      small = border-few c.self.inside.rows c.self.inside.border c.self.invariant.1 c.self.invariant.0.few;
+      written = get-grown (filter (is_filled lua_values) rows) c.insert_dropping.new.self c.args.key c.args.value (absent-filter lua_values lua_values-AreValues (is_filled lua_values) rows c.args.key absent) c.in_ok-insert_dropping.ensures.added;
+    }
 
 pub invariant_of-self-2 : goal.invariant_of-self-2
 invariant_of-self-2 c =

@@ -10,17 +10,13 @@ overflow_sub-self c =
     let found = sym c.in-Some.ensures.was in
     rw c.nil_count.ensures (tally-le c.self.inside.rows c.self.inside.cleared (value_eq c.args.key) c.in-Some.was c.self.invariant.0 found)
 
-pub mended-self-inside-requires-clause-beside : goal.mended-self-inside-requires-clause-beside
-mended-self-inside-requires-clause-beside c =
-    beside-replaced c.self.inside.rows c.replace.new.self c.args.key c.args.value c.self.inside.border c.self.invariant.1 c.in-Some.ensures.now
-
-pub mended-self-inside-requires-clause-small : goal.mended-self-inside-requires-clause-small
-mended-self-inside-requires-clause-small c =
-    border-few c.self.inside.rows c.self.inside.border c.self.invariant.1 c.self.invariant.0.few
-
-pub mended-self-inside-requires-clause-written : goal.mended-self-inside-requires-clause-written
-mended-self-inside-requires-clause-written c =
-    get-replaced c.self.inside.rows c.replace.new.self c.args.key c.in-Some.was c.args.value (sym c.in-Some.ensures.was) c.in-Some.ensures.now
+pub mended-self-inside-requires : goal.mended-self-inside-requires
+mended-self-inside-requires c =
+    record {
+      beside = beside-replaced c.self.inside.rows c.replace.new.self c.args.key c.args.value c.self.inside.border c.self.invariant.1 c.in-Some.ensures.now;
+      small = border-few c.self.inside.rows c.self.inside.border c.self.invariant.1 c.self.invariant.0.few;
+      written = get-replaced c.self.inside.rows c.replace.new.self c.args.key c.in-Some.was c.args.value (sym c.in-Some.ensures.was) c.in-Some.ensures.now;
+    }
 
 pub invariant_of-self : goal.invariant_of-self
 invariant_of-self c =
