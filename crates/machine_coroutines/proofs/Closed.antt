@@ -22,7 +22,7 @@ use Rattle.move_laws.specs.Memory.{Runs, ChangesStack, Leads, Makes}
 use Rattle.move_laws.proofs.Rows.{first, ended}
 use Rattle.move_laws.proofs.Running.{changed_stack_is_put, set_same}
 use Rattle.machine_moves.specs.Tops.{TopIs}
-use Rattle.machine_moves.proofs.OnTop.{kept_as, runs_after, stack_kept, put_same}
+use Rattle.machine_moves.proofs.OnTop.{kept_as, runs_after, same_stack, stack_kept, put_same}
 use Rattle.machine_coroutines.specs.Closings.{LeavesWith, closing_of, error_or, shape_of, values_of}
 use Rattle.lua_heap.proofs.Resumed.{without_mapped}
 
@@ -38,6 +38,10 @@ closing_top s e = by (last s.frames) refl e
     by (Some (kept_xpcall h)) q t = absurd (cc)
     by (Some kept_handler) q t = absurd (cc)
     by (Some (kept_closing error left)) q t = record { below = without_last s.frames; error = error; left = left; is = last_splits s.frames (kept_closing error left) q }
+
+-- and so it is on the stack that is found to run
+pub closing_found : {W : Memory} {co : CoroId} {s : KeptStack} → TopIs W ClosingTop → Runs W co s → HasClosingTop s
+closing_found {W} {co} {s} q r = subst HasClosingTop (same_stack W q.co co q.stack s q.runs r) (closing_top q.stack q.is)
 
 pub top_after : (old new : Memory) (co : CoroId) (s s' : KeptStack) (below : List KeptFrame) (error : Option Kept) (left : List Kept) → Runs old co s → ChangesStack old new co s'
     → s'.frames ≡ below ++ kept_closing error left ∷ [] → TopIs new ClosingTop

@@ -1,5 +1,6 @@
 pub mod Stacks
 pub mod OnTop
+pub mod InPlace
 pub mod OfCode
 pub mod Settling
 pub mod NewObjects

@@ -1,7 +1,7 @@
 use Rattle.std.proofs.Common.{refl}
-use Rattle.move_laws.proofs.Order.{listed_after}
-use Rattle.machine_moves.proofs.Stacks.{within, found_runs, with_stack}
-use Rattle.machine_moves.proofs.OnTop.{if_ok, kept_whole, on_err}
+use Rattle.machine_moves.proofs.Stacks.{within}
+use Rattle.machine_moves.proofs.OnTop.{if_ok, on_err}
+use Rattle.machine_moves.proofs.InPlace.{found, listed_in_place, kept_in_place}
 use Rattle.machine_coroutines.proofs.Ended.{if_ok_one}
 use Rattle.machine_coroutines.proofs.beginning.push_closing.Goals as goal
 
@@ -10,7 +10,7 @@ get_mut-requires c = within c.running-co.ensures
 
 pub returns-clause-pushes : goal.returns-clause-pushes
 returns-clause-pushes c =
-    let r = found_runs c.get_mut.result.now c.in-Running.stack c.running-co.ensures c.get_mut.ensures.value c.in-Running.is in
+    let r = found c.running-co.ensures c.get_mut.ensures.value c.in-Running.is in
     if_ok c.push_on.result c.push_on.ensures.room c.push_on.ensures.pushed (λ room q e. record {
       co = c.running-co.result;
       before = c.in-Running.stack;
@@ -22,16 +22,10 @@ returns-clause-pushes c =
     })
 
 pub returns-clause-same : goal.returns-clause-same
-returns-clause-same c =
-    let r = found_runs c.get_mut.result.now c.in-Running.stack c.running-co.ensures c.get_mut.ensures.value c.in-Running.is in
-    if_ok_one c.push_on.result c.push_on.ensures.same (λ room k b. kept_whole c.args.world.now c.running-co.result c.in-Running.stack c.push_on.new.stack r (k b))
+returns-clause-same c = if_ok_one c.push_on.result c.push_on.ensures.same (λ room k b. kept_in_place c.running-co.ensures c.get_mut.ensures.value c.in-Running.is c.push_on.new.stack (k b))
 
 pub returns-clause-err : goal.returns-clause-err
-returns-clause-err c =
-    let r = found_runs c.get_mut.result.now c.in-Running.stack c.running-co.ensures c.get_mut.ensures.value c.in-Running.is in
-    on_err c.push_on.result c.push_on.ensures.err (λ e. kept_whole c.args.world.now c.running-co.result c.in-Running.stack c.push_on.new.stack r e)
+returns-clause-err c = on_err c.push_on.result c.push_on.ensures.err (λ e. kept_in_place c.running-co.ensures c.get_mut.ensures.value c.in-Running.is c.push_on.new.stack e)
 
 pub returns-clause-listed : goal.returns-clause-listed
-returns-clause-listed c =
-    let r = found_runs c.get_mut.result.now c.in-Running.stack c.running-co.ensures c.get_mut.ensures.value c.in-Running.is in
-    listed_after c.args.world.now (with_stack c.args.world.now c.running-co.result c.push_on.new.stack) c.running-co.result c.in-Running.stack c.push_on.new.stack r (record { rest = refl; objects = refl }) c.push_on.ensures.cells
+returns-clause-listed c = listed_in_place c.running-co.ensures c.get_mut.ensures.value c.in-Running.is c.push_on.new.stack c.push_on.ensures.cells

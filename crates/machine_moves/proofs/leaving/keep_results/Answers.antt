@@ -2,9 +2,9 @@ use Rattle.std.proofs.Common.{refl, ap, sym}
 use Rattle.std.specs.Prelude.{nat_lt, nat_le, ◌||◌, ◌&&◌, ◌+◌, max}
 use Rattle.machine_core.specs.Text.{keep_results, is_pending, blanked, behind}
 use Rattle.lua_stack.specs.Frames.{with_opened, with_registers}
-use Rattle.move_laws.proofs.Running.{with_top, place_after, has_stack, registers_there, own_made}
-use Rattle.move_laws.proofs.Order.{listed_after}
-use Rattle.machine_moves.proofs.Stacks.{within, with_stack, found_runs}
+use Rattle.move_laws.proofs.Running.{has_stack}
+use Rattle.machine_moves.proofs.Stacks.{within}
+use Rattle.machine_moves.proofs.InPlace.{registers_found, own_in_place, stands_in_place, listed_in_place}
 use Rattle.machine_moves.proofs.leaving.keep_results.Goals as goal
 
 pub running-co-requires : goal.running-co-requires
@@ -14,27 +14,17 @@ pub get_mut-requires : goal.get_mut-requires
 get_mut-requires c = within c.running-co.ensures
 
 pub keep_results-requires-clause-there : goal.keep_results-requires-clause-there
-keep_results-requires-clause-there c =
-    let r = found_runs c.get_mut.result.now c.in-Running.stack c.running-co.ensures c.get_mut.ensures.value c.in-Running.is in
-    registers_there c.args.world.now c.running-co.result c.in-Running.stack c.requires.place (max c.args.stack_size (behind c.args.from c.args.count)) r c.requires.is c.requires.room
+keep_results-requires-clause-there c = registers_found c.running-co.ensures c.get_mut.ensures.value c.in-Running.is c.requires.place (max c.args.stack_size (behind c.args.from c.args.count)) c.requires.is c.requires.room
 
 pub returns-clause-makes : goal.returns-clause-makes
 returns-clause-makes c = λ env.
-    let r = found_runs c.get_mut.result.now c.in-Running.stack c.running-co.ensures c.get_mut.ensures.value c.in-Running.is in
     let p = c.requires.place in
-    own_made c.args.world.now _ c.running-co.result c.in-Running.stack c.keep_results.new.self p (λ f t. with_opened 0 (with_registers (blanked (λ i. is_pending t.own.pending i || (nat_le c.args.from i && nat_lt i (c.args.from + c.args.count))) 0 (max c.args.stack_size (behind c.args.from c.args.count)) t.own.registers) t)) (keep_results c.args.from c.args.count) env
-    r c.requires.is refl (record { rest = refl; objects = refl }) c.keep_results.ensures (λ co frame cells. refl) (ap (λ n. with_opened 0 (with_registers (blanked (λ i. is_pending p.top.own.pending i || (nat_le c.args.from i && nat_lt i (c.args.from + c.args.count))) 0 (max n (behind c.args.from c.args.count)) p.top.own.registers) p.top)) (sym c.requires.size))
+    own_in_place c.running-co.ensures c.get_mut.ensures.value c.in-Running.is c.keep_results.new.self p (λ f t. with_opened 0 (with_registers (blanked (λ i. is_pending t.own.pending i || (nat_le c.args.from i && nat_lt i (c.args.from + c.args.count))) 0 (max c.args.stack_size (behind c.args.from c.args.count)) t.own.registers) t)) (keep_results c.args.from c.args.count) env
+    c.requires.is refl c.keep_results.ensures (λ co frame cells. refl) (ap (λ n. with_opened 0 (with_registers (blanked (λ i. is_pending p.top.own.pending i || (nat_le c.args.from i && nat_lt i (c.args.from + c.args.count))) 0 (max n (behind c.args.from c.args.count)) p.top.own.registers) p.top)) (sym c.requires.size))
 
 pub returns-clause-at : goal.returns-clause-at
-returns-clause-at c = λ pc s.
-    let r = found_runs c.get_mut.result.now c.in-Running.stack c.running-co.ensures c.get_mut.ensures.value c.in-Running.is in
-    record {
-      place = with_top s.place (with_opened 0 (with_registers (blanked (λ i. is_pending s.place.top.own.pending i || (nat_le c.args.from i && nat_lt i (c.args.from + c.args.count))) 0 (max c.args.stack_size (behind c.args.from c.args.count)) s.place.top.own.registers) s.place.top));
-      is = place_after c.args.world.now (with_stack c.args.world.now c.running-co.result c.keep_results.new.self) c.running-co.result c.in-Running.stack c.keep_results.new.self s.place (λ f t. with_opened 0 (with_registers (blanked (λ i. is_pending t.own.pending i || (nat_le c.args.from i && nat_lt i (c.args.from + c.args.count))) 0 (max c.args.stack_size (behind c.args.from c.args.count)) t.own.registers) t)) r s.is (record { rest = refl; objects = refl }) c.keep_results.ensures refl;
-      at = s.at;
-    }
+returns-clause-at c =
+    stands_in_place c.running-co.ensures c.get_mut.ensures.value c.in-Running.is c.keep_results.new.self (λ f t. with_opened 0 (with_registers (blanked (λ i. is_pending t.own.pending i || (nat_le c.args.from i && nat_lt i (c.args.from + c.args.count))) 0 (max c.args.stack_size (behind c.args.from c.args.count)) t.own.registers) t)) c.keep_results.ensures (λ u. refl) (λ u. refl)
 
 pub returns-clause-listed : goal.returns-clause-listed
-returns-clause-listed c =
-    let r = found_runs c.get_mut.result.now c.in-Running.stack c.running-co.ensures c.get_mut.ensures.value c.in-Running.is in
-    listed_after c.args.world.now (with_stack c.args.world.now c.running-co.result c.keep_results.new.self) c.running-co.result c.in-Running.stack c.keep_results.new.self r (record { rest = refl; objects = refl }) c.keep_results.ensures.cells
+returns-clause-listed c = listed_in_place c.running-co.ensures c.get_mut.ensures.value c.in-Running.is c.keep_results.new.self c.keep_results.ensures.cells

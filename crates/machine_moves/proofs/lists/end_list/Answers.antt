@@ -2,9 +2,9 @@ use Rattle.std.proofs.Common.{refl, ap, sym}
 use Rattle.std.specs.Prelude.{take}
 use Rattle.machine_core.specs.Text.{end_list}
 use Rattle.lua_stack.specs.Frames.{with_opened, with_registers}
-use Rattle.move_laws.proofs.Running.{with_top, place_after, has_stack, registers_there, own_made}
-use Rattle.move_laws.proofs.Order.{listed_after}
-use Rattle.machine_moves.proofs.Stacks.{within, with_stack, found_runs}
+use Rattle.move_laws.proofs.Running.{has_stack}
+use Rattle.machine_moves.proofs.Stacks.{within}
+use Rattle.machine_moves.proofs.InPlace.{registers_found, own_in_place, stands_in_place, listed_in_place}
 use Rattle.machine_moves.proofs.lists.end_list.Goals as goal
 
 pub running-co-requires : goal.running-co-requires
@@ -14,27 +14,17 @@ pub get_mut-requires : goal.get_mut-requires
 get_mut-requires c = within c.running-co.ensures
 
 pub end_list-requires-clause-there : goal.end_list-requires-clause-there
-end_list-requires-clause-there c =
-    let r = found_runs c.get_mut.result.now c.in-Running.stack c.running-co.ensures c.get_mut.ensures.value c.in-Running.is in
-    registers_there c.args.world.now c.running-co.result c.in-Running.stack c.requires.place c.args.stack_size r c.requires.is c.requires.room
+end_list-requires-clause-there c = registers_found c.running-co.ensures c.get_mut.ensures.value c.in-Running.is c.requires.place c.args.stack_size c.requires.is c.requires.room
 
 pub returns-clause-makes : goal.returns-clause-makes
 returns-clause-makes c = λ env.
-    let r = found_runs c.get_mut.result.now c.in-Running.stack c.running-co.ensures c.get_mut.ensures.value c.in-Running.is in
     let p = c.requires.place in
-    own_made c.args.world.now _ c.running-co.result c.in-Running.stack c.end_list.new.self p (λ f t. with_opened 0 (with_registers (take c.args.stack_size t.own.registers) t)) end_list env
-    r c.requires.is refl (record { rest = refl; objects = refl }) c.end_list.ensures (λ co frame cells. refl) (ap (λ n. with_opened 0 (with_registers (take n p.top.own.registers) p.top)) (sym c.requires.size))
+    own_in_place c.running-co.ensures c.get_mut.ensures.value c.in-Running.is c.end_list.new.self p (λ f t. with_opened 0 (with_registers (take c.args.stack_size t.own.registers) t)) end_list env
+    c.requires.is refl c.end_list.ensures (λ co frame cells. refl) (ap (λ n. with_opened 0 (with_registers (take n p.top.own.registers) p.top)) (sym c.requires.size))
 
 pub returns-clause-at : goal.returns-clause-at
-returns-clause-at c = λ pc s.
-    let r = found_runs c.get_mut.result.now c.in-Running.stack c.running-co.ensures c.get_mut.ensures.value c.in-Running.is in
-    record {
-      place = with_top s.place (with_opened 0 (with_registers (take c.args.stack_size s.place.top.own.registers) s.place.top));
-      is = place_after c.args.world.now (with_stack c.args.world.now c.running-co.result c.end_list.new.self) c.running-co.result c.in-Running.stack c.end_list.new.self s.place (λ f t. with_opened 0 (with_registers (take c.args.stack_size t.own.registers) t)) r s.is (record { rest = refl; objects = refl }) c.end_list.ensures refl;
-      at = s.at;
-    }
+returns-clause-at c =
+    stands_in_place c.running-co.ensures c.get_mut.ensures.value c.in-Running.is c.end_list.new.self (λ f t. with_opened 0 (with_registers (take c.args.stack_size t.own.registers) t)) c.end_list.ensures (λ u. refl) (λ u. refl)
 
 pub returns-clause-listed : goal.returns-clause-listed
-returns-clause-listed c =
-    let r = found_runs c.get_mut.result.now c.in-Running.stack c.running-co.ensures c.get_mut.ensures.value c.in-Running.is in
-    listed_after c.args.world.now (with_stack c.args.world.now c.running-co.result c.end_list.new.self) c.running-co.result c.in-Running.stack c.end_list.new.self r (record { rest = refl; objects = refl }) c.end_list.ensures.cells
+returns-clause-listed c = listed_in_place c.running-co.ensures c.get_mut.ensures.value c.in-Running.is c.end_list.new.self c.end_list.ensures.cells

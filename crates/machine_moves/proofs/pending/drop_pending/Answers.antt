@@ -2,9 +2,9 @@ use Rattle.std.proofs.Common.{refl}
 use Rattle.std.specs.Prelude.{filter, nat_lt}
 use Rattle.machine_core.specs.Text.{drop_pending}
 use Rattle.lua_stack.specs.Frames.{with_pending}
-use Rattle.move_laws.proofs.Running.{with_top, place_after, has_stack, lua_top, own_made}
-use Rattle.move_laws.proofs.Order.{listed_after}
-use Rattle.machine_moves.proofs.Stacks.{within, with_stack, found_runs}
+use Rattle.move_laws.proofs.Running.{has_stack}
+use Rattle.machine_moves.proofs.Stacks.{within}
+use Rattle.machine_moves.proofs.InPlace.{top_found, own_in_place, stands_in_place, listed_in_place}
 use Rattle.machine_moves.proofs.pending.drop_pending.Goals as goal
 
 pub running-co-requires : goal.running-co-requires
@@ -14,27 +14,17 @@ pub get_mut-requires : goal.get_mut-requires
 get_mut-requires c = within c.running-co.ensures
 
 pub drop_pending-requires : goal.drop_pending-requires
-drop_pending-requires c =
-    let r = found_runs c.get_mut.result.now c.in-Running.stack c.running-co.ensures c.get_mut.ensures.value c.in-Running.is in
-    lua_top c.args.world.now c.running-co.result c.in-Running.stack c.requires.place r c.requires.is
+drop_pending-requires c = top_found c.running-co.ensures c.get_mut.ensures.value c.in-Running.is c.requires.place c.requires.is
 
 pub returns-clause-makes : goal.returns-clause-makes
 returns-clause-makes c =
-    let r = found_runs c.get_mut.result.now c.in-Running.stack c.running-co.ensures c.get_mut.ensures.value c.in-Running.is in
     let p = c.requires.place in
-    λ env. own_made c.args.world.now _ c.running-co.result c.in-Running.stack c.drop_pending.new.self p (λ f t. with_pending (filter (λ q. nat_lt q c.args.register) t.own.pending) t) (drop_pending c.args.register) env
-    r c.requires.is c.requires.fits (record { rest = refl; objects = refl }) c.drop_pending.ensures (λ co frame cells. refl) refl
+    λ env. own_in_place c.running-co.ensures c.get_mut.ensures.value c.in-Running.is c.drop_pending.new.self p (λ f t. with_pending (filter (λ q. nat_lt q c.args.register) t.own.pending) t) (drop_pending c.args.register) env
+    c.requires.is c.requires.fits c.drop_pending.ensures (λ co frame cells. refl) refl
 
 pub returns-clause-at : goal.returns-clause-at
-returns-clause-at c = λ pc s.
-    let r = found_runs c.get_mut.result.now c.in-Running.stack c.running-co.ensures c.get_mut.ensures.value c.in-Running.is in
-    record {
-      place = with_top s.place (with_pending (filter (λ q. nat_lt q c.args.register) s.place.top.own.pending) s.place.top);
-      is = place_after c.args.world.now (with_stack c.args.world.now c.running-co.result c.drop_pending.new.self) c.running-co.result c.in-Running.stack c.drop_pending.new.self s.place (λ f t. with_pending (filter (λ q. nat_lt q c.args.register) t.own.pending) t) r s.is (record { rest = refl; objects = refl }) c.drop_pending.ensures refl;
-      at = s.at;
-    }
+returns-clause-at c =
+    stands_in_place c.running-co.ensures c.get_mut.ensures.value c.in-Running.is c.drop_pending.new.self (λ f t. with_pending (filter (λ q. nat_lt q c.args.register) t.own.pending) t) c.drop_pending.ensures (λ u. refl) (λ u. refl)
 
 pub returns-clause-listed : goal.returns-clause-listed
-returns-clause-listed c =
-    let r = found_runs c.get_mut.result.now c.in-Running.stack c.running-co.ensures c.get_mut.ensures.value c.in-Running.is in
-    listed_after c.args.world.now (with_stack c.args.world.now c.running-co.result c.drop_pending.new.self) c.running-co.result c.in-Running.stack c.drop_pending.new.self r (record { rest = refl; objects = refl }) c.drop_pending.ensures.cells
+returns-clause-listed c = listed_in_place c.running-co.ensures c.get_mut.ensures.value c.in-Running.is c.drop_pending.new.self c.drop_pending.ensures.cells

@@ -1,9 +1,9 @@
 use Rattle.std.proofs.Common.{◌≡◌, ℕ, List, [], ◌∷◌, length, Some, refl, ap, sym, ◌∙◌}
 use Rattle.std.specs.Prelude.{map, slice_get}
 use Rattle.machine_core.specs.World.{LuaFrame}
-use Rattle.move_laws.proofs.Running.{has_stack, lua_top, pc_made}
-use Rattle.move_laws.proofs.Order.{listed_after}
-use Rattle.machine_moves.proofs.Stacks.{within, found_runs, with_stack}
+use Rattle.move_laws.proofs.Running.{has_stack, pc_made}
+use Rattle.machine_moves.proofs.Stacks.{within}
+use Rattle.machine_moves.proofs.InPlace.{found, top_found, listed_in_place}
 use Rattle.machine_moves.proofs.registers.go_to.Goals as goal
 
 pub running-co-requires : goal.running-co-requires
@@ -13,13 +13,11 @@ pub get_mut-requires : goal.get_mut-requires
 get_mut-requires c = within c.running-co.ensures
 
 pub set_pc-requires : goal.set_pc-requires
-set_pc-requires c =
-    let r = found_runs c.get_mut.result.now c.in-Running.stack c.running-co.ensures c.get_mut.ensures.value c.in-Running.is in
-    lua_top c.args.world.now c.running-co.result c.in-Running.stack c.requires.place r c.requires.is
+set_pc-requires c = top_found c.running-co.ensures c.get_mut.ensures.value c.in-Running.is c.requires.place c.requires.is
 
 pub returns-clause-makes : goal.returns-clause-makes
 returns-clause-makes c =
-    let r = found_runs c.get_mut.result.now c.in-Running.stack c.running-co.ensures c.get_mut.ensures.value c.in-Running.is in
+    let r = found c.running-co.ensures c.get_mut.ensures.value c.in-Running.is in
     let p = c.requires.place in
     record {
       makes = λ place e z f env.
@@ -29,6 +27,4 @@ returns-clause-makes c =
     }
 
 pub returns-clause-listed : goal.returns-clause-listed
-returns-clause-listed c =
-    let r = found_runs c.get_mut.result.now c.in-Running.stack c.running-co.ensures c.get_mut.ensures.value c.in-Running.is in
-    listed_after c.args.world.now (with_stack c.args.world.now c.running-co.result c.set_pc.new.self) c.running-co.result c.in-Running.stack c.set_pc.new.self r (record { rest = refl; objects = refl }) c.set_pc.ensures.cells
+returns-clause-listed c = listed_in_place c.running-co.ensures c.get_mut.ensures.value c.in-Running.is c.set_pc.new.self c.set_pc.ensures.cells

@@ -5,9 +5,9 @@ use Rattle.lua_heap.specs.Plain.{plain}
 use Rattle.lua_heap.specs.Reading.{value as meant}
 use Rattle.lua_stack.specs.Frames.{with_registers}
 use Rattle.machine_core.specs.Text.{behind, write_registers}
-use Rattle.move_laws.proofs.Running.{with_top, place_after, has_stack, shown, own_made, own_read}
-use Rattle.move_laws.proofs.Order.{listed_after}
-use Rattle.machine_moves.proofs.Stacks.{within, with_stack, found_runs, at_most}
+use Rattle.move_laws.proofs.Running.{has_stack, shown, own_read}
+use Rattle.machine_moves.proofs.Stacks.{within, at_most}
+use Rattle.machine_moves.proofs.InPlace.{found, own_in_place, stands_in_place, listed_in_place}
 use Rattle.machine_returns.proofs.Padded.{range_from}
 use Rattle.machine_returns.proofs.results.write_registers.Goals as goal
 
@@ -35,7 +35,7 @@ get_mut-requires c = within c.running-co.ensures
 
 pub write_padded-requires : goal.write_padded-requires
 write_padded-requires c =
-    let r = found_runs c.get_mut.result.now c.in-Running.stack c.running-co.ensures c.get_mut.ensures.value c.in-Running.is in
+    let r = found c.running-co.ensures c.get_mut.ensures.value c.in-Running.is in
     let p = c.requires.place in
     let h = shown c.args.world.now c.running-co.result c.in-Running.stack p r c.requires.is in
     record {
@@ -49,22 +49,14 @@ write_padded-requires c =
 
 pub returns-clause-makes : goal.returns-clause-makes
 returns-clause-makes c = λ env slot e.
-    let r = found_runs c.get_mut.result.now c.in-Running.stack c.running-co.ensures c.get_mut.ensures.value c.in-Running.is in
     let p = c.requires.place in
-    own_made c.args.world.now _ c.running-co.result c.in-Running.stack c.write_padded.new.stack p (λ f t. with_registers (write_all c.args.at (range 0 c.args.count (map f c.args.values.now)) t.own.registers) t) (write_registers c.args.at c.args.count slot) env
-    r c.requires.is c.requires.fits (record { rest = refl; objects = refl }) c.write_padded.ensures (λ co frame cells. refl)
+    own_in_place c.running-co.ensures c.get_mut.ensures.value c.in-Running.is c.write_padded.new.stack p (λ f t. with_registers (write_all c.args.at (range 0 c.args.count (map f c.args.values.now)) t.own.registers) t) (write_registers c.args.at c.args.count slot) env
+    c.requires.is c.requires.fits c.write_padded.ensures (λ co frame cells. refl)
     (ap (λ vs. with_registers (write_all c.args.at vs p.top.own.registers) p.top) (range_from slot c.args.count env ∙ ap (range 0 c.args.count) e))
 
 pub returns-clause-at : goal.returns-clause-at
-returns-clause-at c = λ pc s.
-    let r = found_runs c.get_mut.result.now c.in-Running.stack c.running-co.ensures c.get_mut.ensures.value c.in-Running.is in
-    record {
-      place = with_top s.place (with_registers (write_all c.args.at (range 0 c.args.count (map (meant c.args.world.now.strings) c.args.values.now)) s.place.top.own.registers) s.place.top);
-      is = place_after c.args.world.now (with_stack c.args.world.now c.running-co.result c.write_padded.new.stack) c.running-co.result c.in-Running.stack c.write_padded.new.stack s.place (λ f t. with_registers (write_all c.args.at (range 0 c.args.count (map f c.args.values.now)) t.own.registers) t) r s.is (record { rest = refl; objects = refl }) c.write_padded.ensures refl;
-      at = s.at;
-    }
+returns-clause-at c =
+    stands_in_place c.running-co.ensures c.get_mut.ensures.value c.in-Running.is c.write_padded.new.stack (λ f t. with_registers (write_all c.args.at (range 0 c.args.count (map f c.args.values.now)) t.own.registers) t) c.write_padded.ensures (λ u. refl) (λ u. refl)
 
 pub returns-clause-listed : goal.returns-clause-listed
-returns-clause-listed c =
-    let r = found_runs c.get_mut.result.now c.in-Running.stack c.running-co.ensures c.get_mut.ensures.value c.in-Running.is in
-    listed_after c.args.world.now (with_stack c.args.world.now c.running-co.result c.write_padded.new.stack) c.running-co.result c.in-Running.stack c.write_padded.new.stack r (record { rest = refl; objects = refl }) c.write_padded.ensures.cells
+returns-clause-listed c = listed_in_place c.running-co.ensures c.get_mut.ensures.value c.in-Running.is c.write_padded.new.stack c.write_padded.ensures.cells

@@ -3,9 +3,10 @@ use Rattle.std.proofs.lemmas.Option.{IfSome_then}
 use Rattle.machine_focus.specs.Focus.{Reaches}
 use Rattle.move_laws.proofs.Order.{lists_same, order_after}
 use Rattle.machine_loop.specs.Running.{Running}
-use Rattle.move_laws.proofs.Running.{has_stack, lua_top, of_top, shown}
+use Rattle.move_laws.proofs.Running.{has_stack, of_top, shown}
 use Rattle.machine_moves.proofs.OfCode.{function_kept, function_there}
-use Rattle.machine_moves.proofs.Stacks.{within, with_stack, found_runs}
+use Rattle.machine_moves.proofs.Stacks.{within, with_stack}
+use Rattle.machine_moves.proofs.InPlace.{found, top_found}
 use Rattle.machine_arms_tables.specs.Frame.{Code as LoopCode}
 use Rattle.running_frame.specs.Calling.{AreFunctions}
 use Rattle.running_frame.specs.Standing.{IsHereIn, MayRun, standing}
@@ -19,15 +20,13 @@ pub get_mut-requires : goal.get_mut-requires
 get_mut-requires g c = within c.running-co.ensures
 
 pub function-requires : goal.function-requires
-function-requires g c =
-    let r = found_runs c.get_mut.result.now c.in-Running.stack c.running-co.ensures c.get_mut.ensures.value c.in-Running.is in
-    lua_top c.args.world.now c.running-co.result c.in-Running.stack c.requires.place r c.requires.is
+function-requires g c = top_found c.running-co.ensures c.get_mut.ensures.value c.in-Running.is c.requires.place c.requires.is
 
 pub get-function-requires : goal.get-function-requires
 get-function-requires g c =
     let W = c.args.world.now in
     let h = c.requires in
-    let r = found_runs c.get_mut.result.now c.in-Running.stack c.running-co.ensures c.get_mut.ensures.value c.in-Running.is in
+    let r = found c.running-co.ensures c.get_mut.ensures.value c.in-Running.is in
     let n : c.function.result.0 ≡ h.place.top.function = of_top W c.running-co.result c.in-Running.stack h.place (λ f t. c.function.result.0 ≡ t.function) r h.is c.function.ensures in
     function_there W h.place c.function.result.0 (function_kept W h.place c.function.result.0 h.is n)
 
@@ -35,7 +34,7 @@ pub get-code-requires : goal.get-code-requires
 get-code-requires g c =
     let W = c.args.world.now in
     let h = c.requires in
-    let r = found_runs c.get_mut.result.now c.in-Running.stack c.running-co.ensures c.get_mut.ensures.value c.in-Running.is in
+    let r = found c.running-co.ensures c.get_mut.ensures.value c.in-Running.is in
     let n : c.function.result.0 ≡ h.place.top.function = of_top W c.running-co.result c.in-Running.stack h.place (λ f t. c.function.result.0 ≡ t.function) r h.is c.function.ensures in
     number_there g.g W h c.function.result.0 c.get-function.result.now n c.get-function.ensures c.checked_code_is_there.ensures
 
@@ -44,7 +43,7 @@ run_frame_on_top-requires g c =
     let W = c.args.world.now in
     let h = c.requires in
     let s = c.in-Running.stack in
-    let r = found_runs c.get_mut.result.now s c.running-co.ensures c.get_mut.ensures.value c.in-Running.is in
+    let r = found c.running-co.ensures c.get_mut.ensures.value c.in-Running.is in
     let n : c.function.result.0 ≡ h.place.top.function = of_top W c.running-co.result s h.place (λ f t. c.function.result.0 ≡ t.function) r h.is c.function.ensures in
     let f = c.get-function.result.now in
     let code = c.get-code.result.now in
@@ -77,7 +76,7 @@ returns-clause-reaches g c =
     let cells = c.run_frame_on_top.new.cells in
     let fuel = c.args.budget.now in
     let left = c.run_frame_on_top.new.budget in
-    let r = found_runs c.get_mut.result.now s c.running-co.ensures c.get_mut.ensures.value c.in-Running.is in
+    let r = found c.running-co.ensures c.get_mut.ensures.value c.in-Running.is in
     let x =
     subst (λ k. Reaches g.g.around.rows (standing k s W.tables.objects W.cells.objects fuel) (standing k u tables.objects cells.objects left)) h.held c.run_frame_on_top.ensures.reaches in
     went g.g.around.primitives g.g.around.rows W h.place h.is h.still c.running-co.result s r tables cells (with_stack (with_parts W tables cells) c.running-co.result u) u fuel left (record { rest = refl; objects = refl }) x
@@ -88,7 +87,7 @@ returns-clause-order g c =
     let s = c.in-Running.stack in
     let u = c.run_frame_on_top.new.stack in
     let V = with_stack (with_parts W c.run_frame_on_top.new.tables c.run_frame_on_top.new.cells) c.running-co.result u in
-    let r = found_runs c.get_mut.result.now s c.running-co.ensures c.get_mut.ensures.value c.in-Running.is in
+    let r = found c.running-co.ensures c.get_mut.ensures.value c.in-Running.is in
     order_after c.requires.order refl refl (listed_alike W V c.run_frame_on_top.ensures.opened (lists_same W.coros.objects c.running-co.result.0 s u r.there c.run_frame_on_top.ensures.listed) c.requires.order.listed)
 
 pub returns-clause-here : goal.returns-clause-here
@@ -101,7 +100,7 @@ returns-clause-here g c =
     let cells = c.run_frame_on_top.new.cells in
     let f = c.get-function.result.now in
     let code = c.get-code.result.now in
-    let r = found_runs c.get_mut.result.now s c.running-co.ensures c.get_mut.ensures.value c.in-Running.is in
+    let r = found c.running-co.ensures c.get_mut.ensures.value c.in-Running.is in
     let n : c.function.result.0 ≡ h.place.top.function = of_top W c.running-co.result s h.place (λ f t. c.function.result.0 ≡ t.function) r h.is c.function.ensures in
     let says = code_says g.g W h c.function.result.0 f n c.get-function.ensures c.checked_code_is_there.ensures code c.get-code.ensures in
     let k : LoopCode = record { words = c.deref.result.now; constants = c.deref-in-Running.result.now; upvalues = c.deref-in-Running-2.result.now; texts = W.strings } in

@@ -5,8 +5,9 @@ use Rattle.lua_heap.specs.declared.world.Coro.TheVariants.{Running}
 use Rattle.lua_heap.specs.declared.world.World.{World as Memory}
 use Rattle.lua_stack.specs.Frames.{KeptStack}
 use Rattle.move_laws.proofs.Order.{listed_after, order_after}
-use Rattle.move_laws.proofs.Running.{has_stack, lua_top, set_same}
-use Rattle.machine_moves.proofs.Stacks.{found_runs, with_stack, within}
+use Rattle.move_laws.proofs.Running.{has_stack, set_same}
+use Rattle.machine_moves.proofs.Stacks.{with_stack, within}
+use Rattle.machine_moves.proofs.InPlace.{found, top_found}
 use Rattle.step_laws.proofs.Ready.{go_has_frame}
 use Rattle.running_frame.proofs.Apart.{are_functions}
 use Rattle.running_frame.proofs.Takers.{none_then}
@@ -23,15 +24,14 @@ get_mut-requires c = within c.running-co.ensures
 pub take_values-requires : goal.take_values-requires
 take_values-requires c =
     let f = go_has_frame (length all_entries) c.args.world.now c.requires.ready in
-    let r = found_runs c.get_mut.result.now c.in-Running.stack c.running-co.ensures c.get_mut.ensures.value c.in-Running.is in
     record {
-      top = lua_top c.args.world.now c.running-co.result c.in-Running.stack f.place r f.is;
+      top = top_found c.running-co.ensures c.get_mut.ensures.value c.in-Running.is f.place f.is;
       codes = (are_functions (length all_entries) c.args.world.now c.requires.ready.after c.requires.ready.order c.checked_code_is_there.ensures).have;
     }
 
 pub returns-clause-takes : goal.returns-clause-takes
 returns-clause-takes c =
-    let r = found_runs c.get_mut.result.now c.in-Running.stack c.running-co.ensures c.get_mut.ensures.value c.in-Running.is in
+    let r = found c.running-co.ensures c.get_mut.ensures.value c.in-Running.is in
     IfSome_then c.take_values.result c.take_values.ensures.takes
     (λ o t. record { co = c.running-co.result; stack = c.in-Running.stack; runs = r; after = c.take_values.new.stack; changes = record { rest = refl; objects = refl }; takes = t })
 
@@ -40,7 +40,7 @@ returns-clause-kept c =
     let W : Memory = c.args.world.now in
     let co = c.running-co.result in
     let s = c.in-Running.stack in
-    let r = found_runs c.get_mut.result.now s c.running-co.ensures c.get_mut.ensures.value c.in-Running.is in
+    let r = found c.running-co.ensures c.get_mut.ensures.value c.in-Running.is in
     none_then c.take_values.result
     (λ (e : c.take_values.new.stack ≡ s).
     ap (λ (u : KeptStack). with_stack W co u) e
@@ -53,6 +53,6 @@ returns-clause-order c =
     let s = c.in-Running.stack in
     let u = c.take_values.new.stack in
     let V = with_stack W c.running-co.result u in
-    let r = found_runs c.get_mut.result.now s c.running-co.ensures c.get_mut.ensures.value c.in-Running.is in
+    let r = found c.running-co.ensures c.get_mut.ensures.value c.in-Running.is in
     let o = c.requires.ready.order in
     order_after o refl refl (listed_after W V c.running-co.result s u r (record { rest = refl; objects = refl }) c.take_values.ensures.listed o.listed)
