@@ -32,6 +32,11 @@ pub record RunsForm (W : Memory) (pc : ℕ) (form : Form) : Type 0 where
   pub has : HasForm runs.opcode runs.instruction form
   pub near : pc < 2 ^ 63
 
+-- and the world is sound
+pub record MayRun (W : Memory) (pc : ℕ) (form : Form) : Type 0 where
+  pub sound : IsSound W
+  pub runs : RunsForm W pc form
+
 -- it waits at this word
 pub record WaitsHere (W : Memory) (pc : ℕ) (word : Instruction) : Type 0 where
   pub waits : WaitsAt W

@@ -3,8 +3,8 @@ ghost use Rattle.std.specs.Prelude.{◌≡◌, IfOk, OnErr};
 ghost use Rattle.instruction_forms.specs.declared.form.Form.TheVariants.{Arithmetic, Concatenate, Operate};
 ghost use Rattle.machine_core.specs.Moves.{go};
 ghost use Rattle.machine_moves.specs.Ending.{ending_of};
-ghost use Rattle.move_laws.specs.Memory.{InOrder, IsSound};
-ghost use Rattle.machine_step.specs.Places.{RunsForm};
+ghost use Rattle.move_laws.specs.Memory.{InOrder};
+ghost use Rattle.machine_step.specs.Places.{MayRun};
 ghost use Rattle.machine_step.specs.Step.{Goes, Passes};
 
 use instruction_forms::{After, Operand, Operands, Operation, Operator};
@@ -23,8 +23,7 @@ pub(crate) fn run_operation(
     also: Option<usize>,
     after: After,
 ) -> Result<Ending, AllocError>
-    requires sound { IsSound world.old }
-    requires runs { RunsForm world.old pc (Operate operation operands also after) }
+    requires { MayRun world.old pc (Operate operation operands also after) }
     ensures does { IfOk result (λ next. Goes world.old budget.old world.new budget.new (ending_of next)) }
     ensures order { InOrder world.new }
     ensures err { OnErr result (world.new.printed ≡ world.old.printed) }
@@ -41,8 +40,7 @@ pub(crate) fn run_arithmetic(
     right: Operand,
     to: usize,
 ) -> Result<Ending, AllocError>
-    requires sound { IsSound world.old }
-    requires runs { RunsForm world.old pc (Arithmetic operator left right to) }
+    requires { MayRun world.old pc (Arithmetic operator left right to) }
     ensures does { IfOk result (λ next. Passes go world.old world.new (ending_of next)) }
     ensures order { InOrder world.new }
     ensures err { OnErr result (world.new.printed ≡ world.old.printed) }
@@ -58,8 +56,7 @@ pub(crate) fn run_concatenation(
     first: usize,
     count: usize,
 ) -> Result<Ending, AllocError>
-    requires sound { IsSound world.old }
-    requires runs { RunsForm world.old pc (Concatenate first count) }
+    requires { MayRun world.old pc (Concatenate first count) }
     ensures does { IfOk result (λ next. Goes world.old budget.old world.new budget.new (ending_of next)) }
     ensures order { InOrder world.new }
     ensures err { OnErr result (world.new.printed ≡ world.old.printed) }

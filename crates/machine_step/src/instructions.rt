@@ -1,8 +1,8 @@
 // The instruction at the place of the Lua frame on top, by its form (luaV_execute of lvm.c of Lua 5.4).
 ghost use Rattle.std.specs.Prelude.{◌≡◌, IfOk, OnErr};
 ghost use Rattle.machine_moves.specs.Ending.{ending_of};
-ghost use Rattle.move_laws.specs.Memory.{InOrder, IsSound};
-ghost use Rattle.machine_step.specs.Places.{RunsForm};
+ghost use Rattle.move_laws.specs.Memory.{InOrder};
+ghost use Rattle.machine_step.specs.Places.{MayRun};
 ghost use Rattle.machine_step.specs.Step.{Goes};
 
 use crate::calling::{run_call, run_tail_call};
@@ -23,8 +23,7 @@ pub(crate) fn run_instruction(
     pc: usize,
     form: Form,
 ) -> Result<Ending, AllocError>
-    requires sound { IsSound world.old }
-    requires runs { RunsForm world.old pc form }
+    requires { MayRun world.old pc form }
     ensures does { IfOk result (λ next. Goes world.old budget.old world.new budget.new (ending_of next)) }
     ensures order { InOrder world.new }
     ensures err { OnErr result (world.new.printed ≡ world.old.printed) }

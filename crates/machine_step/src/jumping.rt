@@ -3,8 +3,8 @@ ghost use Rattle.std.specs.Prelude.{◌≡◌, IfOk, OnErr};
 ghost use Rattle.instruction_forms.specs.declared.form.Form.TheVariants.{Jump, Loop, LoopOver, StartLoop, Test, TestSet};
 ghost use Rattle.machine_core.specs.Moves.{go};
 ghost use Rattle.machine_moves.specs.Ending.{ending_of};
-ghost use Rattle.move_laws.specs.Memory.{InOrder, IsSound};
-ghost use Rattle.machine_step.specs.Places.{RunsForm};
+ghost use Rattle.move_laws.specs.Memory.{InOrder};
+ghost use Rattle.machine_step.specs.Places.{MayRun};
 ghost use Rattle.machine_step.specs.Step.{Goes, Passes};
 
 use lua_heap::World;
@@ -15,8 +15,7 @@ use std::alloc::AllocError;
 
 /// A truth decides whether the next instruction is passed over (TEST).
 pub(crate) fn run_test(world: &mut World, pc: usize, register: usize, wanted: bool) -> Ending
-    requires sound { IsSound world.old }
-    requires runs { RunsForm world.old pc (Test register wanted) }
+    requires { MayRun world.old pc (Test register wanted) }
     ensures does { Passes go world.old world.new (ending_of result) }
     ensures order { InOrder world.new }
 {
@@ -32,8 +31,7 @@ pub(crate) fn run_test_set(
     to: usize,
     wanted: bool,
 ) -> Ending
-    requires sound { IsSound world.old }
-    requires runs { RunsForm world.old pc (TestSet from to wanted) }
+    requires { MayRun world.old pc (TestSet from to wanted) }
     ensures does { Passes go world.old world.new (ending_of result) }
     ensures order { InOrder world.new }
 {
@@ -43,8 +41,7 @@ pub(crate) fn run_test_set(
 
 /// A jump, which costs a unit where it goes back (JMP).
 pub(crate) fn run_jump(world: &mut World, budget: &mut u64, pc: usize, by: i32) -> Ending
-    requires sound { IsSound world.old }
-    requires runs { RunsForm world.old pc (Jump by) }
+    requires { MayRun world.old pc (Jump by) }
     ensures does { Goes world.old budget.old world.new budget.new (ending_of result) }
     ensures order { InOrder world.new }
 {
@@ -58,8 +55,7 @@ pub(crate) fn run_start_loop(
     base: usize,
     by: usize,
 ) -> Result<Ending, AllocError>
-    requires sound { IsSound world.old }
-    requires runs { RunsForm world.old pc (StartLoop base by) }
+    requires { MayRun world.old pc (StartLoop base by) }
     ensures does { IfOk result (λ next. Passes go world.old world.new (ending_of next)) }
     ensures order { InOrder world.new }
     ensures err { OnErr result (world.new.printed ≡ world.old.printed) }
@@ -75,8 +71,7 @@ pub(crate) fn run_loop(
     base: usize,
     by: usize,
 ) -> Result<Ending, AllocError>
-    requires sound { IsSound world.old }
-    requires runs { RunsForm world.old pc (Loop base by) }
+    requires { MayRun world.old pc (Loop base by) }
     ensures does { IfOk result (λ next. Goes world.old budget.old world.new budget.new (ending_of next)) }
     ensures order { InOrder world.new }
     ensures err { OnErr result (world.new.printed ≡ world.old.printed) }
@@ -92,8 +87,7 @@ pub(crate) fn run_loop_over(
     base: usize,
     by: usize,
 ) -> Ending
-    requires sound { IsSound world.old }
-    requires runs { RunsForm world.old pc (LoopOver base by) }
+    requires { MayRun world.old pc (LoopOver base by) }
     ensures does { Goes world.old budget.old world.new budget.new (ending_of result) }
     ensures order { InOrder world.new }
 {

@@ -2,8 +2,8 @@
 ghost use Rattle.instruction_forms.specs.declared.form.Form.TheVariants.{Clear, Load, LoadFar, Negate, Next, StoreUpvalue};
 ghost use Rattle.machine_core.specs.Moves.{go};
 ghost use Rattle.machine_moves.specs.Ending.{ending_of};
-ghost use Rattle.move_laws.specs.Memory.{InOrder, IsSound};
-ghost use Rattle.machine_step.specs.Places.{RunsForm};
+ghost use Rattle.move_laws.specs.Memory.{InOrder};
+ghost use Rattle.machine_step.specs.Places.{MayRun};
 ghost use Rattle.machine_step.specs.Step.{Passes};
 
 use instruction_forms::Operand;
@@ -13,8 +13,7 @@ use machine_rows::{clear, go_on, load, load_far, negate, store_upvalue};
 
 /// Nothing is done (VARARGPREP).
 pub(crate) fn run_next(world: &mut World, pc: usize) -> Ending
-    requires sound { IsSound world.old }
-    requires runs { RunsForm world.old pc Next }
+    requires { MayRun world.old pc Next }
     ensures does { Passes go world.old world.new (ending_of result) }
     ensures order { InOrder world.new }
 {
@@ -30,8 +29,7 @@ pub(crate) fn run_load(
     to: usize,
     skips: bool,
 ) -> Ending
-    requires sound { IsSound world.old }
-    requires runs { RunsForm world.old pc (Load from to skips) }
+    requires { MayRun world.old pc (Load from to skips) }
     ensures does { Passes go world.old world.new (ending_of result) }
     ensures order { InOrder world.new }
 {
@@ -41,8 +39,7 @@ pub(crate) fn run_load(
 
 /// The constant that the next word names goes to a register (LOADKX).
 pub(crate) fn run_load_far(world: &mut World, pc: usize, to: usize) -> Ending
-    requires sound { IsSound world.old }
-    requires runs { RunsForm world.old pc (LoadFar to) }
+    requires { MayRun world.old pc (LoadFar to) }
     ensures does { Passes go world.old world.new (ending_of result) }
     ensures order { InOrder world.new }
 {
@@ -52,8 +49,7 @@ pub(crate) fn run_load_far(world: &mut World, pc: usize, to: usize) -> Ending
 
 /// Registers become nil (LOADNIL).
 pub(crate) fn run_clear(world: &mut World, pc: usize, from: usize, count: usize) -> Ending
-    requires sound { IsSound world.old }
-    requires runs { RunsForm world.old pc (Clear from count) }
+    requires { MayRun world.old pc (Clear from count) }
     ensures does { Passes go world.old world.new (ending_of result) }
     ensures order { InOrder world.new }
 {
@@ -63,8 +59,7 @@ pub(crate) fn run_clear(world: &mut World, pc: usize, from: usize, count: usize)
 
 /// A register goes to an upvalue (SETUPVAL).
 pub(crate) fn run_store_upvalue(world: &mut World, pc: usize, from: usize, upvalue: usize) -> Ending
-    requires sound { IsSound world.old }
-    requires runs { RunsForm world.old pc (StoreUpvalue from upvalue) }
+    requires { MayRun world.old pc (StoreUpvalue from upvalue) }
     ensures does { Passes go world.old world.new (ending_of result) }
     ensures order { InOrder world.new }
 {
@@ -74,8 +69,7 @@ pub(crate) fn run_store_upvalue(world: &mut World, pc: usize, from: usize, upval
 
 /// The other truth goes to a register (NOT).
 pub(crate) fn run_negate(world: &mut World, pc: usize, from: usize, to: usize) -> Ending
-    requires sound { IsSound world.old }
-    requires runs { RunsForm world.old pc (Negate from to) }
+    requires { MayRun world.old pc (Negate from to) }
     ensures does { Passes go world.old world.new (ending_of result) }
     ensures order { InOrder world.new }
 {

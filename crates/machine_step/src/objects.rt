@@ -3,8 +3,8 @@ ghost use Rattle.std.specs.Prelude.{◌≡◌, IfOk, OnErr};
 ghost use Rattle.instruction_forms.specs.declared.form.Form.TheVariants.{ExtraArguments, FillTable, NewFunction, NewTable};
 ghost use Rattle.machine_core.specs.Moves.{go};
 ghost use Rattle.machine_moves.specs.Ending.{ending_of};
-ghost use Rattle.move_laws.specs.Memory.{InOrder, IsSound};
-ghost use Rattle.machine_step.specs.Places.{RunsForm};
+ghost use Rattle.move_laws.specs.Memory.{InOrder};
+ghost use Rattle.machine_step.specs.Places.{MayRun};
 ghost use Rattle.machine_step.specs.Step.{Passes};
 
 use lua_heap::World;
@@ -15,8 +15,7 @@ use std::alloc::AllocError;
 
 /// A new table goes to a register (NEWTABLE).
 pub(crate) fn run_new_table(world: &mut World, pc: usize, to: usize) -> Result<Ending, AllocError>
-    requires sound { IsSound world.old }
-    requires runs { RunsForm world.old pc (NewTable to) }
+    requires { MayRun world.old pc (NewTable to) }
     ensures does { IfOk result (λ next. Passes go world.old world.new (ending_of next)) }
     ensures order { InOrder world.new }
     ensures err { OnErr result (world.new.printed ≡ world.old.printed) }
@@ -34,8 +33,7 @@ pub(crate) fn run_fill_table(
     last: usize,
     far: bool,
 ) -> Result<Ending, AllocError>
-    requires sound { IsSound world.old }
-    requires runs { RunsForm world.old pc (FillTable table count last far) }
+    requires { MayRun world.old pc (FillTable table count last far) }
     ensures does { IfOk result (λ next. Passes go world.old world.new (ending_of next)) }
     ensures order { InOrder world.new }
     ensures err { OnErr result (world.new.printed ≡ world.old.printed) }
@@ -50,8 +48,7 @@ pub(crate) fn run_new_function(
     inner: usize,
     to: usize,
 ) -> Result<Ending, AllocError>
-    requires sound { IsSound world.old }
-    requires runs { RunsForm world.old pc (NewFunction inner to) }
+    requires { MayRun world.old pc (NewFunction inner to) }
     ensures does { IfOk result (λ next. Passes go world.old world.new (ending_of next)) }
     ensures order { InOrder world.new }
     ensures err { OnErr result (world.new.printed ≡ world.old.printed) }
@@ -66,8 +63,7 @@ pub(crate) fn run_extra_arguments(
     to: usize,
     count: usize,
 ) -> Result<Ending, AllocError>
-    requires sound { IsSound world.old }
-    requires runs { RunsForm world.old pc (ExtraArguments to count) }
+    requires { MayRun world.old pc (ExtraArguments to count) }
     ensures does { IfOk result (λ next. Passes go world.old world.new (ending_of next)) }
     ensures order { InOrder world.new }
     ensures err { OnErr result (world.new.printed ≡ world.old.printed) }

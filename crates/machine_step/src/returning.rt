@@ -3,8 +3,8 @@ ghost use Rattle.std.specs.Prelude.{◌≡◌, IfOk, OnErr};
 ghost use Rattle.instruction_forms.specs.declared.form.Form.TheVariants.{Close, Mark, Return, ReturnSome};
 ghost use Rattle.machine_core.specs.Moves.{go};
 ghost use Rattle.machine_moves.specs.Ending.{ending_of};
-ghost use Rattle.move_laws.specs.Memory.{InOrder, IsSound};
-ghost use Rattle.machine_step.specs.Places.{RunsForm};
+ghost use Rattle.move_laws.specs.Memory.{InOrder};
+ghost use Rattle.machine_step.specs.Places.{MayRun};
 ghost use Rattle.machine_step.specs.Step.{Goes, Passes};
 
 use lua_heap::World;
@@ -20,8 +20,7 @@ pub(crate) fn run_return(
     from: usize,
     count: usize,
 ) -> Result<Ending, AllocError>
-    requires sound { IsSound world.old }
-    requires runs { RunsForm world.old pc (Return from count) }
+    requires { MayRun world.old pc (Return from count) }
     ensures does { IfOk result (λ next. Goes world.old budget.old world.new budget.new (ending_of next)) }
     ensures order { InOrder world.new }
     ensures err { OnErr result (world.new.printed ≡ world.old.printed) }
@@ -37,8 +36,7 @@ pub(crate) fn run_return_some(
     from: usize,
     count: usize,
 ) -> Result<Ending, AllocError>
-    requires sound { IsSound world.old }
-    requires runs { RunsForm world.old pc (ReturnSome from count) }
+    requires { MayRun world.old pc (ReturnSome from count) }
     ensures does { IfOk result (λ next. Goes world.old budget.old world.new budget.new (ending_of next)) }
     ensures order { InOrder world.new }
     ensures err { OnErr result (world.new.printed ≡ world.old.printed) }
@@ -53,8 +51,7 @@ pub(crate) fn run_close(
     pc: usize,
     from: usize,
 ) -> Result<Ending, AllocError>
-    requires sound { IsSound world.old }
-    requires runs { RunsForm world.old pc (Close from) }
+    requires { MayRun world.old pc (Close from) }
     ensures does { IfOk result (λ next. Goes world.old budget.old world.new budget.new (ending_of next)) }
     ensures order { InOrder world.new }
     ensures err { OnErr result (world.new.printed ≡ world.old.printed) }
@@ -69,8 +66,7 @@ pub(crate) fn run_mark(
     register: usize,
     ahead: usize,
 ) -> Result<Ending, AllocError>
-    requires sound { IsSound world.old }
-    requires runs { RunsForm world.old pc (Mark register ahead) }
+    requires { MayRun world.old pc (Mark register ahead) }
     ensures does { IfOk result (λ next. Passes go world.old world.new (ending_of next)) }
     ensures order { InOrder world.new }
     ensures err { OnErr result (world.new.printed ≡ world.old.printed) }

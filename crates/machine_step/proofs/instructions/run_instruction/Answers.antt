@@ -1,86 +1,86 @@
 use Rattle.std.proofs.Common.{◌≡◌, ap, sym, subst, ◌∙◌, w32, to_z, of_z, rules}
 use Rattle.std.proofs.lemmas.Result.{IfOk-weaker}
 use Rattle.instruction_forms.specs.declared.form.Form.TheVariants.{Jump}
-use Rattle.machine_step.specs.Places.{RunsForm}
+use Rattle.machine_step.specs.Places.{MayRun}
 use Rattle.machine_step.proofs.ByForm.{goes_by}
 use Rattle.machine_step.proofs.instructions.run_instruction.Goals as goal
 
-pub run_next-requires-clause-runs : goal.run_next-requires-clause-runs
-run_next-requires-clause-runs c = subst (RunsForm c.args.world.now c.args.pc) c.in-Next.is c.requires.runs
+pub run_next-requires : goal.run_next-requires
+run_next-requires c = subst (MayRun c.args.world.now c.args.pc) c.in-Next.is c.requires
 
-pub run_load-requires-clause-runs : goal.run_load-requires-clause-runs
-run_load-requires-clause-runs c = subst (RunsForm c.args.world.now c.args.pc) c.in-Load.is c.requires.runs
+pub run_load-requires : goal.run_load-requires
+run_load-requires c = subst (MayRun c.args.world.now c.args.pc) c.in-Load.is c.requires
 
-pub run_load_far-requires-clause-runs : goal.run_load_far-requires-clause-runs
-run_load_far-requires-clause-runs c = subst (RunsForm c.args.world.now c.args.pc) c.in-LoadFar.is c.requires.runs
+pub run_load_far-requires : goal.run_load_far-requires
+run_load_far-requires c = subst (MayRun c.args.world.now c.args.pc) c.in-LoadFar.is c.requires
 
-pub run_clear-requires-clause-runs : goal.run_clear-requires-clause-runs
-run_clear-requires-clause-runs c = subst (RunsForm c.args.world.now c.args.pc) c.in-Clear.is c.requires.runs
+pub run_clear-requires : goal.run_clear-requires
+run_clear-requires c = subst (MayRun c.args.world.now c.args.pc) c.in-Clear.is c.requires
 
-pub run_store_upvalue-requires-clause-runs : goal.run_store_upvalue-requires-clause-runs
-run_store_upvalue-requires-clause-runs c = subst (RunsForm c.args.world.now c.args.pc) c.in-StoreUpvalue.is c.requires.runs
+pub run_store_upvalue-requires : goal.run_store_upvalue-requires
+run_store_upvalue-requires c = subst (MayRun c.args.world.now c.args.pc) c.in-StoreUpvalue.is c.requires
 
-pub run_operation-requires-clause-runs : goal.run_operation-requires-clause-runs
-run_operation-requires-clause-runs c = subst (RunsForm c.args.world.now c.args.pc) c.in-Operate.is c.requires.runs
+pub run_operation-requires : goal.run_operation-requires
+run_operation-requires c = subst (MayRun c.args.world.now c.args.pc) c.in-Operate.is c.requires
 
-pub run_arithmetic-requires-clause-runs : goal.run_arithmetic-requires-clause-runs
-run_arithmetic-requires-clause-runs c = subst (RunsForm c.args.world.now c.args.pc) c.in-Arithmetic.is c.requires.runs
+pub run_arithmetic-requires : goal.run_arithmetic-requires
+run_arithmetic-requires c = subst (MayRun c.args.world.now c.args.pc) c.in-Arithmetic.is c.requires
 
-pub run_negate-requires-clause-runs : goal.run_negate-requires-clause-runs
-run_negate-requires-clause-runs c = subst (RunsForm c.args.world.now c.args.pc) c.in-Negate.is c.requires.runs
+pub run_negate-requires : goal.run_negate-requires
+run_negate-requires c = subst (MayRun c.args.world.now c.args.pc) c.in-Negate.is c.requires
 
-pub run_concatenation-requires-clause-runs : goal.run_concatenation-requires-clause-runs
-run_concatenation-requires-clause-runs c = subst (RunsForm c.args.world.now c.args.pc) c.in-Concatenate.is c.requires.runs
+pub run_concatenation-requires : goal.run_concatenation-requires
+run_concatenation-requires c = subst (MayRun c.args.world.now c.args.pc) c.in-Concatenate.is c.requires
 
-pub run_close-requires-clause-runs : goal.run_close-requires-clause-runs
-run_close-requires-clause-runs c = subst (RunsForm c.args.world.now c.args.pc) c.in-Close.is c.requires.runs
+pub run_close-requires : goal.run_close-requires
+run_close-requires c = subst (MayRun c.args.world.now c.args.pc) c.in-Close.is c.requires
 
-pub run_mark-requires-clause-runs : goal.run_mark-requires-clause-runs
-run_mark-requires-clause-runs c = subst (RunsForm c.args.world.now c.args.pc) c.in-Mark.is c.requires.runs
+pub run_mark-requires : goal.run_mark-requires
+run_mark-requires c = subst (MayRun c.args.world.now c.args.pc) c.in-Mark.is c.requires
 
-pub run_jump-requires-clause-runs : goal.run_jump-requires-clause-runs
-run_jump-requires-clause-runs c =
+pub run_jump-requires : goal.run_jump-requires
+run_jump-requires c =
     let same : to_z w32 (of_z w32 c.in-Jump.by) ≡ c.in-Jump.by = search rules in
-    subst (RunsForm c.args.world.now c.args.pc) (c.in-Jump.is ∙ ap Jump (sym same)) c.requires.runs
+    subst (MayRun c.args.world.now c.args.pc) (c.in-Jump.is ∙ ap Jump (sym same)) c.requires
 
-pub run_test-requires-clause-runs : goal.run_test-requires-clause-runs
-run_test-requires-clause-runs c = subst (RunsForm c.args.world.now c.args.pc) c.in-Test.is c.requires.runs
+pub run_test-requires : goal.run_test-requires
+run_test-requires c = subst (MayRun c.args.world.now c.args.pc) c.in-Test.is c.requires
 
-pub run_test_set-requires-clause-runs : goal.run_test_set-requires-clause-runs
-run_test_set-requires-clause-runs c = subst (RunsForm c.args.world.now c.args.pc) c.in-TestSet.is c.requires.runs
+pub run_test_set-requires : goal.run_test_set-requires
+run_test_set-requires c = subst (MayRun c.args.world.now c.args.pc) c.in-TestSet.is c.requires
 
-pub run_start_loop-requires-clause-runs : goal.run_start_loop-requires-clause-runs
-run_start_loop-requires-clause-runs c = subst (RunsForm c.args.world.now c.args.pc) c.in-StartLoop.is c.requires.runs
+pub run_start_loop-requires : goal.run_start_loop-requires
+run_start_loop-requires c = subst (MayRun c.args.world.now c.args.pc) c.in-StartLoop.is c.requires
 
-pub run_loop-requires-clause-runs : goal.run_loop-requires-clause-runs
-run_loop-requires-clause-runs c = subst (RunsForm c.args.world.now c.args.pc) c.in-Loop.is c.requires.runs
+pub run_loop-requires : goal.run_loop-requires
+run_loop-requires c = subst (MayRun c.args.world.now c.args.pc) c.in-Loop.is c.requires
 
-pub run_loop_over-requires-clause-runs : goal.run_loop_over-requires-clause-runs
-run_loop_over-requires-clause-runs c = subst (RunsForm c.args.world.now c.args.pc) c.in-LoopOver.is c.requires.runs
+pub run_loop_over-requires : goal.run_loop_over-requires
+run_loop_over-requires c = subst (MayRun c.args.world.now c.args.pc) c.in-LoopOver.is c.requires
 
-pub run_call-requires-clause-runs : goal.run_call-requires-clause-runs
-run_call-requires-clause-runs c = subst (RunsForm c.args.world.now c.args.pc) c.in-Call.is c.requires.runs
+pub run_call-requires : goal.run_call-requires
+run_call-requires c = subst (MayRun c.args.world.now c.args.pc) c.in-Call.is c.requires
 
-pub run_tail_call-requires-clause-runs : goal.run_tail_call-requires-clause-runs
-run_tail_call-requires-clause-runs c = subst (RunsForm c.args.world.now c.args.pc) c.in-TailCall.is c.requires.runs
+pub run_tail_call-requires : goal.run_tail_call-requires
+run_tail_call-requires c = subst (MayRun c.args.world.now c.args.pc) c.in-TailCall.is c.requires
 
-pub run_return-requires-clause-runs : goal.run_return-requires-clause-runs
-run_return-requires-clause-runs c = subst (RunsForm c.args.world.now c.args.pc) c.in-Return.is c.requires.runs
+pub run_return-requires : goal.run_return-requires
+run_return-requires c = subst (MayRun c.args.world.now c.args.pc) c.in-Return.is c.requires
 
-pub run_return_some-requires-clause-runs : goal.run_return_some-requires-clause-runs
-run_return_some-requires-clause-runs c = subst (RunsForm c.args.world.now c.args.pc) c.in-ReturnSome.is c.requires.runs
+pub run_return_some-requires : goal.run_return_some-requires
+run_return_some-requires c = subst (MayRun c.args.world.now c.args.pc) c.in-ReturnSome.is c.requires
 
-pub run_new_table-requires-clause-runs : goal.run_new_table-requires-clause-runs
-run_new_table-requires-clause-runs c = subst (RunsForm c.args.world.now c.args.pc) c.in-NewTable.is c.requires.runs
+pub run_new_table-requires : goal.run_new_table-requires
+run_new_table-requires c = subst (MayRun c.args.world.now c.args.pc) c.in-NewTable.is c.requires
 
-pub run_fill_table-requires-clause-runs : goal.run_fill_table-requires-clause-runs
-run_fill_table-requires-clause-runs c = subst (RunsForm c.args.world.now c.args.pc) c.in-FillTable.is c.requires.runs
+pub run_fill_table-requires : goal.run_fill_table-requires
+run_fill_table-requires c = subst (MayRun c.args.world.now c.args.pc) c.in-FillTable.is c.requires
 
-pub run_new_function-requires-clause-runs : goal.run_new_function-requires-clause-runs
-run_new_function-requires-clause-runs c = subst (RunsForm c.args.world.now c.args.pc) c.in-NewFunction.is c.requires.runs
+pub run_new_function-requires : goal.run_new_function-requires
+run_new_function-requires c = subst (MayRun c.args.world.now c.args.pc) c.in-NewFunction.is c.requires
 
-pub run_extra_arguments-requires-clause-runs : goal.run_extra_arguments-requires-clause-runs
-run_extra_arguments-requires-clause-runs c = subst (RunsForm c.args.world.now c.args.pc) c.in-ExtraArguments.is c.requires.runs
+pub run_extra_arguments-requires : goal.run_extra_arguments-requires
+run_extra_arguments-requires c = subst (MayRun c.args.world.now c.args.pc) c.in-ExtraArguments.is c.requires
 
 -- what costs nothing is a step at any budget
 
