@@ -10,7 +10,7 @@ ghost use Rattle.machine_arms_tables.specs.Frame.{Leads, code, moment};
 ghost use Rattle.machine_view.specs.View.{IsAt};
 ghost use Rattle.table_core.specs.declared.value.Value.TheVariants.{Int};
 
-use crate::closure::{Closure, register, set_register};
+use crate::closure::{Closure, register};
 use code_core::Instruction;
 use lua_heap::{Strings, law};
 use object_pool::Pool;
@@ -56,6 +56,5 @@ pub(crate) fn get_length(
     ensures kept { IfNone result (registers.new ≡ registers.old) }
 {
     let n = length_of(strings, tables, register(registers, i.b() as usize))?;
-    set_register(registers, i.a() as usize, Value::Int(n));
-    Some(closure.next(pc))
+    Some(closure.store(registers, i, pc, Value::Int(n)))
 }

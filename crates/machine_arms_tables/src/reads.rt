@@ -31,8 +31,7 @@ pub(crate) fn get_upvalue_field(
     let object = upvalue(cells, closure.upvalues, i.b())?;
     let key = closure.constant(i.c() as usize);
     let v = field_or_inherited(strings, tables, object, key)?;
-    set_register(registers, i.a() as usize, v);
-    Some(closure.next(pc))
+    Some(closure.store(registers, i, pc, v))
 }
 
 /// GETTABLE: R[A] := R[B][R[C]].
@@ -52,8 +51,7 @@ pub(crate) fn get_element(
     let object = register(registers, i.b() as usize);
     let key = register(registers, i.c() as usize);
     let v = field_or_inherited(strings, tables, object, key)?;
-    set_register(registers, i.a() as usize, v);
-    Some(closure.next(pc))
+    Some(closure.store(registers, i, pc, v))
 }
 
 /// GETI: R[A] := R[B][C].
@@ -73,8 +71,7 @@ pub(crate) fn get_integer(
     let object = register(registers, i.b() as usize);
     let key = spelled(i.c());
     let v = field_or_inherited(strings, tables, object, key)?;
-    set_register(registers, i.a() as usize, v);
-    Some(closure.next(pc))
+    Some(closure.store(registers, i, pc, v))
 }
 
 /// GETFIELD: R[A] := R[B][K[C]].
@@ -94,8 +91,7 @@ pub(crate) fn get_field(
     let object = register(registers, i.b() as usize);
     let key = closure.constant(i.c() as usize);
     let v = field_or_inherited(strings, tables, object, key)?;
-    set_register(registers, i.a() as usize, v);
-    Some(closure.next(pc))
+    Some(closure.store(registers, i, pc, v))
 }
 
 /// SELF: R[A + 1] := R[B]; R[A] := R[B][RK(C)].

@@ -6,7 +6,7 @@ ghost use Rattle.machine_arms_tables.specs.Frame.{Leads, code, moment};
 ghost use Rattle.machine_view.specs.View.{IsAt};
 ghost use Rattle.table_core.specs.Table.{Contents};
 
-use crate::closure::{Closure, register, set_register};
+use crate::closure::{Closure, register};
 use code_core::Instruction;
 use lua_heap::Cell;
 use object_pool::Pool;
@@ -75,8 +75,7 @@ pub(crate) fn get_upvalue(
     ensures kept { IfNone result (registers.new ≡ registers.old) }
 {
     let v = upvalue(cells, closure.upvalues, i.b())?;
-    set_register(registers, i.a() as usize, v);
-    Some(closure.next(pc))
+    Some(closure.store(registers, i, pc, v))
 }
 
 /// SETUPVAL: UpValue[B] := R[A].

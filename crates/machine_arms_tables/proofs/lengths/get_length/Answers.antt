@@ -11,14 +11,11 @@ use Rattle.machine_arms_tables.proofs.lengths.get_length.Goals as goal
 pub register-requires : goal.register-requires
 register-requires c = below c.b.ensures (register_there c.requires 1 (b_of c.args.i) refl)
 
-pub set_register-requires : goal.set_register-requires
-set_register-requires c = below c.a.ensures (register_there c.requires 0 (a_of c.args.i) refl)
-
-pub next-requires : goal.next-requires
-next-requires c = next_there c.requires refl
+pub store-requires : goal.store-requires
+store-requires c = record { there = register_there c.requires 0 (a_of c.args.i) refl; next = next_there c.requires refl }
 
 pub returns-clause-goes : goal.returns-clause-goes
 returns-clause-goes c =
     let m : to_z w64 (of_z w64 c.in_ok-n.n) ≡ c.in_ok-n.n = search rules in
     length_does (code c.args.closure c.args.strings.now) c.requires (got c.args.registers.now c.b.ensures c.register.ensures) c.in_ok-n.ensures
-    (c.set_register.ensures ∙ ap (λ n. slice_set c.args.registers.now c.a.result (Int n)) m ∙ ap (λ a. slice_set c.args.registers.now a (Int c.in_ok-n.n)) c.a.ensures) c.next.ensures
+    (c.store.ensures.registers ∙ ap (λ n. slice_set c.args.registers.now (a_of c.args.i) (Int n)) m) c.store.ensures.next

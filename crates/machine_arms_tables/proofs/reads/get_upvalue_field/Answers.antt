@@ -1,5 +1,4 @@
-use Rattle.std.proofs.Common.{◌∙◌, ap, refl}
-use Rattle.std.specs.Prelude.{slice_set}
+use Rattle.std.proofs.Common.{refl}
 use Rattle.code_core.specs.Fields.{name}
 use Rattle.code_core.specs.Instruction.{a_of, c_of}
 use Rattle.machine_view.proofs.Places.{register_there, constant_there, next_there}
@@ -12,13 +11,9 @@ use Rattle.machine_arms_tables.proofs.reads.get_upvalue_field.Goals as goal
 pub constant-key-requires : goal.constant-key-requires
 constant-key-requires c = below c.c.ensures (constant_there c.requires 0 (c_of c.args.i) name refl)
 
-pub set_register-requires : goal.set_register-requires
-set_register-requires c = below c.a.ensures (register_there c.requires 0 (a_of c.args.i) refl)
-
-pub next-requires : goal.next-requires
-next-requires c = next_there c.requires refl
+pub store-requires : goal.store-requires
+store-requires c = record { there = register_there c.requires 0 (a_of c.args.i) refl; next = next_there c.requires refl }
 
 pub returns-clause-goes : goal.returns-clause-goes
 returns-clause-goes c =
-    get_upvalue_field_does (code c.args.closure c.args.strings.now) c.requires (named_so (λ n. upvalue_in c.args.closure.upvalues.now c.args.cells.now.objects n) c.b.ensures c.in_ok-object.ensures) (got c.args.closure.constants.now c.c.ensures c.constant-key.ensures) c.in_ok-v.ensures
-    (c.set_register.ensures ∙ ap (λ a. slice_set c.args.registers.now a c.in_ok-v.v) c.a.ensures) c.next.ensures
+    get_upvalue_field_does (code c.args.closure c.args.strings.now) c.requires (named_so (λ n. upvalue_in c.args.closure.upvalues.now c.args.cells.now.objects n) c.b.ensures c.in_ok-object.ensures) (got c.args.closure.constants.now c.c.ensures c.constant-key.ensures) c.in_ok-v.ensures c.store.ensures.registers c.store.ensures.next
