@@ -1,7 +1,8 @@
 -- The rows of the functions, over whole worlds.
-use Rattle.std.proofs.Common.{◌≡◌, ℕ, List, [], ◌∷◌, ◌++◌, length, Option, Some, None, refl, ap, sym, ◌∙◌, append-nil, true, false}
+use Rattle.std.proofs.Common.{◌≡◌, ℕ, List, [], ◌∷◌, ◌++◌, length, Option, Some, None, refl, ap, sym, ◌∙◌, append-nil, true, false, Result, IfOk}
 use Rattle.std.specs.Prelude.{cond, codes, filter_map, map, reverse, slice_get}
 use Rattle.std.specs.List.{cons_option}
+use Rattle.std.proofs.lemmas.Result.{IfOk-weaker}
 use Rattle.int_core.specs.Limits.{limited}
 use Rattle.int_core.specs.Operations.{is_function}
 use Rattle.int_core.specs.Value.{Plain, string, a_table, a_function, a_coroutine, Value, known, object, Shape, is_known, is_object, shape, bind, nth}
@@ -19,6 +20,8 @@ use Rattle.lua_heap.specs.Reading.{value}
 use Rattle.lua_heap.specs.Plain.{plain}
 use Rattle.move_laws.specs.Memory.{Leads, Makes}
 use Rattle.move_laws.proofs.Rows.{act_is}
+use Rattle.machine_moves.specs.declared.ending.Ending.{Ending as KeptEnding}
+use Rattle.machine_moves.specs.Ending.{ending_of}
 use Rattle.lib_coroutine.specs.Arguments.{can_be_called, coroutine_in}
 use Rattle.machine_errors.proofs.Calls.{nth_behind}
 use Rattle.machine_calls.proofs.Left.{world_made}
@@ -93,6 +96,14 @@ pub refuses_first : {old new : Memory} {ending : Ending} (row : Shape → ℕ �
 refuses_first {old} row name plainly table function v taken e moved is =
     let first : value old.strings v ≡ nth (map (value old.strings) old.moving.items) 0 = e ∙ ap (λ l. nth (map (value old.strings) l) 0) moved in
     refuses row (wrong_type 1 name (codes "coroutine") (shape (value old.strings v))) (ap (λ v. row (shape v) 0) (sym first) ∙ wrong row name plainly table function old.strings v is)
+
+-- and what answers so
+pub first_refused : {E : Type 0} (old : Memory) {new : Memory} (r : Result KeptEnding E) (row : Shape → ℕ → Row) (name : List ℕ) (plainly : (p : Plain) → row (is_known p) 0 ≡ not_coroutine name (is_known p))
+    (table : row (is_object a_table) 0 ≡ not_coroutine name (is_object a_table)) (function : row (is_object a_function) 0 ≡ not_coroutine name (is_object a_function)) (v : Kept) (taken : List Kept)
+    → value old.strings v ≡ nth (map (value old.strings) taken) 0 → taken ≡ old.moving.items → coroutine_in v ≡ None
+    → IfOk r (λ ending. (env : List Value) → Leads (blames (wrong_type 1 name (codes "coroutine") (shape (value old.strings v)))) env old new (ending_of ending))
+    → IfOk r (λ ending. Leads (looks row) [] old new (ending_of ending))
+first_refused old r row name plainly table function v taken e moved is h = IfOk-weaker r _ _ (λ ending b. refuses_first row name plainly table function v taken e moved is b) h
 
 -- how one stands
 

@@ -11,11 +11,7 @@ use Rattle.lib_coroutine.proofs.Resumes.{behind_is, enters_leads, goes_from, ord
 use Rattle.lib_coroutine.proofs.beginning.begin_function.Goals as goal
 
 pub run_fresh-requires-clause-running : goal.run_fresh-requires-clause-running
-run_fresh-requires-clause-running c =
-    let W : Memory = c.args.world.now in
-    let M : Memory = record W { chain = c.reserve.new.self } in
-    let items : M.chain.items ≡ W.chain.items = search rules in
-    same_runs (same_chain W M refl items) c.requires.running
+run_fresh-requires-clause-running c = let W : Memory = c.args.world.now in same_runs (same_chain W (record W { chain = c.reserve.new.self }) refl (search rules)) c.requires.running
 
 pub run_fresh-requires-clause-fresh : goal.run_fresh-requires-clause-fresh
 run_fresh-requires-clause-fresh c = record { body = Func c.args.function; there = c.requires.fresh }

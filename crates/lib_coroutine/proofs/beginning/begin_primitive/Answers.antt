@@ -12,11 +12,7 @@ use Rattle.lib_coroutine.proofs.Rows.{with_moving}
 use Rattle.lib_coroutine.proofs.beginning.begin_primitive.Goals as goal
 
 pub run_fresh-requires-clause-running : goal.run_fresh-requires-clause-running
-run_fresh-requires-clause-running c =
-    let W : Memory = c.args.world.now in
-    let M : Memory = record W { chain = c.reserve.new.self } in
-    let items : M.chain.items ≡ W.chain.items = search rules in
-    same_runs (same_chain W M refl items) c.requires.running
+run_fresh-requires-clause-running c = let W : Memory = c.args.world.now in same_runs (same_chain W (record W { chain = c.reserve.new.self }) refl (search rules)) c.requires.running
 
 pub run_fresh-requires-clause-fresh : goal.run_fresh-requires-clause-fresh
 run_fresh-requires-clause-fresh c = record { body = Prim c.args.primitive; there = c.requires.fresh }

@@ -1,17 +1,12 @@
-use Rattle.std.proofs.Common.{rules, ◌≡◌, refl, sym, ◌∙◌}
+use Rattle.std.proofs.Common.{rules, refl, sym, ◌∙◌}
 use Rattle.std.specs.Prelude.{codes}
-use Rattle.std.proofs.lemmas.Result.{IfOk-weaker}
 use Rattle.machine_core.specs.MachineStep.{closes_coroutine}
 use Rattle.lib_coroutine.proofs.closing.close.Goals as goal
-use Rattle.lib_coroutine.proofs.Rows.{first_is, refuses_first}
+use Rattle.lib_coroutine.proofs.Rows.{first_is, first_refused}
 
 pub close_coroutine-requires-clause-first : goal.close_coroutine-requires-clause-first
-close_coroutine-requires-clause-first c =
-    let moved : c.deref.result.now ≡ c.args.world.now.moving.items = search rules in
-    first_is c.args.world.now.strings c.first_of-first.result c.deref.result.now _ c.in-Some.co (c.first_of-first.ensures c.args.world.now.strings) moved (sym c.coroutine_of.ensures ∙ c.in-Some.is)
+close_coroutine-requires-clause-first c = first_is c.args.world.now.strings c.first_of-first.result c.deref.result.now c.args.world.now.moving.items c.in-Some.co (c.first_of-first.ensures c.args.world.now.strings) (search rules) (sym c.coroutine_of.ensures ∙ c.in-Some.is)
 
 pub returns-in-None-clause-leads : goal.returns-in-None-clause-leads
 returns-in-None-clause-leads c =
-    let moved : c.deref.result.now ≡ c.args.world.now.moving.items = search rules in
-    IfOk-weaker c.refuse.result _ _
-    (λ ending b. refuses_first closes_coroutine (codes "close") (λ p. refl) refl refl c.first_of-first.result c.deref.result.now (c.first_of-first.ensures c.args.world.now.strings) moved (sym c.coroutine_of.ensures ∙ c.in-None.is) b) c.refuse.ensures.leads
+    first_refused c.args.world.now c.refuse.result closes_coroutine (codes "close") (λ p. refl) refl refl c.first_of-first.result c.deref.result.now (c.first_of-first.ensures c.args.world.now.strings) (search rules) (sym c.coroutine_of.ensures ∙ c.in-None.is) c.refuse.ensures.leads

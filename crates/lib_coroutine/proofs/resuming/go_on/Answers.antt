@@ -10,11 +10,7 @@ use Rattle.lib_coroutine.proofs.Rows.{with_moving}
 use Rattle.lib_coroutine.proofs.resuming.go_on.Goals as goal
 
 pub run_suspended-requires-clause-running : goal.run_suspended-requires-clause-running
-run_suspended-requires-clause-running c =
-    let W : Memory = c.args.world.now in
-    let M : Memory = record W { chain = c.reserve.new.self } in
-    let items : M.chain.items ≡ W.chain.items = search rules in
-    same_runs (same_chain W M refl items) c.requires.running
+run_suspended-requires-clause-running c = let W : Memory = c.args.world.now in same_runs (same_chain W (record W { chain = c.reserve.new.self }) refl (search rules)) c.requires.running
 
 pub run_suspended-requires-clause-suspended : goal.run_suspended-requires-clause-suspended
 run_suspended-requires-clause-suspended c = record { stack = c.requires.suspended.stack; there = c.requires.suspended.there }
