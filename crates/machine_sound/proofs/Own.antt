@@ -87,20 +87,20 @@ module _ (z : Sizes) (old : List Cell) (p : Prototype) (co k : ℕ) (env : List 
   abbrev pub Known : Top → Activation → List Cell → Type 0
   Known t own cells = OwnIs z old p co k t own cells
 
-  -- other registers
-  other : (t : Top) (own : Activation) (cells : List Cell) (h : Known t own cells) (size opened : ℕ) (vs : List Value)
-      → length vs ≡ size → p.own.stack ≤ size → Each (Valid z) vs → ((i r : ℕ) → slice_get cells i ≡ Some (open_at co k r) → r < size)
-      → Known (record t { size = size; opened = opened }) (record own { registers = vs; opened = opened }) cells
-  other t own cells h size opened vs l s v c = record {
+  -- other registers, another end of the list, and other pending registers
+  changed : (t : Top) (own : Activation) (cells : List Cell) (h : Known t own cells) (size end opened n : ℕ) (vs : List Value) (qs : List ℕ) → opened ≡ end
+      → length vs ≡ size → p.own.stack ≤ size → Each (Valid z) vs → ((i r : ℕ) → slice_get cells i ≡ Some (open_at co k r) → r < size) → Each (λ r. r < n) qs → Each (λ r. r < p.own.stack) qs
+      → Known (record t { size = size; opened = end; pending = n }) (record own { registers = vs; opened = opened; pending = qs }) cells
+  changed t own cells h size end opened n vs qs e l s v c b q = record {
     code = h.code;
     pc = h.pc;
     size = l;
-    opened = refl;
-    bound = h.bound;
+    opened = e;
+    bound = b;
     stack = s;
     registers = v;
     varargs = h.varargs;
-    pending = h.pending;
+    pending = q;
     cells_below = h.cells_below;
     cells_there = c;
     still_open = h.still_open;
@@ -109,45 +109,19 @@ module _ (z : Sizes) (old : List Cell) (p : Prototype) (co k : ℕ) (env : List 
     captured = h.captured;
   }
 
+  -- other registers
+  other : (t : Top) (own : Activation) (cells : List Cell) (h : Known t own cells) (size opened : ℕ) (vs : List Value)
+      → length vs ≡ size → p.own.stack ≤ size → Each (Valid z) vs → ((i r : ℕ) → slice_get cells i ≡ Some (open_at co k r) → r < size)
+      → Known (record t { size = size; opened = opened }) (record own { registers = vs; opened = opened }) cells
+  other t own cells h size opened vs l s v c = changed t own cells h size opened opened t.pending vs own.pending refl l s v c h.bound h.pending
+
   -- other registers, as many
   same_many : (t : Top) (own : Activation) (cells : List Cell) (h : Known t own cells) (vs : List Value) → length vs ≡ t.size → Each (Valid z) vs → Known t (record own { registers = vs }) cells
-  same_many t own cells h vs l v = record {
-    code = h.code;
-    pc = h.pc;
-    size = l;
-    opened = h.opened;
-    bound = h.bound;
-    stack = h.stack;
-    registers = v;
-    varargs = h.varargs;
-    pending = h.pending;
-    cells_below = h.cells_below;
-    cells_there = h.cells_there;
-    still_open = h.still_open;
-    closed_ok = h.closed_ok;
-    count = h.count;
-    captured = h.captured;
-  }
+  same_many t own cells h vs l v = changed t own cells h t.size t.opened own.opened t.pending vs own.pending h.opened l h.stack v h.cells_there h.bound h.pending
 
   -- other pending registers
   other_pending : (t : Top) (own : Activation) (cells : List Cell) (h : Known t own cells) (n : ℕ) (qs : List ℕ) → Each (λ r. r < n) qs → Each (λ r. r < p.own.stack) qs → Known (record t { pending = n }) (record own { pending = qs }) cells
-  other_pending t own cells h n qs b q = record {
-    code = h.code;
-    pc = h.pc;
-    size = h.size;
-    opened = h.opened;
-    bound = b;
-    stack = h.stack;
-    registers = h.registers;
-    varargs = h.varargs;
-    pending = q;
-    cells_below = h.cells_below;
-    cells_there = h.cells_there;
-    still_open = h.still_open;
-    closed_ok = h.closed_ok;
-    count = h.count;
-    captured = h.captured;
-  }
+  other_pending t own cells h n qs b q = changed t own cells h t.size t.opened own.opened n own.registers qs h.opened h.size h.stack h.registers h.cells_there b q
 
   closing : (t : Top) (own : Activation) (cells : List Cell) (h : Known t own cells) (r : ℕ) → Known (record t { cells = r; captured = [] }) own (close_from co k r own.registers cells)
   closing t own cells h r = record {
