@@ -34,6 +34,7 @@ use Rattle.machine_means.proofs.Shutting.{all_shut}
 use Rattle.machine_means.proofs.Pending.{Bounded, bounded_ok, stack_pending}
 use Rattle.machine_means.proofs.Frames.{holds_nothing, own_stack}
 use Rattle.machine_means.proofs.AtRest.{stack_now, only}
+use Rattle.machine_means.proofs.Rejoined.{rejoined}
 use Rattle.machine_means.proofs.Closings.{closing_comes}
 use Rattle.machine_means.proofs.Raising.{same_room, room_below, raising}
 
@@ -82,17 +83,9 @@ module _ (primitives : ℕ) (M : machine.World) (T : TalkWorld) (k : AtRest prim
   -- the coroutine is dead, and holds nothing
   buried : (ws : List Cell) (x : Coroutine) (y : talk.Coroutine State) (hs : List Held) → slice_get M.coroutines co ≡ Some x → slice_get T.coroutines co ≡ Some y → slice_get k.joined.held co ≡ Some hs → CellsPair ws T.cells (slice_set k.joined.held co [])
       → Joined false (record N { coroutines = slice_set M.coroutines co dead; cells = ws }) U
-  buried ws x y hs e f g cells = record {
-    heap = k.joined.heap;
-    globals = k.joined.globals;
-    printed = k.joined.printed;
-    fuel = k.joined.fuel;
-    chain = k.joined.chain;
-    functions = k.joined.functions;
-    held = slice_set k.joined.held co [];
-    cells = cells;
-    coroutines = co_put_apart M.functions T.cells runs M.coroutines T.coroutines k.joined.held co x dead y talk.dead hs [] e f g refl k.joined.coroutines;
-  }
+  buried ws x y hs e f g cells =
+      rejoined false false M T k.joined ws (slice_set M.coroutines co dead) M.chain [] M.fuel T.cells (slice_set T.coroutines co talk.dead) T.chain T.frames T.now T.fuel (slice_set k.joined.held co []) k.joined.fuel k.joined.chain cells
+      (co_put_apart M.functions T.cells runs M.coroutines T.coroutines k.joined.held co x dead y talk.dead hs [] e f g refl k.joined.coroutines)
 
   -- one that held nothing
   cells_stay : slice_get k.joined.held co ≡ Some [] → CellsPair M.cells T.cells (slice_set k.joined.held co [])

@@ -27,6 +27,7 @@ use Rattle.machine_sound.proofs.Frames.{stack_is}
 use Rattle.machine_means.specs.Joined.{TalkWorld, Stacks, CoroutinePair, CoroutinesPair, HoldsIn, Joined}
 use Rattle.machine_means.specs.Stands.{AtRest}
 use Rattle.machine_means.proofs.Frames.{own_stack}
+use Rattle.machine_means.proofs.Rejoined.{rejoined}
 use Rattle.machine_means.proofs.Places.{where_same}
 use Rattle.machine_means.proofs.AtRest.{stack_now, only}
 use Rattle.means_steps.specs.Steps.{Leads, PrimitiveJoined}
@@ -84,23 +85,17 @@ module _ (builds : Builds Prototype) (library : Primitives Prototype) (primitive
   env_first = ap (λ l. nth l 0) (append_nil M.moving)
 
   one_more : Joined false (record M { coroutines = M.coroutines ++ fresh v ∷ []; moving = object a_coroutine (length M.coroutines) ∷ [] }) (record T { coroutines = T.coroutines ++ talk.fresh v ∷ [] })
-  one_more = record {
-    heap = k.joined.heap;
-    globals = k.joined.globals;
-    printed = k.joined.printed;
-    fuel = k.joined.fuel;
-    chain = k.joined.chain;
-    functions = k.joined.functions;
-    held = k.joined.held ++ [] ∷ [];
-    cells = record {
-      size = k.joined.cells.size;
-      shut = k.joined.cells.shut;
-      opened = λ c i f r e. held_more k.joined.held i f r c (k.joined.cells.opened c i f r e);
-      held_open = λ c i f r m. k.joined.cells.held_open c i f r (held_less k.joined.held i f r c m);
-      one = k.joined.cells.one;
-    };
-    coroutines = pairs_more M.functions T.cells (λ fr hs. Stacks false M.functions T.cells fr T.frames hs) M.coroutines T.coroutines k.joined.held k.joined.coroutines (fresh v) (talk.fresh v) [] (refl, refl);
-  }
+  one_more =
+      rejoined false false M T k.joined M.cells (M.coroutines ++ fresh v ∷ []) M.chain (object a_coroutine (length M.coroutines) ∷ []) M.fuel T.cells (T.coroutines ++ talk.fresh v ∷ []) T.chain T.frames T.now T.fuel (k.joined.held ++ [] ∷ [])
+      k.joined.fuel k.joined.chain
+      (record {
+        size = k.joined.cells.size;
+        shut = k.joined.cells.shut;
+        opened = λ c i f r e. held_more k.joined.held i f r c (k.joined.cells.opened c i f r e);
+        held_open = λ c i f r m. k.joined.cells.held_open c i f r (held_less k.joined.held i f r c m);
+        one = k.joined.cells.one;
+      })
+      (pairs_more M.functions T.cells (λ fr hs. Stacks false M.functions T.cells fr T.frames hs) M.coroutines T.coroutines k.joined.held k.joined.coroutines (fresh v) (talk.fresh v) [] (refl, refl))
 
   abbrev makes : Row
   makes = act (create (read 0)) (λ co _. rows.gives_back (read co ∷ []))

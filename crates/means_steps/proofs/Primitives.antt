@@ -95,6 +95,12 @@ told_by_row builds prelude_build l T vs e = absurd (cc)
 told_by_row builds prelude_out l T vs e = absurd (cc)
 told_by_row builds p l T vs e = ap (after_row T) (row_is p l T.heap vs e)
 
+-- the heap is another one, and more is printed
+told_joined : {M : World} {T : TalkWorld} → Joined false M T → (H G : Heap) (out text : List ℕ) (vs : List Value) → H ≡ G → out ≡ text
+    → Joined false (record M { heap = H; printed = out; moving = vs }) (record T { heap = G; printed = text })
+told_joined k H G out text vs heap printed =
+    record { heap = heap; globals = k.globals; printed = printed; fuel = k.fuel; chain = k.chain; functions = k.functions; held = k.held; cells = k.cells; coroutines = k.coroutines }
+
 pub look_leads : (l : Look) (p : Primitive) → row_of p ≡ Some l → (builds : Builds Prototype) → PrimitiveJoined builds (look_row l) p
 look_leads l p is builds library primitives M T k =
     subst (λ X. Leads library M.printed X (run (look_row l) [] M)) (sym (told_by_row builds p l T M.moving is))
@@ -104,17 +110,7 @@ look_leads l p is builds library primitives M T k =
     out d = elim (consulted (record M { moving = [] }) d) as (λ _. Outcome) [ None ↦ trapped | Some r ↦ run (after_look (length M.moving) r.told) (M.moving ++ r.values) r.world ]
 
     with_heap : (H : Heap) (vs : List Value) → Joined false (record M { heap = H; moving = vs }) (record T { heap = H })
-    with_heap H vs = record {
-      heap = refl;
-      globals = k.joined.globals;
-      printed = k.joined.printed;
-      fuel = k.joined.fuel;
-      chain = k.joined.chain;
-      functions = k.joined.functions;
-      held = k.joined.held;
-      cells = k.joined.cells;
-      coroutines = k.joined.coroutines;
-    }
+    with_heap H vs = told_joined k.joined H H M.printed T.printed vs refl k.joined.printed
 
     by : (d : Done) → Leads library M.printed (after_row T (Some d)) (out d)
     by (came H vs) =
@@ -137,17 +133,8 @@ print_leads builds library primitives M T k =
     let v : Value = nth M.moving 0 in
     let W : World = record M { printed = M.printed ++ bytes_in v; moving = [] } in
     let U : TalkWorld = record T { printed = T.printed ++ bytes_of v } in
-    let j : Joined false W U = record {
-      heap = k.joined.heap;
-      globals = k.joined.globals;
-      printed = ap (λ out. out ++ bytes_in v) k.joined.printed ∙ ap (λ text. T.printed ++ text) (same_bytes v);
-      fuel = k.joined.fuel;
-      chain = k.joined.chain;
-      functions = k.joined.functions;
-      held = k.joined.held;
-      cells = k.joined.cells;
-      coroutines = k.joined.coroutines;
-    } in
+    let printed : W.printed ≡ U.printed = ap (λ out. out ++ bytes_in v) k.joined.printed ∙ ap (λ text. T.printed ++ text) (same_bytes v) in
+    let j : Joined false W U = told_joined k.joined M.heap T.heap (M.printed ++ bytes_in v) (T.printed ++ bytes_of v) [] k.joined.heap printed in
     hands library primitives M T k W U (M.moving ++ []) [] (stack_is W k.waits.coroutine k.waits.frames k.waits.last k.waits.running) j refl
 
 -- `isyieldable` and `running`
