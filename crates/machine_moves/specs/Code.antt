@@ -31,7 +31,14 @@ pub record IsCodeOnTop (W : Memory) (code : Code) : Type 0 where
   pub number : ℕ
   pub says : IsCode W.strings number place.function.code code
 
--- the function on top has an upvalue of that number, whose cell is there
+-- the function on top has a cell for the upvalue of that number
+pub record HasUpvalueCell (W : Memory) (upvalue : ℕ) : Type 0 where
+  pub place : Place
+  pub is : place_of (plain W 0) ≡ Some place
+  pub cell : ℕ
+  pub there : slice_get place.function.cells upvalue ≡ Some cell
+
+-- and one that is there
 pub record HasUpvalue (W : Memory) (upvalue : ℕ) : Type 0 where
   pub place : Place
   pub is : place_of (plain W 0) ≡ Some place

@@ -6,7 +6,7 @@ ghost use Rattle.lua_heap.specs.Reading.{value as meant};
 ghost use Rattle.machine_core.specs.Text.{Arg, arg, read_upvalue as reads, write_upvalue as writes};
 ghost use Rattle.machine_core.specs.Moves.{outside};
 ghost use Rattle.move_laws.specs.Memory.{Makes, StandsAt};
-ghost use Rattle.machine_moves.specs.Code.{HasUpvalue, IsUpvalue};
+ghost use Rattle.machine_moves.specs.Code.{HasUpvalue, HasUpvalueCell, IsUpvalue};
 
 use crate::code::function_on_top;
 use lua_heap::World;
@@ -35,8 +35,8 @@ pub fn write_upvalue(world: &mut World, upvalue: usize, given: Value)
 }
 
 /// The cell of an upvalue.
-fn cell_of(world: &World, upvalue: usize) -> CellId
-    requires { HasUpvalue world.now upvalue }
+pub fn cell_of(world: &World, upvalue: usize) -> CellId
+    requires { HasUpvalueCell world.now upvalue }
     ensures { IsUpvalue world.now upvalue result }
 {
     function_on_top(world).cells[upvalue]

@@ -72,14 +72,3 @@ pub record IsOpen (W : Memory) (register : ℕ) (cell : CellId) : Type 0 where
   pub place : Place
   pub is : place_of (plain W 0) ≡ Some place
   pub there : find_open place.stack.coroutine place.number register (plain W 0).cells ≡ Some cell.0
-
-pub record HasOuter (W : Memory) (upvalue : ℕ) : Type 0 where
-  pub place : Place
-  pub is : place_of (plain W 0) ≡ Some place
-  pub cell : ℕ
-  pub there : slice_get place.function.cells upvalue ≡ Some cell
-
-pub record IsOuter (W : Memory) (upvalue : ℕ) (cell : CellId) : Type 0 where
-  pub place : Place
-  pub is : place_of (plain W 0) ≡ Some place
-  pub there : slice_get place.function.cells upvalue ≡ Some cell.0

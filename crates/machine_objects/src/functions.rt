@@ -6,11 +6,11 @@ ghost use Rattle.machine_core.specs.Text.{make_function as makes_one};
 ghost use Rattle.machine_core.specs.Moves.{outside};
 ghost use Rattle.move_laws.specs.Memory.{InOrder, Makes, StandsAt};
 ghost use Rattle.machine_objects.specs.Opening.{upvalues_at};
-ghost use Rattle.machine_objects.specs.Objects.{CanMake, CanCapture, HasCell, HasInner, HasOpen, HasOuter, IsCell, IsInner, IsOpen, IsOuter, AreCaptured};
+ghost use Rattle.machine_objects.specs.Objects.{CanMake, CanCapture, HasCell, HasInner, HasOpen, IsCell, IsInner, IsOpen, AreCaptured};
 
 use code_core::UpDesc;
 use lua_heap::{Func, World, law};
-use machine_moves::{function_on_top, running_stack};
+use machine_moves::{cell_of, function_on_top, running_stack};
 use std::alloc::AllocError;
 use table_core::{CellId, FuncId, ProtoId};
 
@@ -84,7 +84,7 @@ fn captured_cell(world: &World, up: UpDesc) -> CellId
     if up.in_stack {
         captured_register(world, index)
     } else {
-        captured_upvalue(world, index)
+        cell_of(world, index)
     }
 }
 
@@ -95,12 +95,4 @@ fn captured_register(world: &World, register: usize) -> CellId
     ensures { IsOpen world.now register result }
 {
     running_stack(world).find_cell(register).unwrap()
-}
-
-/// A cell of the function on top.
-fn captured_upvalue(world: &World, upvalue: usize) -> CellId
-    requires { HasOuter world.now upvalue }
-    ensures { IsOuter world.now upvalue result }
-{
-    function_on_top(world).cells[upvalue]
 }

@@ -5,6 +5,9 @@ use Rattle.lua_heap.specs.Plain.{plain}
 use Rattle.machine_moves.proofs.OfCode.{same_cell, upvalue_made}
 use Rattle.machine_moves.proofs.upvalues.read_upvalue.Goals as goal
 
+pub cell_of-requires : goal.cell_of-requires
+cell_of-requires c = let h = c.requires.there in record { place = h.place; is = h.is; cell = h.cell; there = h.there }
+
 pub cell_value-requires-clause-there : goal.cell_value-requires-clause-there
 cell_value-requires-clause-there c =
     let W = c.args.world.now in

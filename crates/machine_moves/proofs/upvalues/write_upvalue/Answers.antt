@@ -5,6 +5,9 @@ use Rattle.lua_heap.specs.Plain.{plain}
 use Rattle.machine_moves.proofs.OfCode.{same_cell, upvalue_written, upvalue_stands}
 use Rattle.machine_moves.proofs.upvalues.write_upvalue.Goals as goal
 
+pub cell_of-cell-requires : goal.cell_of-cell-requires
+cell_of-cell-requires c = let h = c.requires.there in record { place = h.place; is = h.is; cell = h.cell; there = h.there }
+
 pub set_cell-requires-clause-there : goal.set_cell-requires-clause-there
 set_cell-requires-clause-there c =
     let W = c.args.world.now in
