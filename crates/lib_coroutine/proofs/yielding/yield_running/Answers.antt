@@ -1,7 +1,7 @@
-use Rattle.std.proofs.Common.{rules, ◌≡◌, ℕ, [], ◌∷◌, ◌++◌, ap, sym, subst, ◌∙◌, true, false}
-use Rattle.std.specs.Prelude.{Bool, cond, drop, map}
+use Rattle.std.proofs.Common.{rules, ◌≡◌, ℕ, [], ◌∷◌, ◌++◌, sym, subst, ◌∙◌, true, false}
+use Rattle.std.specs.Prelude.{Bool, cond, map}
 use Rattle.int_core.specs.Value.{boolean}
-use Rattle.machine_core.specs.Text.{args_of, written}
+use Rattle.machine_core.specs.Text.{written}
 use Rattle.machine_core.specs.FrameRows.{then, hand_over}
 use Rattle.machine_core.specs.Moves.{Row, act, give_with, main_yielded, stop, take_moving}
 use Rattle.table_core.specs.declared.value.Value.TheVariants.{Bool as Boolean}
@@ -9,7 +9,7 @@ use Rattle.lua_heap.specs.Reading.{value}
 use Rattle.move_laws.specs.Memory.{IsSafe, Leads}
 use Rattle.move_laws.proofs.Rows.{first, ended, safe_after}
 use Rattle.machine_moves.specs.Ending.{ending_of}
-use Rattle.machine_coroutines.proofs.Handed.{hands_stack}
+use Rattle.machine_coroutines.proofs.Handed.{hands_stack, true_in_front}
 use Rattle.lib_coroutine.proofs.yielding.yield_running.Goals as goal
 
 abbrev passes : ℕ → Unit {0} → Row
@@ -25,31 +25,21 @@ returns-then-runs_main-clause-leads c =
 
 pub hand_over-requires : goal.hand_over-requires
 hand_over-requires c =
-    let W = c.args.world.now in
     let S = c.suspend-2.new.world in
-    let f = value S.strings in
-    let vs = map f c.take_moving.result.items in
-    let xs = written (boolean true) ∷ [] in
+    let vs = map (value S.strings) c.take_moving.result.items in
     let told : c.suspend-2.result ≡ false = c.suspend-2.ensures.main ∙ sym c.runs_main.ensures ∙ c.if-runs_main.false in
-    let texts : S.strings ≡ c.take_moving.new.world.strings = search rules in
     let answer : c.in_ok-answer.answer.items ≡ Boolean true ∷ S.moving.items = search rules in
-    let same : args_of vs xs ++ drop 0 vs ≡ map (value c.take_moving.new.world.strings) c.in_ok-answer.answer.items =
-    ap (λ l. args_of vs xs ++ map f l) c.take_moving.ensures.values ∙ sym (ap (map f) answer) ∙ ap (λ texts. map (value texts) c.in_ok-answer.answer.items) texts in
+    let same = true_in_front S.strings c.take_moving.new.world.strings S.moving.items c.take_moving.result.items c.in_ok-answer.answer.items c.take_moving.ensures.values answer (search rules) in
     let a = subst (λ b. IsSafe (goes 0 b) [] S) told (safe_after goes c.requires.safe (c.suspend-2.ensures.makes [])) in
-    hands_stack (safe_after (λ _ _. hand_over) (safe_after passes a (c.take_moving.ensures.makes [])) (c.give_values.ensures.more vs xs 0 same))
+    hands_stack (safe_after (λ _ _. hand_over) (safe_after passes a (c.take_moving.ensures.makes [])) (c.give_values.ensures.more vs (written (boolean true) ∷ []) 0 same))
 
 pub returns-clause-leads : goal.returns-clause-leads
 returns-clause-leads c =
-    let W = c.args.world.now in
     let S = c.suspend-2.new.world in
-    let f = value S.strings in
-    let vs = map f c.take_moving.result.items in
-    let xs = written (boolean true) ∷ [] in
+    let vs = map (value S.strings) c.take_moving.result.items in
     let told : c.suspend-2.result ≡ false = c.suspend-2.ensures.main ∙ sym c.runs_main.ensures ∙ c.if-runs_main.false in
-    let texts : S.strings ≡ c.take_moving.new.world.strings = search rules in
     let answer : c.in_ok-answer.answer.items ≡ Boolean true ∷ S.moving.items = search rules in
-    let same : args_of vs xs ++ drop 0 vs ≡ map (value c.take_moving.new.world.strings) c.in_ok-answer.answer.items =
-    ap (λ l. args_of vs xs ++ map f l) c.take_moving.ensures.values ∙ sym (ap (map f) answer) ∙ ap (λ texts. map (value texts) c.in_ok-answer.answer.items) texts in
+    let same = true_in_front S.strings c.take_moving.new.world.strings S.moving.items c.take_moving.result.items c.in_ok-answer.answer.items c.take_moving.ensures.values answer (search rules) in
     first goes (c.suspend-2.ensures.makes [])
     (subst (λ b. Leads (goes 0 b) [] S c.give_values.new.world (ending_of c.hand_over.result)) (sym told)
-    (first passes (c.take_moving.ensures.makes []) (first (λ _ _. hand_over) (c.give_values.ensures.more vs xs 0 same) (c.hand_over.ensures (vs ++ [])))))
+    (first passes (c.take_moving.ensures.makes []) (first (λ _ _. hand_over) (c.give_values.ensures.more vs (written (boolean true) ∷ []) 0 same) (c.hand_over.ensures (vs ++ [])))))
