@@ -28,20 +28,18 @@ returns-in_err-results c =
     let texts = c.args.world.now.strings in
     let vs = map (value texts) c.args.arguments.now in
     let H = heap_of c.args.world.now in
-    let id = c.in-Table.id in
     let e : text_argument (codes "expand") 1 (shape (nth vs 0)) ≡ Ok (bytes_in c.in_ok-text.text) = search rules in
-    let f : nth vs 1 ≡ object a_table id.0 = c.argument.ensures texts ∙ ap (value texts) c.in-Table.is in
-    let h : IsAnswer (Err c.in_err-results.field-0.0) (expansion (bytes_in c.in_ok-text.text) (map shape (items_from H (object a_table id.0) 10 0))) = search rules in
+    let f : nth vs 1 ≡ object a_table c.in-Table.id.0 = c.argument.ensures texts ∙ ap (value texts) c.in-Table.is in
+    let h : IsAnswer (Err c.in_err-results.field-0.0) (expansion (bytes_in c.in_ok-text.text) (map shape (items_from H (object a_table c.in-Table.id.0) 10 0))) = search rules in
     let r : c.from_residual-in_err-results.result ≡ Err c.in_err-results.field-0.0 = search rules in
-    subst (IsExpanded vs H) (sym r) (expanded_is vs H (bytes_in c.in_ok-text.text) e id f c.answers_are_done.ensures c.refusals_are_done.ensures (Err c.in_err-results.field-0.0) h)
+    subst (IsExpanded vs H) (sym r) (expanded_is vs H (bytes_in c.in_ok-text.text) e c.in-Table.id f c.answers_are_done.ensures c.refusals_are_done.ensures (Err c.in_err-results.field-0.0) h)
 
 pub returns : goal.returns
 returns c =
     let texts = c.args.world.now.strings in
     let vs = map (value texts) c.args.arguments.now in
     let H = heap_of c.args.world.now in
-    let id = c.in-Table.id in
     let e : text_argument (codes "expand") 1 (shape (nth vs 0)) ≡ Ok (bytes_in c.in_ok-text.text) = search rules in
-    let f : nth vs 1 ≡ object a_table id.0 = c.argument.ensures texts ∙ ap (value texts) c.in-Table.is in
-    let h : IsAnswer (Ok c.in_ok-results.results) (expansion (bytes_in c.in_ok-text.text) (map shape (items_from H (object a_table id.0) 10 0))) = search rules in
-    expanded_is vs H (bytes_in c.in_ok-text.text) e id f c.answers_are_done.ensures c.refusals_are_done.ensures (Ok c.in_ok-results.results) h
+    let f : nth vs 1 ≡ object a_table c.in-Table.id.0 = c.argument.ensures texts ∙ ap (value texts) c.in-Table.is in
+    let h : IsAnswer (Ok c.in_ok-results.results) (expansion (bytes_in c.in_ok-text.text) (map shape (items_from H (object a_table c.in-Table.id.0) 10 0))) = search rules in
+    expanded_is vs H (bytes_in c.in_ok-text.text) e c.in-Table.id f c.answers_are_done.ensures c.refusals_are_done.ensures (Ok c.in_ok-results.results) h

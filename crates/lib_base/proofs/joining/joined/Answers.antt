@@ -1,4 +1,4 @@
-use Rattle.std.proofs.Common.{rules, ◌≡◌, ◌+◌, ◌<◌, [], ◌∷◌, ap, sym, ◌∙◌, subst, map, Ok, Err, length}
+use Rattle.std.proofs.Common.{rules, ◌≡◌, ◌+◌, [], ◌∷◌, ap, sym, ◌∙◌, subst, map, Ok, Err, length}
 use Rattle.std.specs.Prelude.{codes, pos}
 use Rattle.int_core.specs.Value.{a_table, greatest_string, object, shape}
 use Rattle.library_arguments.specs.Refusals.{refusal_text}
@@ -21,37 +21,31 @@ shape-requires c = read_there c.strings_are_there.ensures c.args.world.now c.arg
 pub returns-in_err-piece : goal.returns-in_err-piece
 returns-in_err-piece c =
     let W = c.args.world.now in
-    let i = c.loop-i.i in
     let t = object a_table c.args.id.0 in
-    let o : Operates read_field W (Table c.args.id ∷ Int (pos (i + 1)) ∷ []) W (c.read_field-item.result ∷ []) no_word = search rules in
-    let s : shape (item (heap_of W) t (i + 1)) ≡ shape_of c.shape.result = ap shape (item_read W c.args.id (i + 1) c.read_field-item.result o) ∙ sym c.shape.ensures in
-    let h : i < c.args.many = search rules in
+    let o : Operates read_field W (Table c.args.id ∷ Int (pos (c.loop-i.i + 1)) ∷ []) W (c.read_field-item.result ∷ []) no_word = search rules in
+    let s : shape (item (heap_of W) t (c.loop-i.i + 1)) ≡ shape_of c.shape.result = ap shape (item_read W c.args.id (c.loop-i.i + 1) c.read_field-item.result o) ∙ sym c.shape.ensures in
     let why = refusal_text c.in_err-piece.field-0.0 in
     let e : text_argument (codes "join") 1 (shape_of c.shape.result) ≡ Err why = search rules in
     let r : c.from_residual.result ≡ Err (Refused c.in_err-piece.field-0.0) = search rules in
     subst (λ r. IsText r (joined_text (map shape (items_from (heap_of W) t c.args.many 1)) greatest_string)) (sym r)
-    (not_read (heap_of W) t c.args.many i c.loop-i.text c.loop-i.invariant h why (ap (text_argument (codes "join") 1) s ∙ e))
+    (not_read (heap_of W) t c.args.many c.loop-i.i c.loop-i.text c.loop-i.invariant (search rules) why (ap (text_argument (codes "join") 1) s ∙ e))
 
 pub returns-in-Err : goal.returns-in-Err
 returns-in-Err c =
     let W = c.args.world.now in
-    let i = c.loop-i.i in
     let t = object a_table c.args.id.0 in
-    let o : Operates read_field W (Table c.args.id ∷ Int (pos (i + 1)) ∷ []) W (c.read_field-item.result ∷ []) no_word = search rules in
-    let s : shape (item (heap_of W) t (i + 1)) ≡ shape_of c.shape.result = ap shape (item_read W c.args.id (i + 1) c.read_field-item.result o) ∙ sym c.shape.ensures in
-    let h : i < c.args.many = search rules in
+    let o : Operates read_field W (Table c.args.id ∷ Int (pos (c.loop-i.i + 1)) ∷ []) W (c.read_field-item.result ∷ []) no_word = search rules in
+    let s : shape (item (heap_of W) t (c.loop-i.i + 1)) ≡ shape_of c.shape.result = ap shape (item_read W c.args.id (c.loop-i.i + 1) c.read_field-item.result o) ∙ sym c.shape.ensures in
     let e : text_argument (codes "join") 1 (shape_of c.shape.result) ≡ Ok c.as_slice.result.now = search rules in
     not_pushed c.in-Err.why c.fault_of.result (length c.loop-i.text + length c.as_slice.result.now) _ c.fault_of.ensures c.in-Err.ensures.refused
-    (no_room (heap_of W) t c.args.many i c.loop-i.text c.loop-i.invariant h c.as_slice.result.now (ap (text_argument (codes "join") 1) s ∙ e))
+    (no_room (heap_of W) t c.args.many c.loop-i.i c.loop-i.text c.loop-i.invariant (search rules) c.as_slice.result.now (ap (text_argument (codes "join") 1) s ∙ e))
 
 pub loop-i-preserved : goal.loop-i-preserved
 loop-i-preserved c =
     let W = c.args.world.now in
-    let i = c.loop-i.i in
     let t = object a_table c.args.id.0 in
-    let o : Operates read_field W (Table c.args.id ∷ Int (pos (i + 1)) ∷ []) W (c.read_field-item.result ∷ []) no_word = search rules in
-    let s : shape (item (heap_of W) t (i + 1)) ≡ shape_of c.shape.result = ap shape (item_read W c.args.id (i + 1) c.read_field-item.result o) ∙ sym c.shape.ensures in
-    let h : i < c.args.many = search rules in
+    let o : Operates read_field W (Table c.args.id ∷ Int (pos (c.loop-i.i + 1)) ∷ []) W (c.read_field-item.result ∷ []) no_word = search rules in
+    let s : shape (item (heap_of W) t (c.loop-i.i + 1)) ≡ shape_of c.shape.result = ap shape (item_read W c.args.id (c.loop-i.i + 1) c.read_field-item.result o) ∙ sym c.shape.ensures in
     let e : text_argument (codes "join") 1 (shape_of c.shape.result) ≡ Ok c.as_slice.result.now = search rules in
-    subst (IsJoined (heap_of W) t c.args.many (i + 1)) (sym c.in_default.ensures.joined)
-    (piece_added (heap_of W) t c.args.many i c.loop-i.text c.loop-i.invariant h c.as_slice.result.now (ap (text_argument (codes "join") 1) s ∙ e) c.in_default.ensures.fits)
+    subst (IsJoined (heap_of W) t c.args.many (c.loop-i.i + 1)) (sym c.in_default.ensures.joined)
+    (piece_added (heap_of W) t c.args.many c.loop-i.i c.loop-i.text c.loop-i.invariant (search rules) c.as_slice.result.now (ap (text_argument (codes "join") 1) s ∙ e) c.in_default.ensures.fits)

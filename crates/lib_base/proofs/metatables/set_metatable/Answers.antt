@@ -1,11 +1,8 @@
 use Rattle.std.proofs.Common.{rules, ◌≡◌, ap, ◌∙◌, map}
-use Rattle.std.specs.Prelude.{[], ◌∷◌, codes}
-use Rattle.int_core.specs.Value.{nth, known, string, object, a_table}
+use Rattle.int_core.specs.Value.{nth, object, a_table}
 use Rattle.library_rows.specs.Base.{sets_metatable}
-use Rattle.library_rows.specs.Look.{no_word, read_metatable}
-use Rattle.table_core.specs.declared.value.Value.TheVariants.{Table}
 use Rattle.lua_heap.specs.Reading.{value}
-use Rattle.lib_base.specs.Raw.{Operates, table_or_nil}
+use Rattle.lib_base.specs.Raw.{table_or_nil}
 use Rattle.lib_base.proofs.MetatableRows.{metatable_value, sets_metatable_is, sets_protected}
 use Rattle.lib_base.proofs.Interning.{as_before, changes_both, changes_strings}
 use Rattle.lib_base.proofs.metatables.set_metatable.Goals as goal
@@ -26,10 +23,8 @@ returns-in_default-clause-answers c =
     let e : nth vs 0 ≡ object a_table c.in_ok-id.id.0 = ap (λ vs. nth vs 0) c.string.ensures.kept.read ∙ c.in_ok-id.ensures in
     let g : nth vs 1 ≡ value new.strings (table_or_nil c.in_ok-metatable.metatable)
     = ap (λ vs. nth vs 1) c.string.ensures.kept.read ∙ metatable_value new.strings _ c.in_ok-metatable.metatable c.in_ok-metatable.ensures in
-    let f : value new.strings c.in_ok-name.name ≡ known (string (codes "__metatable")) = search rules in
-    let o : Operates read_metatable new (Table c.in_ok-id.id ∷ []) new (c.value_of-present.result ∷ []) no_word = search rules in
     as_before sets_metatable c.args.world.now new c.args.arguments.now c.string.ensures.kept
-    ∙ sets_protected new vs c.in_ok-id.id e c.in_ok-metatable.metatable c.value_of-present.result c.in_ok-name.name c.read_field.result g f o c.read_field.ensures (search rules)
+    ∙ sets_protected new vs c.in_ok-id.id e c.in_ok-metatable.metatable c.value_of-present.result c.in_ok-name.name c.read_field.result g (search rules) (search rules) c.read_field.ensures (search rules)
 
 pub returns-clause-answers : goal.returns-clause-answers
 returns-clause-answers c =
@@ -38,7 +33,5 @@ returns-clause-answers c =
     let e : nth vs 0 ≡ object a_table c.in_ok-id.id.0 = ap (λ vs. nth vs 0) c.string.ensures.kept.read ∙ c.in_ok-id.ensures in
     let g : nth vs 1 ≡ value new.strings (table_or_nil c.in_ok-metatable.metatable)
     = ap (λ vs. nth vs 1) c.string.ensures.kept.read ∙ metatable_value new.strings _ c.in_ok-metatable.metatable c.in_ok-metatable.ensures in
-    let f : value new.strings c.in_ok-name.name ≡ known (string (codes "__metatable")) = search rules in
-    let o : Operates read_metatable new (Table c.in_ok-id.id ∷ []) new (c.value_of-present.result ∷ []) no_word = search rules in
     as_before sets_metatable c.args.world.now new c.args.arguments.now c.string.ensures.kept
-    ∙ sets_metatable_is new vs c.in_ok-id.id e c.in_ok-metatable.metatable c.value_of-present.result c.in_ok-name.name c.read_field.result g f o c.read_field.ensures c.set_metatable.new.world (search rules) c.set_metatable.ensures
+    ∙ sets_metatable_is new vs c.in_ok-id.id e c.in_ok-metatable.metatable c.value_of-present.result c.in_ok-name.name c.read_field.result g (search rules) (search rules) c.read_field.ensures c.set_metatable.new.world (search rules) c.set_metatable.ensures

@@ -8,18 +8,14 @@ use Rattle.lua_saving.proofs.loading.take_roots.Goals as goal
 pub get-requires : goal.get-requires
 get-requires c =
     let vs = c.args.values.now in
-    let low = c.in-len5.len_at_least in
-    let high = c.in-len5.len_below in
-    let five : length vs ≡ 5 = omega (arith, low, high) in
+    let five : length vs ≡ 5 = omega (arith, c.in-len5.len_at_least, c.in-len5.len_below) in
     let roots : roots_among vs Nil ≡ Some c.in-Some.roots = search rules in
     main_there c.args.world.now vs Nil c.in-Some.roots five roots c.requires.there
 
 pub returns-then-not-has_yielded-clause-none : goal.returns-then-not-has_yielded-clause-none
 returns-then-not-has_yielded-clause-none c = λ _.
     let vs = c.args.values.now in
-    let low = c.in-len5.len_at_least in
-    let high = c.in-len5.len_below in
-    let five : length vs ≡ 5 = omega (arith, low, high) in
+    let five : length vs ≡ 5 = omega (arith, c.in-len5.len_at_least, c.in-len5.len_below) in
     let roots : roots_among vs Nil ≡ Some c.in-Some.roots = search rules in
     let there : slice_get c.args.world.now.coros.objects c.in-Some.roots.main.0 ≡ Some c.get.result.now = search rules in
     let no : has_yielded c.get.result.now ≡ false = search rules in
@@ -28,9 +24,7 @@ returns-then-not-has_yielded-clause-none c = λ _.
 pub returns-clause-taken : goal.returns-clause-taken
 returns-clause-taken c = λ _.
     let vs = c.args.values.now in
-    let low = c.in-len5.len_at_least in
-    let high = c.in-len5.len_below in
-    let five : length vs ≡ 5 = omega (arith, low, high) in
+    let five : length vs ≡ 5 = omega (arith, c.in-len5.len_at_least, c.in-len5.len_below) in
     let roots : roots_among vs Nil ≡ Some c.in-Some.roots = search rules in
     let there : slice_get c.args.world.now.coros.objects c.in-Some.roots.main.0 ≡ Some c.get.result.now = search rules in
     let yes : has_yielded c.get.result.now ≡ true = search rules in

@@ -8,27 +8,23 @@ use Rattle.table_core.proofs.rows.Rows.insert_last.Goals as goal
 
 pub invariant_of-self-then-goes_on : goal.invariant_of-self-then-goes_on
 invariant_of-self-then-goes_on c =
-    let xs = c.self.inside.array.items in
-    let keyed = c.self.inside.keyed in
-    let absent : IsAbsent (numbered 0 xs ++ keyed) c.args.key = rw (← c.self.view_is) at c.requires in
-    let size : c.len-numbered.result ≡ length xs = omega (arith, c.len-numbered.ensures, c.self.inside.array.ok.0) in
-    let pushed : c.push.new.self.items ≡ xs ++ c.args.value ∷ [] = search rules in
+    let absent : IsAbsent (numbered 0 c.self.inside.array.items ++ c.self.inside.keyed) c.args.key = rw (← c.self.view_is) at c.requires in
+    let size : c.len-numbered.result ≡ length c.self.inside.array.items = omega (arith, c.len-numbered.ensures, c.self.inside.array.ok.0) in
+    let pushed : c.push.new.self.items ≡ c.self.inside.array.items ++ c.args.value ∷ [] = search rules in
     let none : c.len-keyed.result ≡ 0 = search rules in
     let next : c.args.key ≡ Int (pos (c.len-numbered.result + 1)) = search rules in
-    (array-pushed xs keyed c.self.invariant c.push.new.self.items c.args.key c.args.value absent pushed (omega (arith, c.len-keyed.ensures)) (subst (λ n. c.args.key ≡ Int (pos (n + 1))) size next)
+    (array-pushed c.self.inside.array.items c.self.inside.keyed c.self.invariant c.push.new.self.items c.args.key c.args.value absent pushed (omega (arith, c.len-keyed.ensures)) (subst (λ n. c.args.key ≡ Int (pos (n + 1))) size next)
     (omega (arith, c.len-keyed.ensures, c.if-keyed-numbered.false))).split
 
 pub returns-then-goes_on-clause-added : goal.returns-then-goes_on-clause-added
 returns-then-goes_on-clause-added c =
-    let xs = c.self.inside.array.items in
-    let keyed = c.self.inside.keyed in
-    let absent : IsAbsent (numbered 0 xs ++ keyed) c.args.key = rw (← c.self.view_is) at c.requires in
-    let size : c.len-numbered.result ≡ length xs = omega (arith, c.len-numbered.ensures, c.self.inside.array.ok.0) in
-    let pushed : c.push.new.self.items ≡ xs ++ c.args.value ∷ [] = search rules in
+    let absent : IsAbsent (numbered 0 c.self.inside.array.items ++ c.self.inside.keyed) c.args.key = rw (← c.self.view_is) at c.requires in
+    let size : c.len-numbered.result ≡ length c.self.inside.array.items = omega (arith, c.len-numbered.ensures, c.self.inside.array.ok.0) in
+    let pushed : c.push.new.self.items ≡ c.self.inside.array.items ++ c.args.value ∷ [] = search rules in
     let none : c.len-keyed.result ≡ 0 = search rules in
     let next : c.args.key ≡ Int (pos (c.len-numbered.result + 1)) = search rules in
     rw (← c.self.view_is)
-    (array-pushed xs keyed c.self.invariant c.push.new.self.items c.args.key c.args.value absent pushed (omega (arith, c.len-keyed.ensures)) (subst (λ n. c.args.key ≡ Int (pos (n + 1))) size next)
+    (array-pushed c.self.inside.array.items c.self.inside.keyed c.self.invariant c.push.new.self.items c.args.key c.args.value absent pushed (omega (arith, c.len-keyed.ensures)) (subst (λ n. c.args.key ≡ Int (pos (n + 1))) size next)
     (omega (arith, c.len-keyed.ensures, c.if-keyed-numbered.false))).added
 
 pub returns-then-goes_on-clause-distinct : goal.returns-then-goes_on-clause-distinct
