@@ -14,7 +14,7 @@ use Rattle.lua_heap.specs.declared.world.World.{World as Memory}
 use Rattle.lua_heap.specs.Cells.{CellsAreListed}
 use Rattle.lua_heap.specs.Reading.{value}
 use Rattle.lua_heap.specs.Plain.{plain}
-use Rattle.move_laws.specs.Memory.{Runs, HasStack, Makes, StandsAt}
+use Rattle.move_laws.specs.Memory.{Runs, HasStack, Makes, StandsAt, StaysOnTop}
 use Rattle.move_laws.proofs.Running.{with_top, place_after, lua_top, registers_there, own_made}
 use Rattle.move_laws.proofs.Order.{listed_after}
 use Rattle.machine_moves.specs.Moves.{RunsAs}
@@ -52,6 +52,10 @@ module _ {W : Memory} {co : CoroId} {c : Coro} {s : KeptStack} (r : RunsAs W co)
 
   pub listed_in_place : (t : KeptStack) → t.open_cells ≡ s.open_cells → CellsAreListed W → CellsAreListed (with_stack W co t)
   listed_in_place t cells = listed_after W (with_stack W co t) co s t found (record { rest = refl; objects = refl }) cells
+
+  pub stays_in_place : (t : KeptStack) (change : (Kept → Value) → LuaFrame → LuaFrame) → TopBecomes s t change
+      → ((u : LuaFrame) → (change (value W.strings) u).function ≡ u.function) → ((u : LuaFrame) → (change (value W.strings) u).own.pc ≡ u.own.pc) → StaysOnTop W (with_stack W co t)
+  stays_in_place t change becomes function same = record { at = stands_in_place t change becomes function same; listed = listed_in_place t becomes.cells; rest = refl }
 
   pub kept_in_place : (t : KeptStack) → t ≡ s → with_stack W co t ≡ W
   kept_in_place t same = kept_whole W co s t found same

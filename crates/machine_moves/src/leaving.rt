@@ -1,10 +1,9 @@
 // What the Lua frame on top keeps in its registers while it waits or is left.
-ghost use Rattle.std.specs.Prelude.{◌≡◌, ◌≤◌, ℕ, [], List};
+ghost use Rattle.std.specs.Prelude.{◌≤◌, [], List};
 ghost use Rattle.int_core.specs.Value.{Value as Meant, known, nil, is_known};
-ghost use Rattle.lua_heap.specs.Cells.{CellsAreListed};
 ghost use Rattle.machine_core.specs.Text.{cut_from as cuts, keep_pending as keeps, keep_results as keeps_too};
 ghost use Rattle.machine_core.specs.Moves.{on_own};
-ghost use Rattle.move_laws.specs.Memory.{Makes, StandsAt};
+ghost use Rattle.move_laws.specs.Memory.{Makes, StaysOnTop};
 ghost use Rattle.machine_moves.specs.Moves.{CanCut, CanKeep};
 
 use crate::chain::running;
@@ -15,9 +14,7 @@ pub fn cut_from(world: &mut World, register: usize, stack_size: usize)
     requires within { register ≤ stack_size }
     requires frame { CanCut world.old stack_size }
     ensures makes { (env : List Meant) → Makes world.old world.new (on_own (cuts register)) env [] (is_known nil) }
-    ensures at { (pc : ℕ) → StandsAt world.old pc → StandsAt world.new pc }
-    ensures listed { CellsAreListed world.old → CellsAreListed world.new }
-    ensures rest { world.new ≡ record world.old { coros = world.new.coros } }
+    ensures stays { StaysOnTop world.old world.new }
 {
     let co = running(world);
     match world.coros.get_mut(co.0) {
@@ -30,9 +27,7 @@ pub fn cut_from(world: &mut World, register: usize, stack_size: usize)
 pub fn keep_pending(world: &mut World, stack_size: usize)
     requires { CanCut world.old stack_size }
     ensures makes { (env : List Meant) → Makes world.old world.new (on_own keeps) env [] (is_known nil) }
-    ensures at { (pc : ℕ) → StandsAt world.old pc → StandsAt world.new pc }
-    ensures listed { CellsAreListed world.old → CellsAreListed world.new }
-    ensures rest { world.new ≡ record world.old { coros = world.new.coros } }
+    ensures stays { StaysOnTop world.old world.new }
 {
     let co = running(world);
     match world.coros.get_mut(co.0) {
@@ -45,9 +40,7 @@ pub fn keep_pending(world: &mut World, stack_size: usize)
 pub fn keep_results(world: &mut World, from: usize, count: usize, stack_size: usize)
     requires { CanKeep world.old from count stack_size }
     ensures makes { (env : List Meant) → Makes world.old world.new (on_own (keeps_too from count)) env [] (is_known nil) }
-    ensures at { (pc : ℕ) → StandsAt world.old pc → StandsAt world.new pc }
-    ensures listed { CellsAreListed world.old → CellsAreListed world.new }
-    ensures rest { world.new ≡ record world.old { coros = world.new.coros } }
+    ensures stays { StaysOnTop world.old world.new }
 {
     let co = running(world);
     match world.coros.get_mut(co.0) {

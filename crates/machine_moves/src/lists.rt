@@ -5,7 +5,7 @@ ghost use Rattle.lua_heap.specs.Cells.{CellsAreListed};
 ghost use Rattle.lua_heap.specs.Reading.{value as meant};
 ghost use Rattle.machine_core.specs.Text.{end_list as ends, read_list as reads_open, read_varargs as reads, write_list as writes};
 ghost use Rattle.machine_core.specs.Moves.{on_own};
-ghost use Rattle.move_laws.specs.Memory.{CanDo, HasFrame, IsSound, Makes, StandsAt};
+ghost use Rattle.move_laws.specs.Memory.{CanDo, HasFrame, IsSound, Makes, StandsAt, StaysOnTop};
 ghost use Rattle.machine_moves.specs.Moves.{CanCut, IsInFront};
 
 use crate::chain::{running, running_stack};
@@ -70,9 +70,7 @@ pub fn write_list(world: &mut World, at: usize, values: &[Value]) -> Result<(), 
 pub fn end_list(world: &mut World, stack_size: usize)
     requires { CanCut world.old stack_size }
     ensures makes { (env : List Meant) → Makes world.old world.new (on_own ends) env [] (is_known nil) }
-    ensures at { (pc : ℕ) → StandsAt world.old pc → StandsAt world.new pc }
-    ensures listed { CellsAreListed world.old → CellsAreListed world.new }
-    ensures rest { world.new ≡ record world.old { coros = world.new.coros } }
+    ensures stays { StaysOnTop world.old world.new }
 {
     let co = running(world);
     match world.coros.get_mut(co.0) {

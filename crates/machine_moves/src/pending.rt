@@ -5,7 +5,7 @@ ghost use Rattle.lua_heap.specs.Cells.{CellsAreListed};
 ghost use Rattle.lua_heap.specs.Reading.{value as meant};
 ghost use Rattle.machine_core.specs.Text.{drop_pending as drops, is_there, mark_pending as marks, see_pending as sees, take_pending as takes};
 ghost use Rattle.machine_core.specs.Moves.{on_own};
-ghost use Rattle.move_laws.specs.Memory.{CanDo, Makes, StandsAt};
+ghost use Rattle.move_laws.specs.Memory.{CanDo, Makes, StandsAt, StaysOnTop};
 ghost use Rattle.machine_moves.specs.Moves.{CanSee, value_seen};
 
 use crate::chain::{running, running_stack};
@@ -45,9 +45,7 @@ pub fn mark_pending(world: &mut World, register: usize) -> Result<(), AllocError
 pub fn take_pending(world: &mut World, register: usize)
     requires { CanDo world.old (takes register) }
     ensures makes { (env : List Meant) → Makes world.old world.new (on_own (takes register)) env [] (is_known nil) }
-    ensures at { (pc : ℕ) → StandsAt world.old pc → StandsAt world.new pc }
-    ensures listed { CellsAreListed world.old → CellsAreListed world.new }
-    ensures rest { world.new ≡ record world.old { coros = world.new.coros } }
+    ensures stays { StaysOnTop world.old world.new }
 {
     let co = running(world);
     match world.coros.get_mut(co.0) {
@@ -60,9 +58,7 @@ pub fn take_pending(world: &mut World, register: usize)
 pub fn drop_pending(world: &mut World, register: usize)
     requires { CanDo world.old (drops register) }
     ensures makes { (env : List Meant) → Makes world.old world.new (on_own (drops register)) env [] (is_known nil) }
-    ensures at { (pc : ℕ) → StandsAt world.old pc → StandsAt world.new pc }
-    ensures listed { CellsAreListed world.old → CellsAreListed world.new }
-    ensures rest { world.new ≡ record world.old { coros = world.new.coros } }
+    ensures stays { StaysOnTop world.old world.new }
 {
     let co = running(world);
     match world.coros.get_mut(co.0) {

@@ -1,11 +1,11 @@
 // The registers of the Lua frame on top, and its place in the code.
-ghost use Rattle.std.specs.Prelude.{◌≡◌, ◌+◌, ◌≤◌, ℕ, [], ◌∷◌, List, Some, drop, length, map, slice_get, take};
+ghost use Rattle.std.specs.Prelude.{◌≡◌, ◌+◌, ◌≤◌, [], ◌∷◌, List, Some, drop, length, map, slice_get, take};
 ghost use Rattle.int_core.specs.Value.{Value as Meant, known, nil, shape, is_known};
 ghost use Rattle.lua_heap.specs.Cells.{CellsAreListed};
 ghost use Rattle.lua_heap.specs.Reading.{value as meant};
 ghost use Rattle.machine_core.specs.Text.{Arg, arg, written, read_register as reads, read_registers as reads_all, write_register as writes, write_nils};
 ghost use Rattle.machine_core.specs.Moves.{on_own};
-ghost use Rattle.move_laws.specs.Memory.{CanDo, Makes, StandsAt};
+ghost use Rattle.move_laws.specs.Memory.{CanDo, Makes, StaysOnTop};
 ghost use Rattle.machine_moves.specs.Moves.{CanGo, Goes};
 
 use crate::chain::{running, running_stack};
@@ -44,9 +44,7 @@ pub(crate) fn span(values: &[Value], from: usize, count: usize) -> &[Value]
 pub fn write_register(world: &mut World, register: usize, v: Value)
     requires { CanDo world.old (writes register (written nil)) }
     ensures makes { (env : List Meant) (x : Arg) → arg env x ≡ meant world.old.strings v → Makes world.old world.new (on_own (writes register x)) env [] (is_known nil) }
-    ensures at { (pc : ℕ) → StandsAt world.old pc → StandsAt world.new pc }
-    ensures listed { CellsAreListed world.old → CellsAreListed world.new }
-    ensures rest { world.new ≡ record world.old { coros = world.new.coros } }
+    ensures stays { StaysOnTop world.old world.new }
 {
     let co = running(world);
     match world.coros.get_mut(co.0) {
@@ -59,9 +57,7 @@ pub fn write_register(world: &mut World, register: usize, v: Value)
 pub fn clear_registers(world: &mut World, from: usize, count: usize)
     requires { CanDo world.old (write_nils from count) }
     ensures makes { (env : List Meant) → Makes world.old world.new (on_own (write_nils from count)) env [] (is_known nil) }
-    ensures at { (pc : ℕ) → StandsAt world.old pc → StandsAt world.new pc }
-    ensures listed { CellsAreListed world.old → CellsAreListed world.new }
-    ensures rest { world.new ≡ record world.old { coros = world.new.coros } }
+    ensures stays { StaysOnTop world.old world.new }
 {
     let co = running(world);
     match world.coros.get_mut(co.0) {

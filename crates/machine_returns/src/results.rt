@@ -8,7 +8,7 @@ ghost use Rattle.machine_core.specs.Text.{write_registers as writes};
 ghost use Rattle.machine_core.specs.InstructionRows.{write_values as writes_values};
 ghost use Rattle.machine_core.specs.FrameRows.{When, expand_by};
 ghost use Rattle.machine_core.specs.Moves.{on_own};
-ghost use Rattle.move_laws.specs.Memory.{CanDo, InOrder, Leads, Makes, StandsAt};
+ghost use Rattle.move_laws.specs.Memory.{CanDo, InOrder, Leads, Makes, StandsAt, StaysOnTop};
 ghost use Rattle.machine_moves.specs.Ending.{ending_of};
 ghost use Rattle.machine_returns.specs.Results.{MayTake, writing};
 ghost use Rattle.machine_calls.specs.Preparing.{HasTop};
@@ -69,9 +69,7 @@ fn write_values(
 pub fn write_registers(world: &mut World, at: usize, count: usize, values: &[Value])
     requires { CanDo world.old (writes at count 0) }
     ensures makes { (env : List Meant) (slot : ℕ) → drop slot env ≡ map (meant world.old.strings) values.now → Makes world.old world.new (on_own (writes at count slot)) env [] (is_known nil) }
-    ensures at { (pc : ℕ) → StandsAt world.old pc → StandsAt world.new pc }
-    ensures listed { CellsAreListed world.old → CellsAreListed world.new }
-    ensures rest { world.new ≡ record world.old { coros = world.new.coros } }
+    ensures stays { StaysOnTop world.old world.new }
 {
     if count == 0 {
         return;

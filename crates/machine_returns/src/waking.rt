@@ -2,7 +2,7 @@
 ghost use Rattle.std.specs.Prelude.{◌≡◌, ℕ};
 ghost use Rattle.lua_heap.specs.Cells.{CellsAreListed};
 ghost use Rattle.lua_heap.specs.declared.world.World.{World as Memory};
-ghost use Rattle.move_laws.specs.Memory.{HasFrame, IsSound, ReadsSame, StandsAt};
+ghost use Rattle.move_laws.specs.Memory.{HasFrame, IsSound, ReadsSame, StandsAt, StaysOnTop};
 ghost use Rattle.machine_returns.specs.Waking.{HasWait, IsSolid, Wakes, WaitsSo};
 
 use lua_heap::{Coro, World};
@@ -47,9 +47,7 @@ pub fn wait_on_top(world: &World) -> Wait
 pub fn set_wait(world: &mut World, wait: Wait)
     requires { HasFrame world.old }
     ensures waits { WaitsSo world.old world.new wait }
-    ensures at { (pc : ℕ) → StandsAt world.old pc → StandsAt world.new pc }
-    ensures listed { CellsAreListed world.old → CellsAreListed world.new }
-    ensures rest { world.new ≡ record world.old { coros = world.new.coros } }
+    ensures stays { StaysOnTop world.old world.new }
 {
     let co = running(world);
     match world.coros.get_mut(co.0) {

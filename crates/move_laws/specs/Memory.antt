@@ -58,6 +58,12 @@ pub record StandsAt (W : Memory) (pc : ℕ) : Type 0 where
   pub is : place_of (plain W 0) ≡ Some place
   pub at : place.top.own.pc ≡ pc
 
+-- what coroutines hold has changed and nothing else: the frame on top is at its place still, and cells are listed as they were
+pub record StaysOnTop (old new : Memory) : Type 0 where
+  pub at : (pc : ℕ) → StandsAt old pc → StandsAt new pc
+  pub listed : CellsAreListed old → CellsAreListed new
+  pub rest : new ≡ record old { coros = new.coros }
+
 -- what is kept of code, and what stacks list as open, are as the calls of a world in memory make them
 pub record InOrder (W : Memory) : Type 0 where
   pub codes : AreCodes W.strings W.codes

@@ -23,14 +23,14 @@ go_on-requires-clause-solid g c =
     let X = c.args.world.now in
     let law = c.loading_is_safe.ensures.safe in
     solid_with c.requires law (listed X (c.in-One.value ∷ []) (one_is_few c.in-One.value)) (ap shape_told c.in-One.is) (ap (values_told X) c.in-One.is) c.set_wait.new.world
-    c.set_wait.ensures.waits c.set_wait.ensures.rest (c.set_wait.ensures.listed (listed_there c.requires law))
+    c.set_wait.ensures.waits c.set_wait.ensures.stays.rest (c.set_wait.ensures.stays.listed (listed_there c.requires law))
 
 pub go_on-requires-clause-awake : goal.go_on-requires-clause-awake
 go_on-requires-clause-awake g c =
     let X = c.args.world.now in
     let law = c.loading_is_safe.ensures.safe in
     awake_with c.requires law (listed X (c.in-One.value ∷ []) (one_is_few c.in-One.value)) (ap shape_told c.in-One.is) (ap (values_told X) c.in-One.is) c.set_wait.new.world
-    c.set_wait.ensures.waits c.set_wait.ensures.rest (c.set_wait.ensures.listed (listed_there c.requires law))
+    c.set_wait.ensures.waits c.set_wait.ensures.stays.rest (c.set_wait.ensures.stays.listed (listed_there c.requires law))
 
 pub returns-in-One-clause-comes : goal.returns-in-One-clause-comes
 returns-in-One-clause-comes g c =
@@ -39,7 +39,7 @@ returns-in-One-clause-comes g c =
     IfOk-weaker c.go_on.result _ _
     (λ ending q builds are.
     comes_with c.requires law (listed X (c.in-One.value ∷ []) (one_is_few c.in-One.value)) (ap shape_told c.in-One.is) (ap (values_told X) c.in-One.is) c.set_wait.new.world
-    c.set_wait.ensures.waits c.set_wait.ensures.rest (c.set_wait.ensures.listed (listed_there c.requires law)) c.go_on.new.world ending q builds)
+    c.set_wait.ensures.waits c.set_wait.ensures.stays.rest (c.set_wait.ensures.stays.listed (listed_there c.requires law)) c.go_on.new.world ending q builds)
     c.go_on.ensures.goes
 
 pub go_on-requires-in-Two-clause-solid : goal.go_on-requires-in-Two-clause-solid
@@ -72,7 +72,7 @@ go_on-requires-in-Gives-clause-solid g c =
     let law = c.loading_is_safe.ensures.safe in
     let again = c.set_wait-in-Gives.new.world in
     solid_with c.requires law c.in-Gives.values (ap shape_told c.in-Gives.is) (ap (values_told X) c.in-Gives.is) again
-    c.set_wait-in-Gives.ensures.waits c.set_wait-in-Gives.ensures.rest (c.set_wait-in-Gives.ensures.listed (listed_there c.requires law))
+    c.set_wait-in-Gives.ensures.waits c.set_wait-in-Gives.ensures.stays.rest (c.set_wait-in-Gives.ensures.stays.listed (listed_there c.requires law))
 
 pub go_on-requires-in-Gives-clause-awake : goal.go_on-requires-in-Gives-clause-awake
 go_on-requires-in-Gives-clause-awake g c =
@@ -81,7 +81,7 @@ go_on-requires-in-Gives-clause-awake g c =
     let again = c.set_wait-in-Gives.new.world in
     subst (λ came. IsAwake again c.args.here.pc c.args.here.word (wait_by c.args.iterates) came) (sym c.as_slice.ensures.value)
     (awake_with c.requires law c.in-Gives.values (ap shape_told c.in-Gives.is) (ap (values_told X) c.in-Gives.is) again
-    c.set_wait-in-Gives.ensures.waits c.set_wait-in-Gives.ensures.rest (c.set_wait-in-Gives.ensures.listed (listed_there c.requires law)))
+    c.set_wait-in-Gives.ensures.waits c.set_wait-in-Gives.ensures.stays.rest (c.set_wait-in-Gives.ensures.stays.listed (listed_there c.requires law)))
 
 pub returns-in-Gives-clause-comes : goal.returns-in-Gives-clause-comes
 returns-in-Gives-clause-comes g c =
@@ -92,7 +92,7 @@ returns-in-Gives-clause-comes g c =
     IfOk-weaker c.go_on-in-Gives.result _ _
     (λ ending q builds are.
     comes_with c.requires law c.in-Gives.values (ap shape_told c.in-Gives.is) (ap (values_told X) c.in-Gives.is) again
-    c.set_wait-in-Gives.ensures.waits c.set_wait-in-Gives.ensures.rest (c.set_wait-in-Gives.ensures.listed (listed_there c.requires law)) last ending
+    c.set_wait-in-Gives.ensures.waits c.set_wait-in-Gives.ensures.stays.rest (c.set_wait-in-Gives.ensures.stays.listed (listed_there c.requires law)) last ending
     (subst (λ came. GoesOnSo again last c.args.here.word (wait_by c.args.iterates) came (ending_of ending)) c.as_slice.ensures.value q) builds)
     c.go_on-in-Gives.ensures.goes
 

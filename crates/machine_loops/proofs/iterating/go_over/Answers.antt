@@ -15,9 +15,9 @@ pub go_back-requires : goal.go_back-requires
 go_back-requires c =
     let v = meant c.args.world.now.strings c.args.v in
     record {
-      at = c.write_register.ensures.at c.args.pc c.requires.at;
+      at = c.write_register.ensures.stays.at c.args.pc c.requires.at;
       room = c.requires.room;
-      order = order_kept c.requires.order c.write_register.ensures.rest c.write_register.ensures.listed;
+      order = order_kept c.requires.order c.write_register.ensures.stays.rest c.write_register.ensures.stays.listed;
       safe = record { env = v ∷ []; safe = safe_after (λ _ _. expand (back c.args.by)) c.requires.safe (c.write_register.ensures.makes (v ∷ []) (read 0) refl) };
     }
 

@@ -56,7 +56,7 @@ go_to-requires-2 c =
     let kept = ap (λ n. known (integer n)) (sym count) ∙ kept_integer c.further_rounds-count.result (record { sfits = c.further_rounds-count.type_inv }) in
     let t = safe_after (λ _ _. expand (later_part c.args.base c.args.from)) s (c.write_register.ensures.makes _ x kept) in
     let u = safe_after (λ _ _. expand next) t (c.write_register-2.ensures.makes _ (written (integer c.args.from)) (kept_integer c.args.from c.ranges.from)) in
-    may_go 1 (c.write_register-2.ensures.at c.args.pc (c.write_register.ensures.at c.args.pc c.requires.at)) refl u
+    may_go 1 (c.write_register-2.ensures.stays.at c.args.pc (c.write_register.ensures.stays.at c.args.pc c.requires.at)) refl u
 
 pub returns-clause-leads : goal.returns-clause-leads
 returns-clause-leads c = λ env.
@@ -67,8 +67,8 @@ returns-clause-leads c = λ env.
     subst (λ t. Leads (expand t) env c.args.world.now c.go_to-2.new.world go) (sym (has_rounds c.args.base c.args.by c.args.from c.args.limit c.args.step c.requires.step r))
     (first (λ _ _. expand (later_part c.args.base c.args.from)) (c.write_register.ensures.makes env x kept)
     (first (λ _ _. expand next) (c.write_register-2.ensures.makes _ (written (integer c.args.from)) (kept_integer c.args.from c.ranges.from))
-    (goes_on 1 (c.write_register-2.ensures.at c.args.pc (c.write_register.ensures.at c.args.pc c.requires.at)) refl c.go_to-2.ensures.makes _)))
+    (goes_on 1 (c.write_register-2.ensures.stays.at c.args.pc (c.write_register.ensures.stays.at c.args.pc c.requires.at)) refl c.go_to-2.ensures.makes _)))
 
 pub returns-clause-order : goal.returns-clause-order
 returns-clause-order c =
-    order_kept (order_kept (order_kept c.requires.order c.write_register.ensures.rest c.write_register.ensures.listed) c.write_register-2.ensures.rest c.write_register-2.ensures.listed) c.go_to-2.ensures.rest c.go_to-2.ensures.listed
+    order_kept (order_kept (order_kept c.requires.order c.write_register.ensures.stays.rest c.write_register.ensures.stays.listed) c.write_register-2.ensures.stays.rest c.write_register-2.ensures.stays.listed) c.go_to-2.ensures.rest c.go_to-2.ensures.listed

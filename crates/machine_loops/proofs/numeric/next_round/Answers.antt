@@ -32,11 +32,11 @@ write_register-requires-3 c =
     any_value {x = written (integer c.args.next)} (can_do (write_register (c.args.base + 3) (written (integer c.args.next))) (λ _ _. expand (back c.args.by)) t)
 
 pub go_back-requires-clause-at : goal.go_back-requires-clause-at
-go_back-requires-clause-at c = c.write_register-3.ensures.at c.args.pc (c.write_register-2.ensures.at c.args.pc (c.write_register.ensures.at c.args.pc c.requires.at))
+go_back-requires-clause-at c = c.write_register-3.ensures.stays.at c.args.pc (c.write_register-2.ensures.stays.at c.args.pc (c.write_register.ensures.stays.at c.args.pc c.requires.at))
 
 pub go_back-requires-clause-order : goal.go_back-requires-clause-order
 go_back-requires-clause-order c =
-    order_kept (order_kept (order_kept c.requires.order c.write_register.ensures.rest c.write_register.ensures.listed) c.write_register-2.ensures.rest c.write_register-2.ensures.listed) c.write_register-3.ensures.rest c.write_register-3.ensures.listed
+    order_kept (order_kept (order_kept c.requires.order c.write_register.ensures.stays.rest c.write_register.ensures.stays.listed) c.write_register-2.ensures.stays.rest c.write_register-2.ensures.stays.listed) c.write_register-3.ensures.stays.rest c.write_register-3.ensures.stays.listed
 
 pub go_back-requires-clause-safe : goal.go_back-requires-clause-safe
 go_back-requires-clause-safe c =

@@ -3,7 +3,7 @@ use Rattle.machine_core.specs.Text.{cut_from}
 use Rattle.lua_stack.specs.Frames.{cut_at}
 use Rattle.move_laws.proofs.Running.{has_stack}
 use Rattle.machine_moves.proofs.Stacks.{within}
-use Rattle.machine_moves.proofs.InPlace.{registers_found, own_in_place, stands_in_place, listed_in_place}
+use Rattle.machine_moves.proofs.InPlace.{registers_found, own_in_place, stays_in_place}
 use Rattle.machine_moves.proofs.leaving.cut_from.Goals as goal
 
 pub running-co-requires : goal.running-co-requires
@@ -21,8 +21,5 @@ returns-clause-makes c = λ env.
     own_in_place c.running-co.ensures c.get_mut.ensures.value c.in-Running.is c.cut_from.new.self p (λ f t. cut_at c.args.register c.args.stack_size t) (cut_from c.args.register) env
     c.requires.frame.is refl c.cut_from.ensures (λ co frame cells. refl) (ap (λ n. cut_at c.args.register n p.top) (sym c.requires.frame.size))
 
-pub returns-clause-at : goal.returns-clause-at
-returns-clause-at c = stands_in_place c.running-co.ensures c.get_mut.ensures.value c.in-Running.is c.cut_from.new.self (λ f t. cut_at c.args.register c.args.stack_size t) c.cut_from.ensures (λ u. refl) (λ u. refl)
-
-pub returns-clause-listed : goal.returns-clause-listed
-returns-clause-listed c = listed_in_place c.running-co.ensures c.get_mut.ensures.value c.in-Running.is c.cut_from.new.self c.cut_from.ensures.cells
+pub returns-clause-stays : goal.returns-clause-stays
+returns-clause-stays c = stays_in_place c.running-co.ensures c.get_mut.ensures.value c.in-Running.is c.cut_from.new.self (λ f t. cut_at c.args.register c.args.stack_size t) c.cut_from.ensures (λ u. refl) (λ u. refl)

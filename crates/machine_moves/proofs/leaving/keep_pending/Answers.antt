@@ -3,7 +3,7 @@ use Rattle.machine_core.specs.Text.{keep_pending, is_pending, blanked}
 use Rattle.lua_stack.specs.Frames.{with_opened, with_registers}
 use Rattle.move_laws.proofs.Running.{has_stack}
 use Rattle.machine_moves.proofs.Stacks.{within}
-use Rattle.machine_moves.proofs.InPlace.{registers_found, own_in_place, stands_in_place, listed_in_place}
+use Rattle.machine_moves.proofs.InPlace.{registers_found, own_in_place, stays_in_place}
 use Rattle.machine_moves.proofs.leaving.keep_pending.Goals as goal
 
 pub running-co-requires : goal.running-co-requires
@@ -21,9 +21,6 @@ returns-clause-makes c = λ env.
     own_in_place c.running-co.ensures c.get_mut.ensures.value c.in-Running.is c.keep_pending.new.self p (λ f t. with_opened 0 (with_registers (blanked (is_pending t.own.pending) 0 c.args.stack_size t.own.registers) t)) keep_pending env
     c.requires.is refl c.keep_pending.ensures (λ co frame cells. refl) (ap (λ n. with_opened 0 (with_registers (blanked (is_pending p.top.own.pending) 0 n p.top.own.registers) p.top)) (sym c.requires.size))
 
-pub returns-clause-at : goal.returns-clause-at
-returns-clause-at c =
-    stands_in_place c.running-co.ensures c.get_mut.ensures.value c.in-Running.is c.keep_pending.new.self (λ f t. with_opened 0 (with_registers (blanked (is_pending t.own.pending) 0 c.args.stack_size t.own.registers) t)) c.keep_pending.ensures (λ u. refl) (λ u. refl)
-
-pub returns-clause-listed : goal.returns-clause-listed
-returns-clause-listed c = listed_in_place c.running-co.ensures c.get_mut.ensures.value c.in-Running.is c.keep_pending.new.self c.keep_pending.ensures.cells
+pub returns-clause-stays : goal.returns-clause-stays
+returns-clause-stays c =
+    stays_in_place c.running-co.ensures c.get_mut.ensures.value c.in-Running.is c.keep_pending.new.self (λ f t. with_opened 0 (with_registers (blanked (is_pending t.own.pending) 0 c.args.stack_size t.own.registers) t)) c.keep_pending.ensures (λ u. refl) (λ u. refl)

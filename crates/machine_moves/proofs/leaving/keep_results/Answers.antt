@@ -4,7 +4,7 @@ use Rattle.machine_core.specs.Text.{keep_results, is_pending, blanked, behind}
 use Rattle.lua_stack.specs.Frames.{with_opened, with_registers}
 use Rattle.move_laws.proofs.Running.{has_stack}
 use Rattle.machine_moves.proofs.Stacks.{within}
-use Rattle.machine_moves.proofs.InPlace.{registers_found, own_in_place, stands_in_place, listed_in_place}
+use Rattle.machine_moves.proofs.InPlace.{registers_found, own_in_place, stays_in_place}
 use Rattle.machine_moves.proofs.leaving.keep_results.Goals as goal
 
 pub running-co-requires : goal.running-co-requires
@@ -22,9 +22,6 @@ returns-clause-makes c = λ env.
     own_in_place c.running-co.ensures c.get_mut.ensures.value c.in-Running.is c.keep_results.new.self p (λ f t. with_opened 0 (with_registers (blanked (λ i. is_pending t.own.pending i || (nat_le c.args.from i && nat_lt i (c.args.from + c.args.count))) 0 (max c.args.stack_size (behind c.args.from c.args.count)) t.own.registers) t)) (keep_results c.args.from c.args.count) env
     c.requires.is refl c.keep_results.ensures (λ co frame cells. refl) (ap (λ n. with_opened 0 (with_registers (blanked (λ i. is_pending p.top.own.pending i || (nat_le c.args.from i && nat_lt i (c.args.from + c.args.count))) 0 (max n (behind c.args.from c.args.count)) p.top.own.registers) p.top)) (sym c.requires.size))
 
-pub returns-clause-at : goal.returns-clause-at
-returns-clause-at c =
-    stands_in_place c.running-co.ensures c.get_mut.ensures.value c.in-Running.is c.keep_results.new.self (λ f t. with_opened 0 (with_registers (blanked (λ i. is_pending t.own.pending i || (nat_le c.args.from i && nat_lt i (c.args.from + c.args.count))) 0 (max c.args.stack_size (behind c.args.from c.args.count)) t.own.registers) t)) c.keep_results.ensures (λ u. refl) (λ u. refl)
-
-pub returns-clause-listed : goal.returns-clause-listed
-returns-clause-listed c = listed_in_place c.running-co.ensures c.get_mut.ensures.value c.in-Running.is c.keep_results.new.self c.keep_results.ensures.cells
+pub returns-clause-stays : goal.returns-clause-stays
+returns-clause-stays c =
+    stays_in_place c.running-co.ensures c.get_mut.ensures.value c.in-Running.is c.keep_results.new.self (λ f t. with_opened 0 (with_registers (blanked (λ i. is_pending t.own.pending i || (nat_le c.args.from i && nat_lt i (c.args.from + c.args.count))) 0 (max c.args.stack_size (behind c.args.from c.args.count)) t.own.registers) t)) c.keep_results.ensures (λ u. refl) (λ u. refl)

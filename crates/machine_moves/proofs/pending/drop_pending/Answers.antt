@@ -4,7 +4,7 @@ use Rattle.machine_core.specs.Text.{drop_pending}
 use Rattle.lua_stack.specs.Frames.{with_pending}
 use Rattle.move_laws.proofs.Running.{has_stack}
 use Rattle.machine_moves.proofs.Stacks.{within}
-use Rattle.machine_moves.proofs.InPlace.{top_found, own_in_place, stands_in_place, listed_in_place}
+use Rattle.machine_moves.proofs.InPlace.{top_found, own_in_place, stays_in_place}
 use Rattle.machine_moves.proofs.pending.drop_pending.Goals as goal
 
 pub running-co-requires : goal.running-co-requires
@@ -22,9 +22,6 @@ returns-clause-makes c =
     λ env. own_in_place c.running-co.ensures c.get_mut.ensures.value c.in-Running.is c.drop_pending.new.self p (λ f t. with_pending (filter (λ q. nat_lt q c.args.register) t.own.pending) t) (drop_pending c.args.register) env
     c.requires.is c.requires.fits c.drop_pending.ensures (λ co frame cells. refl) refl
 
-pub returns-clause-at : goal.returns-clause-at
-returns-clause-at c =
-    stands_in_place c.running-co.ensures c.get_mut.ensures.value c.in-Running.is c.drop_pending.new.self (λ f t. with_pending (filter (λ q. nat_lt q c.args.register) t.own.pending) t) c.drop_pending.ensures (λ u. refl) (λ u. refl)
-
-pub returns-clause-listed : goal.returns-clause-listed
-returns-clause-listed c = listed_in_place c.running-co.ensures c.get_mut.ensures.value c.in-Running.is c.drop_pending.new.self c.drop_pending.ensures.cells
+pub returns-clause-stays : goal.returns-clause-stays
+returns-clause-stays c =
+    stays_in_place c.running-co.ensures c.get_mut.ensures.value c.in-Running.is c.drop_pending.new.self (λ f t. with_pending (filter (λ q. nat_lt q c.args.register) t.own.pending) t) c.drop_pending.ensures (λ u. refl) (λ u. refl)

@@ -4,7 +4,7 @@ use Rattle.machine_core.specs.Text.{nils, write_nils}
 use Rattle.lua_stack.specs.Frames.{with_registers}
 use Rattle.move_laws.proofs.Running.{has_stack}
 use Rattle.machine_moves.proofs.Stacks.{within, at_most}
-use Rattle.machine_moves.proofs.InPlace.{registers_found, own_in_place, stands_in_place, listed_in_place}
+use Rattle.machine_moves.proofs.InPlace.{registers_found, own_in_place, stays_in_place}
 use Rattle.machine_moves.proofs.registers.clear_registers.Goals as goal
 
 pub running-co-requires : goal.running-co-requires
@@ -22,9 +22,6 @@ returns-clause-makes c =
     λ env. own_in_place c.running-co.ensures c.get_mut.ensures.value c.in-Running.is c.write_nils.new.self p (λ f t. with_registers (Rattle.int_core.specs.Value.write_all c.args.from (nils c.args.count) t.own.registers) t) (write_nils c.args.from c.args.count) env
     c.requires.is c.requires.fits c.write_nils.ensures (λ co frame cells. refl) refl
 
-pub returns-clause-at : goal.returns-clause-at
-returns-clause-at c =
-    stands_in_place c.running-co.ensures c.get_mut.ensures.value c.in-Running.is c.write_nils.new.self (λ f t. with_registers (Rattle.int_core.specs.Value.write_all c.args.from (nils c.args.count) t.own.registers) t) c.write_nils.ensures (λ u. refl) (λ u. refl)
-
-pub returns-clause-listed : goal.returns-clause-listed
-returns-clause-listed c = listed_in_place c.running-co.ensures c.get_mut.ensures.value c.in-Running.is c.write_nils.new.self c.write_nils.ensures.cells
+pub returns-clause-stays : goal.returns-clause-stays
+returns-clause-stays c =
+    stays_in_place c.running-co.ensures c.get_mut.ensures.value c.in-Running.is c.write_nils.new.self (λ f t. with_registers (Rattle.int_core.specs.Value.write_all c.args.from (nils c.args.count) t.own.registers) t) c.write_nils.ensures (λ u. refl) (λ u. refl)

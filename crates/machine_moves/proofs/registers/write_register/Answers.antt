@@ -4,7 +4,7 @@ use Rattle.machine_core.specs.Text.{write_register as writes}
 use Rattle.lua_stack.specs.Frames.{with_registers}
 use Rattle.move_laws.proofs.Running.{has_stack}
 use Rattle.machine_moves.proofs.Stacks.{within, less}
-use Rattle.machine_moves.proofs.InPlace.{registers_found, own_in_place, stands_in_place, listed_in_place}
+use Rattle.machine_moves.proofs.InPlace.{registers_found, own_in_place, stays_in_place}
 use Rattle.machine_moves.proofs.registers.write_register.Goals as goal
 
 pub running-co-requires : goal.running-co-requires
@@ -23,8 +23,5 @@ returns-clause-makes c =
     c.requires.is c.requires.fits c.set.ensures (λ co frame cells. refl)
     (ap (λ (u : Meant). with_registers (write c.args.register u p.top.own.registers) p.top) e)
 
-pub returns-clause-at : goal.returns-clause-at
-returns-clause-at c = stands_in_place c.running-co.ensures c.get_mut.ensures.value c.in-Running.is c.set.new.self (λ f t. with_registers (write c.args.register (f c.args.v) t.own.registers) t) c.set.ensures (λ u. refl) (λ u. refl)
-
-pub returns-clause-listed : goal.returns-clause-listed
-returns-clause-listed c = listed_in_place c.running-co.ensures c.get_mut.ensures.value c.in-Running.is c.set.new.self c.set.ensures.cells
+pub returns-clause-stays : goal.returns-clause-stays
+returns-clause-stays c = stays_in_place c.running-co.ensures c.get_mut.ensures.value c.in-Running.is c.set.new.self (λ f t. with_registers (write c.args.register (f c.args.v) t.own.registers) t) c.set.ensures (λ u. refl) (λ u. refl)

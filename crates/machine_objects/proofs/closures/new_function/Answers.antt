@@ -46,14 +46,14 @@ go_to-requires c =
     let at = c.requires.at in
     let s = safe_made c.args.world.now c.args.inner c.args.to at.place c.requires.sound at.is (c.requires.safe at.place at.is) c.inner_code-code.result c.inner_code-code.ensures c.open_captured.new.world c.in_ok-open_captured.ensures.opens c.make_function.new.world c.in_ok-made.made.0 c.in_ok-made.ensures.makes in
     let v = safe_after (λ _ _. expand next) s (c.write_register.ensures.makes (object a_function c.in_ok-made.made.0 ∷ []) (read 0) refl) in
-    let stands = c.write_register.ensures.at c.args.pc (c.make_function.ensures.at c.args.pc (record { place = at.place; is = c.in_ok-open_captured.ensures.opens.stays at.place at.is; at = at.at })) in
+    let stands = c.write_register.ensures.stays.at c.args.pc (c.make_function.ensures.at c.args.pc (record { place = at.place; is = c.in_ok-open_captured.ensures.opens.stays at.place at.is; at = at.at })) in
     may_go 1 stands refl v
 
 pub returns-clause-leads : goal.returns-clause-leads
 returns-clause-leads c = λ p is.
     let at = c.requires.at in
     let o = c.in_ok-open_captured.ensures.opens in
-    let stands = c.write_register.ensures.at c.args.pc (c.make_function.ensures.at c.args.pc (record { place = at.place; is = o.stays at.place at.is; at = at.at })) in
+    let stands = c.write_register.ensures.stays.at c.args.pc (c.make_function.ensures.at c.args.pc (record { place = at.place; is = o.stays at.place at.is; at = at.at })) in
     leads_opened c.args.world.now c.open_captured.new.world c.go_to.new.world c.args.inner c.args.to c.inner_code-code.result go p is c.inner_code-code.ensures o
     (first (λ n _. expand (keeps_it c.args.to n)) (c.in_ok-made.ensures.makes [])
     (first (λ _ _. expand next) (c.write_register.ensures.makes (object a_function c.in_ok-made.made.0 ∷ []) (read 0) refl)
@@ -62,4 +62,4 @@ returns-clause-leads c = λ p is.
 pub returns-clause-order : goal.returns-clause-order
 returns-clause-order c =
     let opened = order_with_cells c.requires.sound.order c.open_captured.ensures.rest c.open_captured.ensures.listed in
-    order_kept (order_kept (order_with_functions opened c.make_function.ensures.rest) c.write_register.ensures.rest c.write_register.ensures.listed) c.go_to.ensures.rest c.go_to.ensures.listed
+    order_kept (order_kept (order_with_functions opened c.make_function.ensures.rest) c.write_register.ensures.stays.rest c.write_register.ensures.stays.listed) c.go_to.ensures.rest c.go_to.ensures.listed

@@ -43,7 +43,7 @@ go_to-requires c =
     let env = object a_table c.args.id.0 ∷ map (meant W.strings) vs in
     let m = c.in_ok-fill.ensures.makes env (read 0) 1 refl (ap (map (meant W.strings)) (sym same)) in
     let s = safe_filled W c.args.id.0 c.args.from c.args.count c.args.last c.args.ahead vs c.listed_values.ensures c.requires.safe c.fill.new.world m in
-    may_go c.args.ahead (c.end_list.ensures.at c.args.pc (still_at W c.fill.new.world c.args.pc c.fill.ensures.rest c.requires.at)) refl (safe_after (λ _ _. expand (go_by (pos c.args.ahead))) s (c.end_list.ensures.makes (env ++ [])))
+    may_go c.args.ahead (c.end_list.ensures.stays.at c.args.pc (still_at W c.fill.new.world c.args.pc c.fill.ensures.rest c.requires.at)) refl (safe_after (λ _ _. expand (go_by (pos c.args.ahead))) s (c.end_list.ensures.makes (env ++ [])))
 
 pub returns-clause-leads : goal.returns-clause-leads
 returns-clause-leads c =
@@ -55,10 +55,10 @@ returns-clause-leads c =
     leads_listed W c.go_to.new.world c.args.id.0 c.args.from c.args.count c.args.last c.args.ahead vs go c.listed_values.ensures
     (first (λ n _. expand (then end_list (go_by (pos c.args.ahead)))) m
     (first (λ _ _. expand (go_by (pos c.args.ahead))) (c.end_list.ensures.makes (env ++ []))
-    (goes_on c.args.ahead (c.end_list.ensures.at c.args.pc (still_at W c.fill.new.world c.args.pc c.fill.ensures.rest c.requires.at)) refl c.go_to.ensures.makes _)))
+    (goes_on c.args.ahead (c.end_list.ensures.stays.at c.args.pc (still_at W c.fill.new.world c.args.pc c.fill.ensures.rest c.requires.at)) refl c.go_to.ensures.makes _)))
 
 pub returns-clause-order : goal.returns-clause-order
-returns-clause-order c = order_kept (order_kept (order_with_tables c.requires.sound.order c.fill.ensures.rest) c.end_list.ensures.rest c.end_list.ensures.listed) c.go_to.ensures.rest c.go_to.ensures.listed
+returns-clause-order c = order_kept (order_kept (order_with_tables c.requires.sound.order c.fill.ensures.rest) c.end_list.ensures.stays.rest c.end_list.ensures.stays.listed) c.go_to.ensures.rest c.go_to.ensures.listed
 
 pub returns-in_err-fill-clause-order : goal.returns-in_err-fill-clause-order
 returns-in_err-fill-clause-order c = order_with_tables c.requires.sound.order c.fill.ensures.rest

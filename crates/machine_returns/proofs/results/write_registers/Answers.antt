@@ -7,7 +7,7 @@ use Rattle.lua_stack.specs.Frames.{with_registers}
 use Rattle.machine_core.specs.Text.{behind, write_registers}
 use Rattle.move_laws.proofs.Running.{has_stack, shown, own_read}
 use Rattle.machine_moves.proofs.Stacks.{within, at_most}
-use Rattle.machine_moves.proofs.InPlace.{found, own_in_place, stands_in_place, listed_in_place}
+use Rattle.machine_moves.proofs.InPlace.{found, own_in_place, stays_in_place}
 use Rattle.machine_returns.proofs.Padded.{range_from}
 use Rattle.machine_returns.proofs.results.write_registers.Goals as goal
 
@@ -26,6 +26,9 @@ returns-then-count-eq0-clause-makes c = λ env slot e.
     record {
       is = λ fuel. own_read (plain W fuel) p (write_registers c.args.at c.args.count slot) env c.requires.is c.requires.fits refl (ap (λ vs. record p.top.own { registers = write_all c.args.at vs p.top.own.registers }) (none_fit c.args.count slot env c.if-count-eq0.true));
     }
+
+pub returns-then-count-eq0-clause-stays : goal.returns-then-count-eq0-clause-stays
+returns-then-count-eq0-clause-stays c = record { at = λ pc s. s; listed = λ l. l; rest = refl }
 
 pub running-co-requires : goal.running-co-requires
 running-co-requires c = has_stack c.args.world.now c.requires.place c.requires.is
@@ -54,9 +57,6 @@ returns-clause-makes c = λ env slot e.
     c.requires.is c.requires.fits c.write_padded.ensures (λ co frame cells. refl)
     (ap (λ vs. with_registers (write_all c.args.at vs p.top.own.registers) p.top) (range_from slot c.args.count env ∙ ap (range 0 c.args.count) e))
 
-pub returns-clause-at : goal.returns-clause-at
-returns-clause-at c =
-    stands_in_place c.running-co.ensures c.get_mut.ensures.value c.in-Running.is c.write_padded.new.stack (λ f t. with_registers (write_all c.args.at (range 0 c.args.count (map f c.args.values.now)) t.own.registers) t) c.write_padded.ensures (λ u. refl) (λ u. refl)
-
-pub returns-clause-listed : goal.returns-clause-listed
-returns-clause-listed c = listed_in_place c.running-co.ensures c.get_mut.ensures.value c.in-Running.is c.write_padded.new.stack c.write_padded.ensures.cells
+pub returns-clause-stays : goal.returns-clause-stays
+returns-clause-stays c =
+    stays_in_place c.running-co.ensures c.get_mut.ensures.value c.in-Running.is c.write_padded.new.stack (λ f t. with_registers (write_all c.args.at (range 0 c.args.count (map f c.args.values.now)) t.own.registers) t) c.write_padded.ensures (λ u. refl) (λ u. refl)

@@ -20,3 +20,12 @@ returns-then-count-eq0-clause-makes c =
 pub returns-clause-makes : goal.returns-clause-makes
 returns-clause-makes c = λ env slot e.
     subst (λ m. Makes c.args.world.now c.write_registers.new.world (on_own m) env [] (is_known nil)) (sym (some_written c.args.to slot c.args.count c.if-count-eq0.false)) (c.write_registers.ensures.makes env slot e)
+
+pub returns-clause-at : goal.returns-clause-at
+returns-clause-at c = c.write_registers.ensures.stays.at
+
+pub returns-clause-listed : goal.returns-clause-listed
+returns-clause-listed c = c.write_registers.ensures.stays.listed
+
+pub returns-clause-rest : goal.returns-clause-rest
+returns-clause-rest c = c.write_registers.ensures.stays.rest

@@ -2,7 +2,7 @@ use Rattle.std.proofs.Common.{refl}
 use Rattle.lua_stack.specs.Frames.{wait_of, with_wait}
 use Rattle.move_laws.proofs.Running.{has_stack}
 use Rattle.machine_moves.proofs.Stacks.{within, with_stack}
-use Rattle.machine_moves.proofs.InPlace.{found, top_found, stands_in_place, listed_in_place}
+use Rattle.machine_moves.proofs.InPlace.{found, top_found, stays_in_place}
 use Rattle.machine_returns.proofs.Woken.{wait_set}
 use Rattle.machine_returns.proofs.waking.set_wait.Goals as goal
 
@@ -20,8 +20,5 @@ returns-clause-waits c =
     let r = found c.running-co.ensures c.get_mut.ensures.value c.in-Running.is in
     wait_set c.args.world.now (with_stack c.args.world.now c.running-co.result c.set_wait.new.self) c.running-co.result c.in-Running.stack c.set_wait.new.self c.args.wait r (record { rest = refl; objects = refl }) c.set_wait.ensures
 
-pub returns-clause-at : goal.returns-clause-at
-returns-clause-at c = stands_in_place c.running-co.ensures c.get_mut.ensures.value c.in-Running.is c.set_wait.new.self (λ f t. with_wait (wait_of f c.args.wait) t) c.set_wait.ensures (λ u. refl) (λ u. refl)
-
-pub returns-clause-listed : goal.returns-clause-listed
-returns-clause-listed c = listed_in_place c.running-co.ensures c.get_mut.ensures.value c.in-Running.is c.set_wait.new.self c.set_wait.ensures.cells
+pub returns-clause-stays : goal.returns-clause-stays
+returns-clause-stays c = stays_in_place c.running-co.ensures c.get_mut.ensures.value c.in-Running.is c.set_wait.new.self (λ f t. with_wait (wait_of f c.args.wait) t) c.set_wait.ensures (λ u. refl) (λ u. refl)

@@ -19,8 +19,8 @@ returns-clause-wakes c =
       waited = c.wait_on_top-wait.ensures.is p c.requires.is;
       came = c.take_moving-values.ensures.values;
       woken_is = wakes_so c.args.world.now taken c.set_wait.new.world c.wait_on_top-wait.result c.take_moving-values.result.items p c.requires.is (taken_world (c.take_moving-values.ensures.makes [])) c.set_wait.ensures.waits;
-      rest = c.set_wait.ensures.rest ∙ ap (λ (W : Memory). record W { coros = c.set_wait.new.world.coros }) c.take_moving-values.ensures.rest
-          ∙ ap (λ moving. record c.args.world.now { coros = c.set_wait.new.world.coros; moving = moving }) (sym (ap (λ (W : Memory). W.moving) c.set_wait.ensures.rest));
+      rest = c.set_wait.ensures.stays.rest ∙ ap (λ (W : Memory). record W { coros = c.set_wait.new.world.coros }) c.take_moving-values.ensures.rest
+          ∙ ap (λ moving. record c.args.world.now { coros = c.set_wait.new.world.coros; moving = moving }) (sym (ap (λ (W : Memory). W.moving) c.set_wait.ensures.stays.rest));
     }
 
 pub returns-clause-solid : goal.returns-clause-solid
@@ -28,16 +28,16 @@ returns-clause-solid c = λ s.
     let p = c.requires.place in
     let taken = c.take_moving-values.new.world in
     let is = wakes_so c.args.world.now taken c.set_wait.new.world c.wait_on_top-wait.result c.take_moving-values.result.items p c.requires.is (taken_world (c.take_moving-values.ensures.makes [])) c.set_wait.ensures.waits 0 in
-    let strings = ap (λ (W : Memory). W.strings) c.set_wait.ensures.rest ∙ ap (λ (W : Memory). W.strings) c.take_moving-values.ensures.rest in
-    let codes = ap (λ (W : Memory). W.codes) c.set_wait.ensures.rest ∙ ap (λ (W : Memory). W.codes) c.take_moving-values.ensures.rest in
+    let strings = ap (λ (W : Memory). W.strings) c.set_wait.ensures.stays.rest ∙ ap (λ (W : Memory). W.strings) c.take_moving-values.ensures.rest in
+    let codes = ap (λ (W : Memory). W.codes) c.set_wait.ensures.stays.rest ∙ ap (λ (W : Memory). W.codes) c.take_moving-values.ensures.rest in
     record {
       primitives = s.primitives;
       solid = subst (Solid s.primitives) (sym is) (woken_solid s.primitives (plain c.args.world.now 0) p s.sound c.requires.is);
-      order = order_after s.order strings codes (c.set_wait.ensures.listed (taken_listed c.args.world.now c.take_moving-values.new.world c.take_moving-values.ensures.rest s.order.listed));
+      order = order_after s.order strings codes (c.set_wait.ensures.stays.listed (taken_listed c.args.world.now c.take_moving-values.new.world c.take_moving-values.ensures.rest s.order.listed));
     }
 
 pub returns-clause-at : goal.returns-clause-at
-returns-clause-at c = λ pc s. c.set_wait.ensures.at pc (still_stands (c.take_moving-values.ensures.makes []) s)
+returns-clause-at c = λ pc s. c.set_wait.ensures.stays.at pc (still_stands (c.take_moving-values.ensures.makes []) s)
 
 pub returns-clause-listed : goal.returns-clause-listed
-returns-clause-listed c = λ l. c.set_wait.ensures.listed (taken_listed c.args.world.now c.take_moving-values.new.world c.take_moving-values.ensures.rest l)
+returns-clause-listed c = λ l. c.set_wait.ensures.stays.listed (taken_listed c.args.world.now c.take_moving-values.new.world c.take_moving-values.ensures.rest l)

@@ -14,12 +14,12 @@ write_register-requires c = any_value {x = read 0} (can_do (write_register c.arg
 pub go_to-requires : goal.go_to-requires
 go_to-requires c =
     let env = meant c.args.world.now.strings c.args.v ∷ [] in
-    may_go 1 (c.write_register.ensures.at c.args.pc c.requires.at) c.behind.ensures (safe_after (λ _ _. expand next) c.requires.safe (c.write_register.ensures.makes env (read 0) refl))
+    may_go 1 (c.write_register.ensures.stays.at c.args.pc c.requires.at) c.behind.ensures (safe_after (λ _ _. expand next) c.requires.safe (c.write_register.ensures.makes env (read 0) refl))
 
 pub returns-clause-leads : goal.returns-clause-leads
 returns-clause-leads c =
     let env = meant c.args.world.now.strings c.args.v ∷ [] in
-    first (λ _ _. expand next) (c.write_register.ensures.makes env (read 0) refl) (goes_on 1 (c.write_register.ensures.at c.args.pc c.requires.at) c.behind.ensures c.go_to.ensures.makes _)
+    first (λ _ _. expand next) (c.write_register.ensures.makes env (read 0) refl) (goes_on 1 (c.write_register.ensures.stays.at c.args.pc c.requires.at) c.behind.ensures c.go_to.ensures.makes _)
 
 pub returns-clause-order : goal.returns-clause-order
-returns-clause-order c = order_kept (order_kept c.requires.order c.write_register.ensures.rest c.write_register.ensures.listed) c.go_to.ensures.rest c.go_to.ensures.listed
+returns-clause-order c = order_kept (order_kept c.requires.order c.write_register.ensures.stays.rest c.write_register.ensures.stays.listed) c.go_to.ensures.rest c.go_to.ensures.listed

@@ -30,7 +30,7 @@ go_to-requires c =
     let more : Arg → Text = λ v. then (write_register c.args.to v) (cond c.args.skips skip next) in
     let s = safe_as {q = expand (more (r.named 0))} {more = r.values} (c.requires.safe c.requires.at.place.function.code) (r.goes more []) in
     let t = safe_after (λ _ _. expand (cond c.args.skips skip next)) s (c.write_register.ensures.makes r.values (r.named 0) (r.is [])) in
-    may_go (cond c.args.skips 2 1) (c.write_register.ensures.at c.args.pc c.requires.at) c.behind.ensures (subst (λ t. IsSafe (expand t) (r.values ++ []) c.write_register.new.world) (ahead c.args.skips) t)
+    may_go (cond c.args.skips 2 1) (c.write_register.ensures.stays.at c.args.pc c.requires.at) c.behind.ensures (subst (λ t. IsSafe (expand t) (r.values ++ []) c.write_register.new.world) (ahead c.args.skips) t)
 
 pub returns-clause-leads : goal.returns-clause-leads
 returns-clause-leads c = λ p.
@@ -38,9 +38,9 @@ returns-clause-leads c = λ p.
     let more : Arg → Text = λ v. then (write_register c.args.to v) (cond c.args.skips skip next) in
     let l : Leads (expand (cond c.args.skips skip next)) (r.values ++ []) c.write_register.new.world c.go_to.new.world go =
     subst (λ t. Leads (expand t) (r.values ++ []) c.write_register.new.world c.go_to.new.world go) (sym (ahead c.args.skips))
-    (goes_on (cond c.args.skips 2 1) (c.write_register.ensures.at c.args.pc c.requires.at) c.behind.ensures c.go_to.ensures.makes (r.values ++ [])) in
+    (goes_on (cond c.args.skips 2 1) (c.write_register.ensures.stays.at c.args.pc c.requires.at) c.behind.ensures c.go_to.ensures.makes (r.values ++ [])) in
     let k = first (λ _ _. expand (cond c.args.skips skip next)) (c.write_register.ensures.makes r.values (r.named 0) (r.is [])) l in
     record { is = λ fuel. r.goes more [] fuel ∙ k.is fuel }
 
 pub returns-clause-order : goal.returns-clause-order
-returns-clause-order c = order_kept (order_kept c.requires.sound.order c.write_register.ensures.rest c.write_register.ensures.listed) c.go_to.ensures.rest c.go_to.ensures.listed
+returns-clause-order c = order_kept (order_kept c.requires.sound.order c.write_register.ensures.stays.rest c.write_register.ensures.stays.listed) c.go_to.ensures.rest c.go_to.ensures.listed

@@ -45,7 +45,7 @@ go_to-requires c =
     let v = meant c.args.world.now.strings c.read_constant-v.result in
     let s = subst (λ t. IsSafe (expand t) [] c.args.world.now) (extra_is x.place.function.code c.args.pc c.extra_argument-n.result (loads c.args.to) x.extra) (c.requires.safe x.place x.is) in
     let t = safe_after (λ v _. expand (then (write_register c.args.to (read v)) skip)) s (c.read_constant-v.ensures []) in
-    may_go 2 (c.write_register.ensures.at c.args.pc c.requires.at) c.behind.ensures (safe_after (λ _ _. expand skip) t (c.write_register.ensures.makes (v ∷ []) (read 0) refl))
+    may_go 2 (c.write_register.ensures.stays.at c.args.pc c.requires.at) c.behind.ensures (safe_after (λ _ _. expand skip) t (c.write_register.ensures.makes (v ∷ []) (read 0) refl))
 
 pub returns-clause-leads : goal.returns-clause-leads
 returns-clause-leads c = λ p is.
@@ -55,7 +55,7 @@ returns-clause-leads c = λ p is.
     subst (λ t. Leads (expand t) [] c.args.world.now c.go_to.new.world go) (sym (extra_is p.function.code c.args.pc c.extra_argument-n.result (loads c.args.to) e))
     (first (λ v _. expand (then (write_register c.args.to (read v)) skip)) (c.read_constant-v.ensures [])
     (first (λ _ _. expand skip) (c.write_register.ensures.makes (v ∷ []) (read 0) refl)
-    (goes_on 2 (c.write_register.ensures.at c.args.pc c.requires.at) c.behind.ensures c.go_to.ensures.makes _)))
+    (goes_on 2 (c.write_register.ensures.stays.at c.args.pc c.requires.at) c.behind.ensures c.go_to.ensures.makes _)))
 
 pub returns-clause-order : goal.returns-clause-order
-returns-clause-order c = order_kept (order_kept c.requires.sound.order c.write_register.ensures.rest c.write_register.ensures.listed) c.go_to.ensures.rest c.go_to.ensures.listed
+returns-clause-order c = order_kept (order_kept c.requires.sound.order c.write_register.ensures.stays.rest c.write_register.ensures.stays.listed) c.go_to.ensures.rest c.go_to.ensures.listed

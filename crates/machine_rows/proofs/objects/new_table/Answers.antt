@@ -30,7 +30,7 @@ go_to-requires c =
     let t = subst (λ t. IsSafe (expand t) [] c.args.world.now) (extra_there p.function.code c.args.pc k s).1 s in
     let u = safe_after (λ n _. expand (then (write_register c.args.to (read n)) skip)) t (c.in_ok-table.ensures.makes []) in
     let v = safe_after (λ _ _. expand skip) u (c.write_register.ensures.makes (object a_table c.in_ok-table.table.0 ∷ []) (read 0) refl) in
-    may_go 2 (c.write_register.ensures.at c.args.pc (c.make_table.ensures.at c.args.pc c.requires.at)) c.behind.ensures v
+    may_go 2 (c.write_register.ensures.stays.at c.args.pc (c.make_table.ensures.at c.args.pc c.requires.at)) c.behind.ensures v
 
 pub returns-clause-leads : goal.returns-clause-leads
 returns-clause-leads c = λ p is.
@@ -39,7 +39,7 @@ returns-clause-leads c = λ p is.
     subst (λ t. Leads (expand t) [] c.args.world.now c.go_to.new.world go) (sym e)
     (first (λ n _. expand (then (write_register c.args.to (read n)) skip)) (c.in_ok-table.ensures.makes [])
     (first (λ _ _. expand skip) (c.write_register.ensures.makes (object a_table c.in_ok-table.table.0 ∷ []) (read 0) refl)
-    (goes_on 2 (c.write_register.ensures.at c.args.pc (c.make_table.ensures.at c.args.pc c.requires.at)) c.behind.ensures c.go_to.ensures.makes _)))
+    (goes_on 2 (c.write_register.ensures.stays.at c.args.pc (c.make_table.ensures.at c.args.pc c.requires.at)) c.behind.ensures c.go_to.ensures.makes _)))
 
 pub returns-clause-order : goal.returns-clause-order
-returns-clause-order c = order_kept (order_kept (order_with_tables c.requires.order c.make_table.ensures.rest) c.write_register.ensures.rest c.write_register.ensures.listed) c.go_to.ensures.rest c.go_to.ensures.listed
+returns-clause-order c = order_kept (order_kept (order_with_tables c.requires.order c.make_table.ensures.rest) c.write_register.ensures.stays.rest c.write_register.ensures.stays.listed) c.go_to.ensures.rest c.go_to.ensures.listed

@@ -26,7 +26,7 @@ go_to-requires c =
     let x : Arg = written (boolean (not (holds (shape v)))) in
     let s = safe_after (λ _ s. expand (to_register c.args.to (written (boolean (not (holds s)))))) (c.requires.safe c.requires.at.place.function.code) (c.read_register-v.ensures []) in
     let same = ap (λ b. known (boolean (not b))) (sym (c.is_truthy.ensures W.strings)) in
-    may_go 1 (c.write_register.ensures.at c.args.pc c.requires.at) c.behind.ensures (safe_after (λ _ _. expand next) s (c.write_register.ensures.makes (v ∷ []) x same))
+    may_go 1 (c.write_register.ensures.stays.at c.args.pc c.requires.at) c.behind.ensures (safe_after (λ _ _. expand next) s (c.write_register.ensures.makes (v ∷ []) x same))
 
 pub returns-clause-leads : goal.returns-clause-leads
 returns-clause-leads c = λ p.
@@ -35,7 +35,7 @@ returns-clause-leads c = λ p.
     let x : Arg = written (boolean (not (holds (shape v)))) in
     let same = ap (λ b. known (boolean (not b))) (sym (c.is_truthy.ensures W.strings)) in
     first (λ _ s. expand (to_register c.args.to (written (boolean (not (holds s)))))) (c.read_register-v.ensures [])
-    (first (λ _ _. expand next) (c.write_register.ensures.makes (v ∷ []) x same) (goes_on 1 (c.write_register.ensures.at c.args.pc c.requires.at) c.behind.ensures c.go_to.ensures.makes _))
+    (first (λ _ _. expand next) (c.write_register.ensures.makes (v ∷ []) x same) (goes_on 1 (c.write_register.ensures.stays.at c.args.pc c.requires.at) c.behind.ensures c.go_to.ensures.makes _))
 
 pub returns-clause-order : goal.returns-clause-order
-returns-clause-order c = order_kept (order_kept c.requires.order c.write_register.ensures.rest c.write_register.ensures.listed) c.go_to.ensures.rest c.go_to.ensures.listed
+returns-clause-order c = order_kept (order_kept c.requires.order c.write_register.ensures.stays.rest c.write_register.ensures.stays.listed) c.go_to.ensures.rest c.go_to.ensures.listed
