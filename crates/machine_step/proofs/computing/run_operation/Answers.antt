@@ -4,13 +4,8 @@ use Rattle.machine_step.proofs.computing.run_operation.Goals as goal
 
 pub operate-requires : goal.operate-requires
 operate-requires c =
-    record {
-      sound = c.requires.sound;
-      at = stands c.requires.runs;
-      room = room c.requires.runs;
-      copy = copies c.args.operation c.args.operands c.args.also c.args.after c.requires.runs c.requires.sound;
-      safe = safe_here c.requires.runs c.requires.sound;
-    }
+    let r = c.requires.runs in
+    record { sound = c.requires.sound; at = stands r; room = room r; copy = copies c.args.operation c.args.operands c.args.also c.args.after r c.requires.sound; safe = safe_here r c.requires.sound }
 
 pub returns-clause-does : goal.returns-clause-does
 returns-clause-does c =

@@ -7,23 +7,13 @@ use Rattle.machine_step.proofs.going_on.take_operation.Goals as goal
 
 pub take_value-requires : goal.take_value-requires
 take_value-requires c =
-    record {
-      order = c.requires.order;
-      code = has_code c.requires.awake;
-      at = stands c.requires.awake;
-      room = room c.requires.awake;
-      safe = may_take c.requires.awake ToRegisterBefore (comes_before c.args.word (sym c.is_handled.ensures ∙ c.if-is_handled.true)) refl;
-    }
+    let a = c.requires.awake in
+    record { order = c.requires.order; code = has_code a; at = stands a; room = room a; safe = may_take a ToRegisterBefore (comes_before c.args.word (sym c.is_handled.ensures ∙ c.if-is_handled.true)) refl }
 
 pub take_value-requires-2 : goal.take_value-requires-2
 take_value-requires-2 c =
-    record {
-      order = c.requires.order;
-      code = has_code c.requires.awake;
-      at = stands c.requires.awake;
-      room = room c.requires.awake;
-      safe = may_take c.requires.awake (ToRegister c.from.result) (λ op o p n. comes_here c.args.word (sym c.is_handled.ensures ∙ c.if-is_handled.false) op o p n ∙ ap (λ a. to_register a (read 0)) (sym (c.from.ensures ∙ c.a.ensures))) refl;
-    }
+    let a = c.requires.awake in
+    record { order = c.requires.order; code = has_code a; at = stands a; room = room a; safe = may_take a (ToRegister c.from.result) (λ op o p n. comes_here c.args.word (sym c.is_handled.ensures ∙ c.if-is_handled.false) op o p n ∙ ap (λ a. to_register a (read 0)) (sym (c.from.ensures ∙ c.a.ensures))) refl }
 
 pub returns-then-is_handled-clause-goes : goal.returns-then-is_handled-clause-goes
 returns-then-is_handled-clause-goes c = took c.requires.awake ToRegisterBefore (comes_before c.args.word (sym c.is_handled.ensures ∙ c.if-is_handled.true)) refl c.take_value.ensures.leads

@@ -6,15 +6,8 @@ use Rattle.machine_step.proofs.objects.run_fill_table.Goals as goal
 
 pub fill_table-requires : goal.fill_table-requires
 fill_table-requires c =
-    record {
-      sound = c.requires.sound;
-      at = stands c.requires.runs;
-      runs = frame_runs c.requires.runs;
-      room = room c.requires.runs;
-      near = let l = (small c.requires.runs).0 in omega (arith, l);
-      small = let l = (small c.requires.runs).2 in omega (arith, l);
-      safe = safe_here c.requires.runs c.requires.sound;
-    }
+    let r = c.requires.runs in
+    record { sound = c.requires.sound; at = stands r; runs = frame_runs r; room = room r; near = let l = (small r).0 in omega (arith, l); small = let l = (small r).2 in omega (arith, l); safe = safe_here r c.requires.sound }
 
 pub returns-clause-does : goal.returns-clause-does
 returns-clause-does c =
