@@ -155,10 +155,7 @@ next_ok = table_ok (codes "next") _ ((tt, (tt, tt)), λ s. by s)
     by (is_known (boolean true)) = (tt, (tt, tt))
     by (is_known (boolean false)) = (tt, tt)
     by (is_known nil) = tt
-    by (is_known (integer n)) = tt
-    by (is_known (string text)) = tt
-    by (is_known (primitive n)) = tt
-    by (is_object kind) = tt
+    by _ = tt
 
 pub selects_ok : LookOk Base.selects
 selects_ok = (

@@ -168,10 +168,7 @@ module _ (a : Inside) (below : List Record) (r : Record) (i : stands a) (e : a.b
       frame_none : (k : Kind) (w : Window) → IsFrame k w → NoneUnder k below
       frame_none Missing w f = absurd f
       frame_none Lua w f = tt
-      frame_none Pcall w f = tt
-      frame_none (Xpcall h) w f = tt
-      frame_none Handler w f = tt
-      frame_none (Closing x) w f = tt
+      frame_none _ w f = tt
 
   pub popped_frames : (s : KeptStack) (values : List Kept) (at n : ℕ) (top : Record) → shown a ≡ s → at ≡ r.window.base + r.window.kept → n ≡ r.window.size - r.window.kept → values ≡ put_all at (blank n) a.values.items → top ≡ whole_record r
       → map (frame_at values a.pending.items) (below ++ tops top) ≡ without_last s.frames
@@ -231,11 +228,7 @@ emptied_frames a s below v e z =
   where
     one : (k : Kind) → [] ≡ without_last (map (frame_at a.values.items a.pending.items) (tops_of k a.top))
     one Missing = refl
-    one Lua = refl
-    one Pcall = refl
-    one (Xpcall h) = refl
-    one Handler = refl
-    one (Closing x) = refl
+    one _ = refl
 
 -- frames by number
 
@@ -250,11 +243,7 @@ place_seen values pending (Some r) = by r.kind
   where
     by : (k : Kind) → kept_place (Some (frame_in values pending k r.running r.window)) ≡ place_by k r.running
     by Missing = refl
-    by Lua = refl
-    by Pcall = refl
-    by (Xpcall h) = refl
-    by Handler = refl
-    by (Closing x) = refl
+    by _ = refl
 
 pub place_found : (a : Inside) (s : KeptStack) (n : ℕ) (r : Option Record) → shown a ≡ s → r ≡ slice_get (a.below.items ++ tops a.top) n → place_in r ≡ kept_place (slice_get s.frames n)
 place_found a s n r v e =

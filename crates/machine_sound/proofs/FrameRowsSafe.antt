@@ -38,11 +38,7 @@ handing_safe env = (tt, λ e. from e)
   where
     from : (k : TopShape) → Safe (after_handing k) (env ++ []) (handed k)
     from lua_top = tt
-    from pcall_top = tt
-    from xpcall_top = tt
-    from handler_top = tt
-    from closing_top = tt
-    from (no_top b) = tt
+    from _ = tt
 
 -- calls
 

@@ -4,7 +4,7 @@ use Rattle.std.specs.Prelude.{slice_get, IsTrue}
 use Rattle.std.proofs.lemmas.List.{map-append}
 use Rattle.int_core.specs.Value.{Value, known, primitive, object, a_function, a_coroutine, shape, bind, last}
 use Rattle.int_core.specs.Operations.{is_function}
-use Rattle.machine_core.specs.World.{Cell, closed, open_at, Frame, lua, pcall, xpcall, handler, closing, Coroutine, fresh, in_progress, World, frames_of}
+use Rattle.machine_core.specs.World.{Cell, closed, open_at, Frame, lua, Coroutine, fresh, in_progress, World, frames_of}
 use Rattle.machine_core.specs.Text.{Arg, arg}
 use Rattle.machine_core.specs.Moves.{create, see_status, see_running, print, TopShape, top_shape, Made, made, move, add_coroutine, add_printed, bytes_in, status_of, coroutine_number}
 use Rattle.machine_core.specs.MachineStep.{can_call}
@@ -26,10 +26,7 @@ same_under n (Some t) W V e h k f = record { all = k; top = ap (λ fs. top_shape
     same : (o : Option Frame) → top_shape V o ≡ top_shape W o
     same None = ap (λ ch. Rattle.machine_core.specs.Moves.no_top (Rattle.std.specs.Prelude.nat_eq (length ch) 1)) (sym e)
     same (Some (lua f)) = refl
-    same (Some pcall) = refl
-    same (Some (xpcall v)) = refl
-    same (Some handler) = refl
-    same (Some (closing x left)) = refl
+    same _ = refl
 
 -- a coroutine of which a frame has registers is there
 pub coroutine_within : (cs : List Coroutine) (co g r : ℕ) → r < registers_of cs co g → co < length cs

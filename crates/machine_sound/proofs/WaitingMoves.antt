@@ -30,10 +30,7 @@ moving_under n (Some k) W vs fuel h = record { all = moving_waits n W vs fuel h.
     same : (o : Option Frame) → top_shape (with_moving W vs fuel) o ≡ top_shape W o
     same None = refl
     same (Some (lua f)) = refl
-    same (Some pcall) = refl
-    same (Some (xpcall v)) = refl
-    same (Some handler) = refl
-    same (Some (closing e left)) = refl
+    same _ = refl
 
 -- a move that changes what moves, and reads some values
 moves_on : (n : ℕ) (s : Option TopShape) (env vs ws : List Value) (W : World) → Is n (waiting s) env W → Each (Valid (sizes n W)) ws → Each (Valid (sizes n W)) vs → Is n (waiting s) (env ++ vs) (with_moving W ws W.fuel)

@@ -6,7 +6,7 @@ use Rattle.int_core.specs.Value.{Value, bind, last}
 use Rattle.int_core.specs.Ask.{values}
 use Rattle.list_laws.specs.Held.{Held}
 use Rattle.list_laws.proofs.Ends.{upward, last_is}
-use Rattle.machine_core.specs.World.{Function, Wait, running, for_call, for_iterator, for_value, for_truth, dropped, for_concat, for_close, returning, leaving, Activation, LuaFrame, Frame, lua, in_progress, World, Stack}
+use Rattle.machine_core.specs.World.{Function, Wait, running, for_call, leaving, Activation, LuaFrame, Frame, lua, in_progress, World, Stack}
 use Rattle.machine_core.specs.InstructionRows.{text_at, after, told_values}
 use Rattle.machine_core.specs.Moves.{go, Outcome, trapped, Row, run}
 use Rattle.machine_core.specs.FrameRows.{at_once, expand, goes_on_by}
@@ -133,11 +133,4 @@ wakes W s fr p i = by fr.wait i
     by : (w : Wait Value) → IsWaiting w → lua_step W s fr p w ≡ run (goes_on_by (after w p fr.own.pc (values W.moving))) (told_values w (values W.moving)) (woken W s fr)
     by running i = absurd i
     by for_call i = refl
-    by for_iterator i = refl
-    by for_value i = refl
-    by for_truth i = refl
-    by dropped i = refl
-    by (for_concat n) i = refl
-    by for_close i = refl
-    by (returning n) i = refl
-    by (leaving e) i = refl
+    by _ i = refl
