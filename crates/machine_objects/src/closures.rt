@@ -7,7 +7,7 @@ ghost use Rattle.lua_heap.specs.Codes.{functions};
 ghost use Rattle.lua_heap.specs.Plain.{plain};
 ghost use Rattle.machine_core.specs.World.{Place, place_of};
 ghost use Rattle.machine_core.specs.FrameRows.{expand};
-ghost use Rattle.move_laws.specs.Memory.{InOrder, IsSafe, IsSound, Leads, StandsAt};
+ghost use Rattle.move_laws.specs.Memory.{InOrder, IsSafe, Leads, StandsSound};
 ghost use Rattle.machine_moves.specs.Ending.{ending_of};
 ghost use Rattle.machine_objects.specs.Opening.{MayOpen, Opens, upvalues_at};
 
@@ -25,9 +25,7 @@ pub fn new_function(
     inner: usize,
     to: usize,
 ) -> Result<Ending, AllocError>
-    requires sound { IsSound world.old }
-    requires at { StandsAt world.old pc }
-    requires room { pc + 2 < 2 ^ 64 }
+    requires stands { StandsSound world.old pc 2 }
     requires small { inner < 2 ^ 32 }
     requires safe { (place : Place) → place_of (plain world.old 0) ≡ Some place → IsSafe (expand (text_of place.function.code pc (NewFunction inner to))) [] world.old }
     ensures leads { IfOk result (λ ending. (place : Place) → place_of (plain world.old 0) ≡ Some place → Leads (expand (text_of place.function.code pc (NewFunction inner to))) [] world.old world.new (ending_of ending)) }

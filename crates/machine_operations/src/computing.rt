@@ -9,7 +9,7 @@ ghost use Rattle.meta_ops.specs.Events.{event_of as event_meant};
 ghost use Rattle.machine_core.specs.FrameRows.{expand};
 ghost use Rattle.machine_core.specs.InstructionRows.{fast, integer_of_shape};
 ghost use Rattle.machine_core.specs.Moves.{go};
-ghost use Rattle.move_laws.specs.Memory.{InOrder, IsSafe, IsSound, Leads, StandsAt};
+ghost use Rattle.move_laws.specs.Memory.{InOrder, IsSafe, Leads, StandsAt, StandsSound};
 ghost use Rattle.machine_moves.specs.Ending.{ending_of};
 ghost use Rattle.machine_rows.specs.Rows.{HasFunction};
 ghost use Rattle.machine_operations.specs.Computing.{IsReadAsInteger, MayCompute, MayPut, ReadsInteger, puts};
@@ -34,9 +34,7 @@ pub fn arithmetic(
     right: Operand,
     to: usize,
 ) -> Result<Ending, AllocError>
-    requires sound { IsSound world.old }
-    requires at { StandsAt world.old pc }
-    requires room { pc + 2 < 2 ^ 64 }
+    requires stands { StandsSound world.old pc 2 }
     requires safe { (p : Prototype) → IsSafe (expand (text_of p pc (Arithmetic operator left right to))) [] world.old }
     ensures leads { IfOk result (λ ending. (p : Prototype) → Leads (expand (text_of p pc (Arithmetic operator left right to))) [] world.old world.new (ending_of ending)) }
     ensures order { InOrder world.new }
@@ -85,9 +83,7 @@ fn compute(
     n: Option<i64>,
     to: usize,
 ) -> Result<Ending, AllocError>
-    requires sound { IsSound world.old }
-    requires at { StandsAt world.old pc }
-    requires room { pc + 2 < 2 ^ 64 }
+    requires stands { StandsSound world.old pc 2 }
     requires safe { MayCompute world.old (event_meant event) m n to }
     ensures leads { IfOk result (λ ending. (env : List Meant) → Leads (expand (fast (event_meant event) to m n)) env world.old world.new (ending_of ending)) }
     ensures order { InOrder world.new }
@@ -111,9 +107,7 @@ fn compute_integers(
     n: i64,
     to: usize,
 ) -> Result<Ending, AllocError>
-    requires sound { IsSound world.old }
-    requires at { StandsAt world.old pc }
-    requires room { pc + 2 < 2 ^ 64 }
+    requires stands { StandsSound world.old pc 2 }
     requires safe { MayCompute world.old (event_meant event) (Some m) (Some n) to }
     ensures leads { IfOk result (λ ending. (env : List Meant) → Leads (expand (fast (event_meant event) to (Some m) (Some n))) env world.old world.new (ending_of ending)) }
     ensures order { InOrder world.new }

@@ -5,7 +5,7 @@ ghost use Rattle.instruction_forms.specs.Forms.{text_of};
 ghost use Rattle.instruction_forms.specs.declared.form.Form.TheVariants.{Concatenate};
 ghost use Rattle.lua_heap.specs.Reading.{value};
 ghost use Rattle.machine_core.specs.FrameRows.{expand};
-ghost use Rattle.move_laws.specs.Memory.{InOrder, IsSafe, IsSound, Leads, ReadsSame, StandsAt, Steps};
+ghost use Rattle.move_laws.specs.Memory.{InOrder, IsSafe, Leads, ReadsSame, StandsSound, Steps};
 ghost use Rattle.machine_moves.specs.Ending.{ending_of};
 ghost use Rattle.machine_operations.specs.Joining.{AreValid, rest_row, told_for};
 
@@ -29,9 +29,7 @@ pub fn concatenate(
     first: usize,
     count: usize,
 ) -> Result<Ending, AllocError>
-    requires sound { IsSound world.old }
-    requires at { StandsAt world.old pc }
-    requires room { pc + 2 < 2 ^ 64 }
+    requires stands { StandsSound world.old pc 2 }
     requires size { first + count < 2 ^ 64 }
     requires safe { (p : Prototype) → IsSafe (expand (text_of p pc (Concatenate first count))) [] world.old }
     ensures steps { IfOk result (λ ending. (p : Prototype) → Steps (expand (text_of p pc (Concatenate first count))) [] world.old budget.old world.new budget.new (ending_of ending)) }
@@ -75,9 +73,7 @@ pub fn join_on(
     left: usize,
     came: &[Value],
 ) -> Result<Ending, AllocError>
-    requires sound { IsSound world.old }
-    requires at { StandsAt world.old pc }
-    requires room { pc + 2 < 2 ^ 64 }
+    requires stands { StandsSound world.old pc 2 }
     requires size { first + left < 2 ^ 64 }
     requires came { AreValid world.old came.now }
     requires safe { IsSafe (rest_row first left) (told_for left (map (value world.old.strings) came.now)) world.old }

@@ -8,7 +8,7 @@ ghost use Rattle.lua_heap.specs.Reading.{value};
 ghost use Rattle.machine_core.specs.FrameRows.{expand};
 ghost use Rattle.machine_core.specs.World.{Place, place_of};
 ghost use Rattle.meta_ops.specs.Operation.{more_of};
-ghost use Rattle.move_laws.specs.Memory.{InOrder, IsSafe, IsSound, StandsAt, Steps};
+ghost use Rattle.move_laws.specs.Memory.{InOrder, IsSafe, IsSound, StandsAt, StandsSound, Steps};
 ghost use Rattle.machine_errors.specs.Raising.{CanLeave};
 ghost use Rattle.machine_moves.specs.Ending.{ending_of};
 ghost use Rattle.machine_moves.specs.declared.ending.Ending.TheVariants.{Go, Raised};
@@ -40,9 +40,7 @@ pub fn operate(
     also: Option<usize>,
     after: After,
 ) -> Result<Ending, AllocError>
-    requires sound { IsSound world.old }
-    requires at { StandsAt world.old pc }
-    requires room { pc + 2 < 2 ^ 64 }
+    requires stands { StandsSound world.old pc 2 }
     requires copy { CanCopy world.old also }
     requires safe { (place : Place) → place_of (plain world.old 0) ≡ Some place → IsSafe (expand (text_of place.function.code pc (Operate operation operands also after))) [] world.old }
     ensures steps { IfOk result (λ ending. (place : Place) → place_of (plain world.old 0) ≡ Some place → Steps (expand (text_of place.function.code pc (Operate operation operands also after))) [] world.old budget.old world.new budget.new (ending_of ending)) }

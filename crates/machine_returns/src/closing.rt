@@ -5,7 +5,7 @@ ghost use Rattle.machine_core.specs.Text.{close_cells as closes_cells};
 ghost use Rattle.machine_core.specs.InstructionRows.{closes, next, then};
 ghost use Rattle.machine_core.specs.FrameRows.{When, expand, expand_by, goes_on_by};
 ghost use Rattle.machine_core.specs.Moves.{go};
-ghost use Rattle.move_laws.specs.Memory.{InOrder, IsSafe, IsSound, Leads, StandsAt, Steps};
+ghost use Rattle.move_laws.specs.Memory.{InOrder, IsSafe, Leads, StandsAt, StandsSound, Steps};
 ghost use Rattle.machine_moves.specs.Ending.{ending_of};
 ghost use Rattle.machine_returns.specs.Waking.{IsSolid};
 ghost use Rattle.machine_returns.specs.Closing.{MayClose, MayPass};
@@ -26,9 +26,7 @@ pub fn close_variables(
     pc: usize,
     register: u32,
 ) -> Result<Ending, AllocError>
-    requires sound { IsSound world.old }
-    requires at { StandsAt world.old pc }
-    requires room { pc + 2 < 2 ^ 64 }
+    requires stands { StandsSound world.old pc 2 }
     requires safe { IsSafe (expand (closes register)) [] world.old }
     ensures steps { IfOk result (λ ending. Steps (expand (closes register)) [] world.old budget.old world.new budget.new (ending_of ending)) }
     ensures order { InOrder world.new }

@@ -7,7 +7,7 @@ ghost use Rattle.lua_heap.specs.Plain.{plain};
 ghost use Rattle.lua_heap.specs.Reading.{value as meant};
 ghost use Rattle.machine_core.specs.World.{Place, place_of};
 ghost use Rattle.machine_core.specs.FrameRows.{expand, raises};
-ghost use Rattle.move_laws.specs.Memory.{InOrder, IsSafe, IsSound, Leads, StandsAt};
+ghost use Rattle.move_laws.specs.Memory.{InOrder, IsSafe, IsSound, Leads, StandsAt, StandsSound};
 ghost use Rattle.machine_moves.specs.Ending.{ending_of};
 ghost use Rattle.machine_returns.specs.Names.{open_text};
 ghost use Rattle.machine_returns.specs.Marking.{MayMark, marked};
@@ -28,9 +28,7 @@ pub fn mark(
     register: usize,
     ahead: usize,
 ) -> Result<Ending, AllocError>
-    requires sound { IsSound world.old }
-    requires at { StandsAt world.old pc }
-    requires room { pc + ahead < 2 ^ 64 }
+    requires stands { StandsSound world.old pc ahead }
     requires safe { (place : Place) → place_of (plain world.old 0) ≡ Some place → IsSafe (expand (text_of place.function.code pc (Mark register ahead))) [] world.old }
     ensures leads { IfOk result (λ ending. (place : Place) → place_of (plain world.old 0) ≡ Some place → Leads (expand (text_of place.function.code pc (Mark register ahead))) [] world.old world.new (ending_of ending)) }
     ensures order { InOrder world.new }

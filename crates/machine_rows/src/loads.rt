@@ -7,7 +7,7 @@ ghost use Rattle.machine_core.specs.Moves.{go};
 ghost use Rattle.instruction_forms.specs.Forms.{text_of};
 ghost use Rattle.instruction_forms.specs.declared.form.Form.TheVariants.{Load, LoadFar, Clear, StoreUpvalue};
 ghost use Rattle.lua_heap.specs.Plain.{plain};
-ghost use Rattle.move_laws.specs.Memory.{InOrder, IsSafe, IsSound, Leads, StandsAt};
+ghost use Rattle.move_laws.specs.Memory.{InOrder, IsSafe, IsSound, Leads, StandsAt, StandsSound};
 ghost use Rattle.machine_rows.specs.Rows.{HasExtra, IsExtra};
 
 use crate::operands::read_operand;
@@ -20,9 +20,7 @@ use machine_moves::{
 
 /// A value goes to a register, at the place `pc`, and the next instruction may be passed over.
 pub fn load(world: &mut World, pc: usize, from: Operand, to: usize, skips: bool)
-    requires sound { IsSound world.old }
-    requires at { StandsAt world.old pc }
-    requires room { pc + 2 < 2 ^ 64 }
+    requires stands { StandsSound world.old pc 2 }
     requires safe { (p : Prototype) → IsSafe (expand (text_of p pc (Load from to skips))) [] world.old }
     ensures leads { (p : Prototype) → Leads (expand (text_of p pc (Load from to skips))) [] world.old world.new go }
     ensures order { InOrder world.new }
@@ -34,9 +32,7 @@ pub fn load(world: &mut World, pc: usize, from: Operand, to: usize, skips: bool)
 
 /// The constant that the next word names goes to a register.
 pub fn load_far(world: &mut World, pc: usize, to: usize)
-    requires sound { IsSound world.old }
-    requires at { StandsAt world.old pc }
-    requires room { pc + 2 < 2 ^ 64 }
+    requires stands { StandsSound world.old pc 2 }
     requires safe { (place : Place) → place_of (plain world.old 0) ≡ Some place → IsSafe (expand (text_of place.function.code pc (LoadFar to))) [] world.old }
     ensures leads { (place : Place) → place_of (plain world.old 0) ≡ Some place → Leads (expand (text_of place.function.code pc (LoadFar to))) [] world.old world.new go }
     ensures order { InOrder world.new }

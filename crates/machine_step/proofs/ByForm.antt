@@ -15,7 +15,7 @@ use Rattle.instruction_forms.specs.declared.form.Form.TheVariants.{Call, Operate
 use Rattle.instruction_forms.specs.Forms.{text_of}
 use Rattle.lua_heap.specs.declared.world.World.{World as Memory}
 use Rattle.lua_heap.specs.Plain.{plain}
-use Rattle.move_laws.specs.Memory.{CanDo, IsSafe, IsSound, Leads, StandsAt, Steps}
+use Rattle.move_laws.specs.Memory.{CanDo, IsSafe, IsSound, Leads, StandsAt, StandsSound, Steps}
 use Rattle.move_laws.proofs.Order.{is_spent, steps_of}
 use Rattle.move_laws.proofs.Sounds.{sound_top}
 use Rattle.machine_returns.specs.Returning.{MayReturn}
@@ -35,6 +35,9 @@ module _ {W : Memory} {pc : ℕ} {form : Form} (r : RunsForm W pc form) where
 
   pub room : pc + 2 < 2 ^ 64
   room = let l = r.near in omega (arith, l)
+
+  pub begins : IsSound W → StandsSound W pc 2
+  begins s = record { sound = s; at = stands; room = room }
 
   pub small : IsSmall form
   small = forms_are_small r.runs.opcode r.runs.instruction form r.is

@@ -1,5 +1,5 @@
 -- The running stack of a world in memory, what is changed of it, and moves of the machine between worlds in memory.
-use Rattle.std.specs.Prelude.{◌≡◌, ℕ, true, List, Some, slice_get, slice_set}
+use Rattle.std.specs.Prelude.{◌≡◌, ◌+◌, ◌<◌, ◌^◌, ℕ, true, List, Some, slice_get, slice_set}
 use Rattle.int_core.specs.Value.{Value, last}
 use Rattle.machine_core.specs.World.{Stack, stack_of, Place, place_of}
 use Rattle.machine_core.specs.Text.{Own, fits}
@@ -74,6 +74,12 @@ pub record IsSound (W : Memory) : Type 0 where
   pub primitives : ℕ
   pub sound : Sound primitives (plain W 0)
   pub order : InOrder W
+
+-- a sound world whose frame on top is at this place, and may go on by so many
+pub record StandsSound (W : Memory) (pc ahead : ℕ) : Type 0 where
+  pub sound : IsSound W
+  pub at : StandsAt W pc
+  pub room : pc + ahead < 2 ^ 64
 
 -- the step of a row leads from one world and budget to others, and ends so; one that could not be paid changes nothing
 pub record Steps (row : Row) (env : List Value) (old : Memory) (fuel : ℕ) (new : Memory) (left : ℕ) (ending : Ending) : Type 0 where

@@ -14,22 +14,25 @@ use Rattle.machine_operations.proofs.computing.arithmetic.Goals as goal
 pub read_integer-m-requires : goal.read_integer-m-requires
 read_integer-m-requires c =
     record {
-      function = function_of c.requires.at.place c.requires.sound c.requires.at.is;
-      there = left_is_read c.args.world.now c.args.left c.args.right c.args.to (event_of c.args.operator) (c.requires.safe c.requires.at.place.function.code);
+      function = function_of c.requires.stands.at.place c.requires.stands.sound c.requires.stands.at.is;
+      there = left_is_read c.args.world.now c.args.left c.args.right c.args.to (event_of c.args.operator) (c.requires.safe c.requires.stands.at.place.function.code);
     }
 
 pub read_integer-n-requires : goal.read_integer-n-requires
 read_integer-n-requires c =
     record {
-      function = function_of c.requires.at.place c.requires.sound c.requires.at.is;
-      there = right_is_read c.args.world.now c.args.left c.args.right c.args.to (event_of c.args.operator) (c.requires.safe c.requires.at.place.function.code) c.read_integer-m.ensures;
+      function = function_of c.requires.stands.at.place c.requires.stands.sound c.requires.stands.at.is;
+      there = right_is_read c.args.world.now c.args.left c.args.right c.args.to (event_of c.args.operator) (c.requires.safe c.requires.stands.at.place.function.code) c.read_integer-m.ensures;
     }
+
+pub compute-requires-clause-stands : goal.compute-requires-clause-stands
+compute-requires-clause-stands c = c.requires.stands
 
 pub compute-requires-clause-safe : goal.compute-requires-clause-safe
 compute-requires-clause-safe c =
     let W = c.args.world.now in
     subst (λ event. MayCompute W event c.read_integer-m.result c.read_integer-n.result c.args.to) (sym c.event_of.ensures)
-    (both_read W c.args.left c.args.right c.args.to (event_of c.args.operator) (c.requires.safe c.requires.at.place.function.code) c.read_integer-m.ensures c.read_integer-n.ensures)
+    (both_read W c.args.left c.args.right c.args.to (event_of c.args.operator) (c.requires.safe c.requires.stands.at.place.function.code) c.read_integer-m.ensures c.read_integer-n.ensures)
 
 pub returns-clause-leads : goal.returns-clause-leads
 returns-clause-leads c =

@@ -1,4 +1,4 @@
-use Rattle.std.proofs.Common.{[], ◌+◌, ◌-◌, refl, ap, sym, subst, ◌∙◌}
+use Rattle.std.proofs.Common.{[], ◌+◌, ◌-◌, refl, ap, sym, subst, ◌∙◌, arith}
 use Rattle.std.proofs.lemmas.Result.{IfOk-weaker}
 use Rattle.lua_heap.specs.Codes.{no_code}
 use Rattle.lua_heap.specs.declared.world.World.{World as Memory}
@@ -17,8 +17,14 @@ use Rattle.machine_operations.proofs.Came.{calls_may, calls_steps, can_last, can
 use Rattle.machine_operations.proofs.Joins.{operand_there}
 use Rattle.machine_operations.proofs.concatenating.concatenate.Goals as goal
 
-pub advance-requires-clause-safe : goal.advance-requires-clause-safe
-advance-requires-clause-safe c = none_may c.args.world.now no_code c.args.pc c.args.first c.args.count c.if-count-eq0.true (c.requires.safe no_code)
+pub advance-requires : goal.advance-requires
+advance-requires c =
+    record {
+      order = c.requires.stands.sound.order;
+      at = c.requires.stands.at;
+      room = omega (arith, c.requires.stands.room);
+      safe = none_may c.args.world.now no_code c.args.pc c.args.first c.args.count c.if-count-eq0.true (c.requires.safe no_code);
+    }
 
 pub returns-then-count-eq0-clause-steps : goal.returns-then-count-eq0-clause-steps
 returns-then-count-eq0-clause-steps c = λ p. none_steps c.args.world.now c.advance.new.world c.args.budget.now p c.args.pc c.args.first c.args.count c.if-count-eq0.true (c.advance.ensures.leads [])
@@ -27,12 +33,15 @@ pub read_register-last-requires : goal.read_register-last-requires
 read_register-last-requires c =
     can_last c.args.world.now c.args.first (c.args.count - 1) (safe_last c.args.world.now no_code c.args.pc c.args.first c.args.count c.if-count-eq0.false (c.requires.safe no_code))
 
+pub join-requires-clause-sound : goal.join-requires-clause-sound
+join-requires-clause-sound c = c.requires.stands.sound
+
 pub join-requires-clause-frame : goal.join-requires-clause-frame
-join-requires-clause-frame c = frame_at c.requires.at
+join-requires-clause-frame c = frame_at c.requires.stands.at
 
 pub join-requires-clause-last : goal.join-requires-clause-last
 join-requires-clause-last c =
-    operand_there c.args.world.now (c.args.first + (c.args.count - 1)) c.read_register-last.result c.requires.sound c.operands_are_there.ensures c.read_register-last.ensures
+    operand_there c.args.world.now (c.args.first + (c.args.count - 1)) c.read_register-last.result c.requires.stands.sound c.operands_are_there.ensures c.read_register-last.ensures
 
 pub join-requires-clause-safe : goal.join-requires-clause-safe
 join-requires-clause-safe c =
@@ -43,7 +52,10 @@ pub keep-requires-clause-order : goal.keep-requires-clause-order
 keep-requires-clause-order c = c.join.ensures.sound.order
 
 pub keep-requires-clause-at : goal.keep-requires-clause-at
-keep-requires-clause-at c = stands_same c.join.ensures.same c.requires.at
+keep-requires-clause-at c = stands_same c.join.ensures.same c.requires.stands.at
+
+pub keep-requires-clause-room : goal.keep-requires-clause-room
+keep-requires-clause-room c = c.requires.stands.room
 
 pub keep-requires-clause-safe : goal.keep-requires-clause-safe
 keep-requires-clause-safe c =
@@ -62,7 +74,7 @@ returns-in-Whole-clause-steps c = λ p.
     (steps_of c.args.budget.now (λ n. n) (whole_leads (last_comes W c.args.first n c.read_register-last.result c.read_register-last.ensures c.join.new.world (Whole c.in-Whole.v) j) c.keep.ensures.leads))
 
 pub call_over-requires-clause-ready : goal.call_over-requires-clause-ready
-call_over-requires-clause-ready c = can_prepare (can_leave c.join.new.world c.join.ensures.sound (frame_at (stands_same c.join.ensures.same c.requires.at)))
+call_over-requires-clause-ready c = can_prepare (can_leave c.join.new.world c.join.ensures.sound (frame_at (stands_same c.join.ensures.same c.requires.stands.at)))
 
 pub call_over-requires-clause-safe : goal.call_over-requires-clause-safe
 call_over-requires-clause-safe c =
@@ -87,7 +99,7 @@ returns-in_ok-operands-in-Asks-clause-steps c =
     (calls_steps come c.join.ensures.same (subst (λ vs. CallsSo V c.call_over.new.world c.args.budget.now c.call_over.new.budget a.handler vs (ForConcat a.below) Nothing (ending_of ending)) c.in_ok-operands-in-Asks.ensures k))) c.call_over.ensures.steps
 
 pub raise-requires-clause-frame : goal.raise-requires-clause-frame
-raise-requires-clause-frame c = frame_at (stands_same c.join.ensures.same c.requires.at)
+raise-requires-clause-frame c = frame_at (stands_same c.join.ensures.same c.requires.stands.at)
 
 pub returns-in_ok-text-in-Fails-clause-steps : goal.returns-in_ok-text-in-Fails-clause-steps
 returns-in_ok-text-in-Fails-clause-steps c =

@@ -14,8 +14,11 @@ use Rattle.machine_operations.specs.declared.joining.Joined.TheVariants.{Whole, 
 use Rattle.machine_operations.proofs.Came.{asks_leads, came_comes, came_may, can_prepare, fails_leads, first_there, frame_at, stands_same, whole_leads, whole_may}
 use Rattle.machine_operations.proofs.concatenating.join_on.Goals as goal
 
+pub join-requires-clause-sound : goal.join-requires-clause-sound
+join-requires-clause-sound c = c.requires.stands.sound
+
 pub join-requires-clause-frame : goal.join-requires-clause-frame
-join-requires-clause-frame c = frame_at c.requires.at
+join-requires-clause-frame c = frame_at c.requires.stands.at
 
 pub join-requires-clause-last : goal.join-requires-clause-last
 join-requires-clause-last c =
@@ -31,8 +34,8 @@ keep-requires c =
     let j = subst (λ o. Joins W c.join.new.world c.args.first c.args.left c.first_or_nil-last.result o) c.in-Whole.is c.in_ok-v.ensures.joins in
     record {
       order = c.join.ensures.sound.order;
-      at = stands_same c.join.ensures.same c.requires.at;
-      room = c.requires.room;
+      at = stands_same c.join.ensures.same c.requires.stands.at;
+      room = c.requires.stands.room;
       safe = whole_may (came_comes W c.args.first c.args.left c.args.came.now c.first_or_nil-last.result c.first_or_nil-last.ensures c.join.new.world (Whole c.in-Whole.v) j) c.requires.safe;
     }
 
@@ -43,7 +46,7 @@ returns-in-Whole-clause-leads c =
     whole_leads (came_comes W c.args.first c.args.left c.args.came.now c.first_or_nil-last.result c.first_or_nil-last.ensures c.join.new.world (Whole c.in-Whole.v) j) c.keep.ensures.leads
 
 pub ask_over-requires : goal.ask_over-requires
-ask_over-requires c = record { order = c.join.ensures.sound.order; ready = can_prepare (can_leave c.join.new.world c.join.ensures.sound (frame_at (stands_same c.join.ensures.same c.requires.at))) }
+ask_over-requires c = record { order = c.join.ensures.sound.order; ready = can_prepare (can_leave c.join.new.world c.join.ensures.sound (frame_at (stands_same c.join.ensures.same c.requires.stands.at))) }
 
 pub returns-in_ok-operands-in-Asks-clause-leads : goal.returns-in_ok-operands-in-Asks-clause-leads
 returns-in_ok-operands-in-Asks-clause-leads c =
@@ -56,7 +59,7 @@ returns-in_ok-operands-in-Asks-clause-leads c =
     asks_leads come (subst (λ vs. AsksSo V c.ask_over.new.world a.handler vs (ForConcat a.below) Nothing (ending_of ending)) c.in_ok-operands-in-Asks.ensures k)) c.ask_over.ensures.leads
 
 pub raise-requires-clause-frame : goal.raise-requires-clause-frame
-raise-requires-clause-frame c = frame_at (stands_same c.join.ensures.same c.requires.at)
+raise-requires-clause-frame c = frame_at (stands_same c.join.ensures.same c.requires.stands.at)
 
 pub returns-in_ok-text-in-Fails-clause-leads : goal.returns-in_ok-text-in-Fails-clause-leads
 returns-in_ok-text-in-Fails-clause-leads c =

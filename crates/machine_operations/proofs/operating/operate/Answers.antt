@@ -28,34 +28,37 @@ use Rattle.machine_operations.proofs.operating.operate.Goals as goal
 
 pub read_operands-values-requires : goal.read_operands-values-requires
 read_operands-values-requires c =
-    let at = c.requires.at in
-    record { function = function_of c.requires.at.place c.requires.sound c.requires.at.is; there = are_read at.place c.args.pc c.args.operation c.args.operands c.args.also c.args.after (c.requires.safe at.place at.is) }
+    let at = c.requires.stands.at in
+    record { function = function_of c.requires.stands.at.place c.requires.stands.sound c.requires.stands.at.is; there = are_read at.place c.args.pc c.args.operation c.args.operands c.args.also c.args.after (c.requires.safe at.place at.is) }
 
 pub operation_on-asked-requires : goal.operation_on-asked-requires
 operation_on-asked-requires c =
     let W = c.args.world.now in
-    let at = c.requires.at in
+    let at = c.requires.stands.at in
     let r = c.read_operands-values in
     may_take W c.args.operation c.args.operands c.args.also c.args.after c.args.pc r.result (record { place = at.place; is = at.is }) r.ensures at.place (c.requires.safe at.place at.is)
 
 pub settle-requires-clause-frame : goal.settle-requires-clause-frame
-settle-requires-clause-frame c = record { place = c.requires.at.place; is = c.requires.at.is }
+settle-requires-clause-frame c = record { place = c.requires.stands.at.place; is = c.requires.stands.at.is }
 
 pub settle-requires-clause-operands : goal.settle-requires-clause-operands
 settle-requires-clause-operands c =
     let r = c.read_operands-values in
     let a = c.operation_on-asked in
-    operands_in c.operands_are_there.ensures r.result c.requires.sound r.ensures a.result a.ensures.operands
+    operands_in c.operands_are_there.ensures r.result c.requires.stands.sound r.ensures a.result a.ensures.operands
 
 pub end_with-requires-clause-order : goal.end_with-requires-clause-order
-end_with-requires-clause-order c = order_with_tables c.requires.sound.order c.settle.ensures.rest
+end_with-requires-clause-order c = order_with_tables c.requires.stands.sound.order c.settle.ensures.rest
 
 pub end_with-requires-clause-whole : goal.end_with-requires-clause-whole
 end_with-requires-clause-whole c =
-    leaves_stay c.args.world.now c.settle.new.world c.settle.ensures.rest (can_leave c.args.world.now c.requires.sound (record { place = c.requires.at.place; is = c.requires.at.is }))
+    leaves_stay c.args.world.now c.settle.new.world c.settle.ensures.rest (can_leave c.args.world.now c.requires.stands.sound (record { place = c.requires.stands.at.place; is = c.requires.stands.at.is }))
 
 pub end_with-requires-clause-at : goal.end_with-requires-clause-at
-end_with-requires-clause-at c = stands_stay c.args.world.now c.settle.new.world c.settle.ensures.rest c.requires.at
+end_with-requires-clause-at c = stands_stay c.args.world.now c.settle.new.world c.settle.ensures.rest c.requires.stands.at
+
+pub end_with-requires-clause-room : goal.end_with-requires-clause-room
+end_with-requires-clause-room c = c.requires.stands.room
 
 pub end_with-requires-clause-copy : goal.end_with-requires-clause-copy
 end_with-requires-clause-copy c = copies_stay c.args.world.now c.settle.new.world c.settle.ensures.rest c.args.also c.requires.copy
@@ -64,7 +67,7 @@ pub end_with-requires-clause-safe : goal.end_with-requires-clause-safe
 end_with-requires-clause-safe c =
     let W = c.args.world.now in
     let V = c.settle.new.world in
-    let at = c.requires.at in
+    let at = c.requires.stands.at in
     let frame : HasFrame W = record { place = at.place; is = at.is } in
     let rest = c.settle.ensures.rest in
     let r = c.read_operands-values in
@@ -77,7 +80,7 @@ pub returns-in-Found-clause-steps : goal.returns-in-Found-clause-steps
 returns-in-Found-clause-steps c =
     let W = c.args.world.now in
     let V = c.settle.new.world in
-    let at = c.requires.at in
+    let at = c.requires.stands.at in
     let frame : HasFrame W = record { place = at.place; is = at.is } in
     let rest = c.settle.ensures.rest in
     let r = c.read_operands-values in
@@ -93,14 +96,17 @@ returns-in-Found-clause-steps c =
     (steps_of budget (λ n. n) (found_leads W c.args.operation c.args.operands c.args.also c.args.after c.args.pc r.result frame r.ensures a.result a.ensures.kind a.ensures.operands V (texts_stay W V rest) (places_stay W V rest) c.in-Found.v s last k place is))
 
 pub end_with-requires-in-Done-clause-order : goal.end_with-requires-in-Done-clause-order
-end_with-requires-in-Done-clause-order c = order_with_tables c.requires.sound.order c.settle.ensures.rest
+end_with-requires-in-Done-clause-order c = order_with_tables c.requires.stands.sound.order c.settle.ensures.rest
 
 pub end_with-requires-in-Done-clause-whole : goal.end_with-requires-in-Done-clause-whole
 end_with-requires-in-Done-clause-whole c =
-    leaves_stay c.args.world.now c.settle.new.world c.settle.ensures.rest (can_leave c.args.world.now c.requires.sound (record { place = c.requires.at.place; is = c.requires.at.is }))
+    leaves_stay c.args.world.now c.settle.new.world c.settle.ensures.rest (can_leave c.args.world.now c.requires.stands.sound (record { place = c.requires.stands.at.place; is = c.requires.stands.at.is }))
 
 pub end_with-requires-in-Done-clause-at : goal.end_with-requires-in-Done-clause-at
-end_with-requires-in-Done-clause-at c = stands_stay c.args.world.now c.settle.new.world c.settle.ensures.rest c.requires.at
+end_with-requires-in-Done-clause-at c = stands_stay c.args.world.now c.settle.new.world c.settle.ensures.rest c.requires.stands.at
+
+pub end_with-requires-in-Done-clause-room : goal.end_with-requires-in-Done-clause-room
+end_with-requires-in-Done-clause-room c = c.requires.stands.room
 
 pub end_with-requires-in-Done-clause-copy : goal.end_with-requires-in-Done-clause-copy
 end_with-requires-in-Done-clause-copy c = copies_stay c.args.world.now c.settle.new.world c.settle.ensures.rest c.args.also c.requires.copy
@@ -109,7 +115,7 @@ pub end_with-requires-in-Done-clause-safe : goal.end_with-requires-in-Done-claus
 end_with-requires-in-Done-clause-safe c =
     let W = c.args.world.now in
     let V = c.settle.new.world in
-    let at = c.requires.at in
+    let at = c.requires.stands.at in
     let frame : HasFrame W = record { place = at.place; is = at.is } in
     let rest = c.settle.ensures.rest in
     let r = c.read_operands-values in
@@ -122,7 +128,7 @@ pub returns-in-Done-clause-steps : goal.returns-in-Done-clause-steps
 returns-in-Done-clause-steps c =
     let W = c.args.world.now in
     let V = c.settle.new.world in
-    let at = c.requires.at in
+    let at = c.requires.stands.at in
     let frame : HasFrame W = record { place = at.place; is = at.is } in
     let rest = c.settle.ensures.rest in
     let r = c.read_operands-values in
@@ -141,37 +147,37 @@ pub call_over-requires-clause-sound : goal.call_over-requires-clause-sound
 call_over-requires-clause-sound c =
     let W = c.args.world.now in
     let V = c.settle.new.world in
-    let at = c.requires.at in
+    let at = c.requires.stands.at in
     let frame : HasFrame W = record { place = at.place; is = at.is } in
     let rest = c.settle.ensures.rest in
     let r = c.read_operands-values in
     let a = c.operation_on-asked in
     let s : Settles W V a.result (Ask c.in-Ask.handler c.in-Ask.object) = subst (λ o. Settles W V a.result o) c.in-Ask.is c.in_ok-came.ensures.settles in
-    sound_stays W V rest c.requires.sound (same_world W c.args.operation c.args.operands c.args.also c.args.after c.args.pc r.result frame r.ensures a.result a.ensures.kind a.ensures.operands V (Ask c.in-Ask.handler c.in-Ask.object) s (λ e. absurd (cc)))
+    sound_stays W V rest c.requires.stands.sound (same_world W c.args.operation c.args.operands c.args.also c.args.after c.args.pc r.result frame r.ensures a.result a.ensures.kind a.ensures.operands V (Ask c.in-Ask.handler c.in-Ask.object) s (λ e. absurd (cc)))
 
 pub call_over-requires-clause-ready : goal.call_over-requires-clause-ready
 call_over-requires-clause-ready c =
     let W = c.args.world.now in
     let V = c.settle.new.world in
-    let at = c.requires.at in
+    let at = c.requires.stands.at in
     let frame : HasFrame W = record { place = at.place; is = at.is } in
     let rest = c.settle.ensures.rest in
     let r = c.read_operands-values in
     let a = c.operation_on-asked in
-    subst (CanPrepare V) (sym c.prepared.ensures) (can_prepare_copy c.args.also c.first_of-first.result (leaves_stay W V rest (can_leave W c.requires.sound frame)) (copies_stay W V rest c.args.also c.requires.copy))
+    subst (CanPrepare V) (sym c.prepared.ensures) (can_prepare_copy c.args.also c.first_of-first.result (leaves_stay W V rest (can_leave W c.requires.stands.sound frame)) (copies_stay W V rest c.args.also c.requires.copy))
 
 pub call_over-requires-clause-safe : goal.call_over-requires-clause-safe
 call_over-requires-clause-safe c =
     let W = c.args.world.now in
     let V = c.settle.new.world in
-    let at = c.requires.at in
+    let at = c.requires.stands.at in
     let frame : HasFrame W = record { place = at.place; is = at.is } in
     let rest = c.settle.ensures.rest in
     let r = c.read_operands-values in
     let a = c.operation_on-asked in
     let s : Settles W V a.result (Ask c.in-Ask.handler c.in-Ask.object) = subst (λ o. Settles W V a.result o) c.in-Ask.is c.in_ok-came.ensures.settles in
     let items = c.in_ok-arguments-in-Ask.arguments.items in
-    let held = subst (λ texts. HasText texts (first_value r.result)) (sym (texts_stay W V rest)) (first_has_text c.operands_are_there.ensures r.result c.requires.sound r.ensures) in
+    let held = subst (λ texts. HasText texts (first_value r.result)) (sym (texts_stay W V rest)) (first_has_text c.operands_are_there.ensures r.result c.requires.stands.sound r.ensures) in
     let m = ask_may W c.args.operation c.args.operands c.args.also c.args.after c.args.pc r.result frame r.ensures a.result a.ensures.kind a.ensures.operands V (texts_stay W V rest) (places_stay W V rest) c.in-Ask.handler c.in-Ask.object s items c.in_ok-arguments-in-Ask.ensures at.place (c.requires.safe at.place at.is) held in
     subst (λ wait. MayCall V c.in-Ask.handler items wait c.prepared.result) (sym c.wait_for.ensures)
     (subst (λ p. MayCall V c.in-Ask.handler items (wait_kept c.args.after) p) (sym (c.prepared.ensures ∙ ap (prepared_by c.args.also) c.first_of-first.ensures)) m)
@@ -180,7 +186,7 @@ pub returns-in_ok-arguments-in-Ask-clause-steps : goal.returns-in_ok-arguments-i
 returns-in_ok-arguments-in-Ask-clause-steps c =
     let W = c.args.world.now in
     let V = c.settle.new.world in
-    let at = c.requires.at in
+    let at = c.requires.stands.at in
     let frame : HasFrame W = record { place = at.place; is = at.is } in
     let rest = c.settle.ensures.rest in
     let r = c.read_operands-values in
@@ -201,17 +207,17 @@ pub fail-requires-clause-sound : goal.fail-requires-clause-sound
 fail-requires-clause-sound c =
     let W = c.args.world.now in
     let V = c.settle.new.world in
-    let at = c.requires.at in
+    let at = c.requires.stands.at in
     let frame : HasFrame W = record { place = at.place; is = at.is } in
     let rest = c.settle.ensures.rest in
     let r = c.read_operands-values in
     let a = c.operation_on-asked in
     let s : Settles W V a.result (Fault c.in-Fault.fault) = subst (λ o. Settles W V a.result o) c.in-Fault.is c.in_ok-came.ensures.settles in
-    sound_stays W V rest c.requires.sound (same_world W c.args.operation c.args.operands c.args.also c.args.after c.args.pc r.result frame r.ensures a.result a.ensures.kind a.ensures.operands V (Fault c.in-Fault.fault) s (λ e. absurd (cc)))
+    sound_stays W V rest c.requires.stands.sound (same_world W c.args.operation c.args.operands c.args.also c.args.after c.args.pc r.result frame r.ensures a.result a.ensures.kind a.ensures.operands V (Fault c.in-Fault.fault) s (λ e. absurd (cc)))
 
 pub fail-requires-clause-whole : goal.fail-requires-clause-whole
 fail-requires-clause-whole c =
-    leaves_stay c.args.world.now c.settle.new.world c.settle.ensures.rest (can_leave c.args.world.now c.requires.sound (record { place = c.requires.at.place; is = c.requires.at.is }))
+    leaves_stay c.args.world.now c.settle.new.world c.settle.ensures.rest (can_leave c.args.world.now c.requires.stands.sound (record { place = c.requires.stands.at.place; is = c.requires.stands.at.is }))
 
 pub fail-requires-clause-copy : goal.fail-requires-clause-copy
 fail-requires-clause-copy c = copies_stay c.args.world.now c.settle.new.world c.settle.ensures.rest c.args.also c.requires.copy
@@ -220,13 +226,13 @@ pub fail-requires-clause-first : goal.fail-requires-clause-first
 fail-requires-clause-first c =
     let r = c.read_operands-values in
     subst (HasText c.settle.new.world.strings) (sym c.first_of-first.ensures)
-    (subst (λ texts. HasText texts (first_value r.result)) (sym (texts_stay c.args.world.now c.settle.new.world c.settle.ensures.rest)) (first_has_text c.operands_are_there.ensures r.result c.requires.sound r.ensures))
+    (subst (λ texts. HasText texts (first_value r.result)) (sym (texts_stay c.args.world.now c.settle.new.world c.settle.ensures.rest)) (first_has_text c.operands_are_there.ensures r.result c.requires.stands.sound r.ensures))
 
 pub returns-in-Fault-clause-steps : goal.returns-in-Fault-clause-steps
 returns-in-Fault-clause-steps c =
     let W = c.args.world.now in
     let V = c.settle.new.world in
-    let at = c.requires.at in
+    let at = c.requires.stands.at in
     let frame : HasFrame W = record { place = at.place; is = at.is } in
     let rest = c.settle.ensures.rest in
     let r = c.read_operands-values in

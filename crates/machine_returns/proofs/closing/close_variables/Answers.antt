@@ -15,22 +15,31 @@ use Rattle.machine_returns.proofs.Closed.{close_text, seen_some, seen_none, may_
 use Rattle.machine_returns.proofs.closing.close_variables.Goals as goal
 
 pub see_pending-requires : goal.see_pending-requires
-see_pending-requires c = can_see c.args.world.now c.requires.at.place c.args.register (solid_of c.requires.sound) c.requires.at.is
+see_pending-requires c = can_see c.args.world.now c.requires.stands.at.place c.args.register (solid_of c.requires.stands.sound) c.requires.stands.at.is
 
-pub pass_over-requires-clause-safe : goal.pass_over-requires-clause-safe
-pass_over-requires-clause-safe c = record {
-  when = at_once;
-  env = [];
-  safe = safe_after (λ v s. expand (close_text c.args.register v s)) c.requires.safe (seen_none c.args.world.now c.args.register c.see_pending.result c.see_pending.ensures c.in_default.is []);
-}
+pub pass_over-requires : goal.pass_over-requires
+pass_over-requires c =
+    record {
+      order = c.requires.stands.sound.order;
+      at = c.requires.stands.at;
+      room = c.requires.stands.room;
+      safe = record {
+        when = at_once;
+        env = [];
+        safe = safe_after (λ v s. expand (close_text c.args.register v s)) c.requires.safe (seen_none c.args.world.now c.args.register c.see_pending.result c.see_pending.ensures c.in_default.is []);
+      };
+    }
 
 pub returns-in_default-clause-steps : goal.returns-in_default-clause-steps
 returns-in_default-clause-steps c =
     steps_first (λ v s. expand (close_text c.args.register v s)) (seen_none c.args.world.now c.args.register c.see_pending.result c.see_pending.ensures c.in_default.is [])
     (steps_of c.args.budget.now (λ n. n) (c.pass_over.ensures.leads at_once []))
 
+pub call_over-requires-clause-sound : goal.call_over-requires-clause-sound
+call_over-requires-clause-sound c = c.requires.stands.sound
+
 pub call_over-requires-clause-ready : goal.call_over-requires-clause-ready
-call_over-requires-clause-ready c = can_close c.args.world.now c.requires.at.place c.args.register (solid_of c.requires.sound) c.requires.at.is
+call_over-requires-clause-ready c = can_close c.args.world.now c.requires.stands.at.place c.args.register (solid_of c.requires.stands.sound) c.requires.stands.at.is
 
 pub call_over-requires-clause-safe : goal.call_over-requires-clause-safe
 call_over-requires-clause-safe c =

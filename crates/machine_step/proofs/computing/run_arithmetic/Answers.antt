@@ -1,10 +1,10 @@
 use Rattle.std.proofs.lemmas.Result.{IfOk-weaker}
 use Rattle.step_laws.proofs.Unpaid.{arithmetic_unpaid}
-use Rattle.machine_step.proofs.ByForm.{stands, room, safe, unpaid}
+use Rattle.machine_step.proofs.ByForm.{begins, safe, unpaid}
 use Rattle.machine_step.proofs.computing.run_arithmetic.Goals as goal
 
 pub arithmetic-requires : goal.arithmetic-requires
-arithmetic-requires c = record { sound = c.requires.sound; at = stands c.requires.runs; room = room c.requires.runs; safe = λ p. safe c.requires.runs c.requires.sound }
+arithmetic-requires c = record { stands = begins c.requires.runs c.requires.sound; safe = λ p. safe c.requires.runs c.requires.sound }
 
 pub returns-clause-does : goal.returns-clause-does
 returns-clause-does c =

@@ -1,11 +1,11 @@
 use Rattle.std.proofs.lemmas.Result.{IfOk-weaker}
-use Rattle.machine_step.proofs.ByForm.{stands, room, safe_here, does, copies}
+use Rattle.machine_step.proofs.ByForm.{begins, safe_here, does, copies}
 use Rattle.machine_step.proofs.computing.run_operation.Goals as goal
 
 pub operate-requires : goal.operate-requires
 operate-requires c =
     let r = c.requires.runs in
-    record { sound = c.requires.sound; at = stands r; room = room r; copy = copies c.args.operation c.args.operands c.args.also c.args.after r c.requires.sound; safe = safe_here r c.requires.sound }
+    record { stands = begins r c.requires.sound; copy = copies c.args.operation c.args.operands c.args.also c.args.after r c.requires.sound; safe = safe_here r c.requires.sound }
 
 pub returns-clause-does : goal.returns-clause-does
 returns-clause-does c =

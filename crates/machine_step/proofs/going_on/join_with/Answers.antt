@@ -8,9 +8,7 @@ use Rattle.machine_step.proofs.going_on.join_with.Goals as goal
 pub join_on-requires : goal.join_on-requires
 join_on-requires c =
     record {
-      sound = c.requires.awake.joins c.args.left refl;
-      at = stands c.requires.awake;
-      room = room c.requires.awake;
+      stands = record { sound = c.requires.awake.joins c.args.left refl; at = stands c.requires.awake; room = room c.requires.awake };
       size = subst (λ a. a + c.args.left < 2 ^ 64) (sym (c.from.ensures ∙ c.a.ensures)) (join_near c.requires.awake);
       came = c.requires.awake.valid;
       safe = join_safe c.requires.awake (c.from.ensures ∙ c.a.ensures);

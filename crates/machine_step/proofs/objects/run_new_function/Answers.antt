@@ -1,11 +1,11 @@
 use Rattle.std.proofs.Common.{arith}
 use Rattle.std.proofs.lemmas.Result.{IfOk-weaker}
 use Rattle.step_laws.proofs.Unpaid.{function_unpaid}
-use Rattle.machine_step.proofs.ByForm.{stands, room, safe_here, unpaid, small}
+use Rattle.machine_step.proofs.ByForm.{begins, safe_here, unpaid, small}
 use Rattle.machine_step.proofs.objects.run_new_function.Goals as goal
 
 pub new_function-requires : goal.new_function-requires
-new_function-requires c = let l = small c.requires.runs in record { sound = c.requires.sound; at = stands c.requires.runs; room = room c.requires.runs; small = omega (arith, l); safe = safe_here c.requires.runs c.requires.sound }
+new_function-requires c = let l = small c.requires.runs in record { stands = begins c.requires.runs c.requires.sound; small = omega (arith, l); safe = safe_here c.requires.runs c.requires.sound }
 
 pub returns-clause-does : goal.returns-clause-does
 returns-clause-does c =

@@ -1,9 +1,9 @@
 use Rattle.std.proofs.lemmas.Result.{IfOk-weaker}
-use Rattle.machine_step.proofs.ByForm.{stands, room, safe, does}
+use Rattle.machine_step.proofs.ByForm.{begins, safe, does}
 use Rattle.machine_step.proofs.returning.run_close.Goals as goal
 
 pub close_variables-requires : goal.close_variables-requires
-close_variables-requires c = record { sound = c.requires.sound; at = stands c.requires.runs; room = room c.requires.runs; safe = safe c.requires.runs c.requires.sound }
+close_variables-requires c = record { stands = begins c.requires.runs c.requires.sound; safe = safe c.requires.runs c.requires.sound }
 
 pub returns-clause-does : goal.returns-clause-does
 returns-clause-does c =

@@ -5,7 +5,7 @@ use Rattle.machine_step.proofs.ByForm.{stands, safe_here, unpaid, small}
 use Rattle.machine_step.proofs.returning.run_mark.Goals as goal
 
 pub mark-requires : goal.mark-requires
-mark-requires c = let n = c.requires.runs.near in let l = (small c.requires.runs).1 in record { sound = c.requires.sound; at = stands c.requires.runs; room = omega (arith, n, l); safe = safe_here c.requires.runs c.requires.sound }
+mark-requires c = let n = c.requires.runs.near in let l = (small c.requires.runs).1 in record { stands = record { sound = c.requires.sound; at = stands c.requires.runs; room = omega (arith, n, l) }; safe = safe_here c.requires.runs c.requires.sound }
 
 pub returns-clause-does : goal.returns-clause-does
 returns-clause-does c =
