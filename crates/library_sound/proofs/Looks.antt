@@ -1,5 +1,5 @@
 -- What rows on values and tables write out is right.
-use Rattle.std.proofs.Common.{ℕ, zero, suc, ◌-◌, List, [], ◌∷◌, ◌++◌, refl, ◌≡◌, map, length, Option, Some, None, Bool, true, false, Result, Ok, Err}
+use Rattle.std.proofs.Common.{ℕ, zero, suc, ◌-◌, List, [], ◌∷◌, ◌++◌, refl, sym, ◌≡◌, ◌∙◌, map, length, Option, Some, None, Bool, true, false, Result, Ok, Err}
 use Rattle.std.specs.Prelude.{ℤ, pos, negsuc, cond, nat_lt, nat_le, IsTrue, codes}
 use Rattle.std.specs.List.{list_all}
 use Rattle.int_core.specs.Operations.{type_name}
@@ -194,36 +194,25 @@ writes_sorted_ok : (slot i : ℕ) (ps : List Plain) → AllOk ps → LookOk (Bas
 writes_sorted_ok slot i [] h = tt
 writes_sorted_ok slot i (p ∷ ps) h = ((tt, (tt, (h.0, tt))), λ _. writes_sorted_ok slot (suc i) ps h.1)
 
-integers_none : (ss : List Shape) → IsTrue (list_all Base.is_integer ss) → NoneIs (map plain_of ss)
-integers_none [] h = tt
-integers_none (s ∷ ss) h = let b = both_of (Base.is_integer s) (list_all Base.is_integer ss) h in (by s b.0, integers_none ss b.1)
+-- where a test holds of no primitive, all of which it holds are plain
+tested_none : (test : Shape → Bool) → ((n : ℕ) → test (is_known (primitive n)) ≡ false) → (ss : List Shape) → IsTrue (list_all test ss) → NoneIs (map plain_of ss)
+tested_none test no [] h = tt
+tested_none test no (s ∷ ss) h = let b = both_of (test s) (list_all test ss) h in (by s b.0, tested_none test no ss b.1)
   where
-    by : (s : Shape) → IsTrue (Base.is_integer s) → IsNone (plain_of s)
+    by : (s : Shape) → IsTrue (test s) → IsNone (plain_of s)
     by (is_known nil) e = tt
     by (is_known (boolean b)) e = tt
     by (is_known (integer n)) e = tt
     by (is_known (string text)) e = tt
-    by (is_known (primitive n)) e = absurd (cc)
-    by (is_object kind) e = tt
-
-strings_none : (ss : List Shape) → IsTrue (list_all Base.is_string ss) → NoneIs (map plain_of ss)
-strings_none [] h = tt
-strings_none (s ∷ ss) h = let b = both_of (Base.is_string s) (list_all Base.is_string ss) h in (by s b.0, strings_none ss b.1)
-  where
-    by : (s : Shape) → IsTrue (Base.is_string s) → IsNone (plain_of s)
-    by (is_known nil) e = tt
-    by (is_known (boolean b)) e = tt
-    by (is_known (integer n)) e = tt
-    by (is_known (string text)) e = tt
-    by (is_known (primitive n)) e = absurd (cc)
+    by (is_known (primitive n)) e = let f : false ≡ true = sym (no n) ∙ e in absurd (cc)
     by (is_object kind) e = tt
 
 sorts_shapes_ok : (ss : List Shape) → LookOk (Base.sorts_shapes ss)
 sorts_shapes_ok ss = by (Base.can_be_sorted ss) (λ e. none (list_all Base.is_integer ss) refl e)
   where
     none : (b : Bool) → list_all Base.is_integer ss ≡ b → elim b as (λ _. Bool) [ true ↦ true | false ↦ list_all Base.is_string ss ] ≡ true → NoneIs (map plain_of ss)
-    none true i e = integers_none ss i
-    none false i e = strings_none ss e
+    none true i e = tested_none Base.is_integer (λ n. refl) ss i
+    none false i e = tested_none Base.is_string (λ n. refl) ss e
 
     by : (b : Bool) → (b ≡ true → NoneIs (map plain_of ss)) → LookOk (elim b as (λ _. Look) [
       | false ↦ refuses (bad_argument 1 (codes "sort") (codes "sort takes only integers or only strings"))

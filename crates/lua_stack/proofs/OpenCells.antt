@@ -29,30 +29,23 @@ both_are f r g s = nat_eq f g && nat_eq r s
 both_first : (f r g s : ℕ) (b : Bool) → nat_eq f g ≡ b → both_are f r g s ≡ (b && nat_eq r s)
 both_first f r g s b e = ap (λ t. t && nat_eq r s) e
 
+not_at : (f r g s : ℕ) → (f ≡ g → r ≡ s → ⊥) → both_are f r g s ≡ false
+not_at f r g s h = by (nat_eq f g) refl (nat_eq r s) refl
+  where
+    by : (b : Bool) → nat_eq f g ≡ b → (t : Bool) → nat_eq r s ≡ t → both_are f r g s ≡ false
+    by false p t q = both_first f r g s false p
+    by true p false q = both_first f r g s true p ∙ q
+    by true p true q =
+        let e : f ≡ g = grind (arith, nat_tests) in
+        let m : r ≡ s = grind (arith, nat_tests) in
+        absurd (h e m)
+
 -- not at a register that is behind, or in front
 not_at_less : (f r g s : ℕ) → (g ≤ f → r < s) → both_are f r g s ≡ false
-not_at_less f r g s h = by (nat_eq f g) refl (nat_eq r s) refl
-  where
-    by : (b : Bool) → nat_eq f g ≡ b → (t : Bool) → nat_eq r s ≡ t → both_are f r g s ≡ false
-    by false p t q = both_first f r g s false p
-    by true p false q = both_first f r g s true p ∙ q
-    by true p true q =
-        let e : f ≡ g = grind (arith, nat_tests) in
-        let m : r ≡ s = grind (arith, nat_tests) in
-        let k = h (omega (arith, e)) in
-        absurd (omega (arith, m, k))
+not_at_less f r g s h = not_at f r g s (λ e m. let k = h (omega (arith, e)) in omega (arith, m, k))
 
 not_at_more : (f r g s : ℕ) → (f ≤ g → s < r) → both_are f r g s ≡ false
-not_at_more f r g s h = by (nat_eq f g) refl (nat_eq r s) refl
-  where
-    by : (b : Bool) → nat_eq f g ≡ b → (t : Bool) → nat_eq r s ≡ t → both_are f r g s ≡ false
-    by false p t q = both_first f r g s false p
-    by true p false q = both_first f r g s true p ∙ q
-    by true p true q =
-        let e : f ≡ g = grind (arith, nat_tests) in
-        let m : r ≡ s = grind (arith, nat_tests) in
-        let k = h (omega (arith, e)) in
-        absurd (omega (arith, m, k))
+not_at_more f r g s h = not_at f r g s (λ e m. let k = h (omega (arith, e)) in omega (arith, m, k))
 
 pub at_is : (f r g s : ℕ) → f ≡ g → r ≡ s → both_are f r g s ≡ true
 at_is f r g s e m = by (nat_eq f g) refl (nat_eq r s) refl
