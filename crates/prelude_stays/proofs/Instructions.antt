@@ -10,8 +10,8 @@ use Rattle.code_core.specs.Prototype.{Prototype}
 use Rattle.machine_core.specs.World.{Cell, Wait, for_value, World, Place, place_of, read_cell, put_top, put_frames}
 use Rattle.machine_core.specs.Text.{read, args_of, constant, Own, read_register, read_constant, write_register, reads, tells, fits, read_upvalue, Text, own}
 use Rattle.machine_core.specs.InstructionRows.{next, to_register, gets}
-use Rattle.machine_core.specs.Moves.{on_own, outside, made, own_cell, settled, is_found, is_asked, is_fault, with_own, do_own, Row, only, act, Outcome, trapped, run}
-use Rattle.machine_core.specs.FrameRows.{raises, at_once, calls_row, prepares, expand}
+use Rattle.machine_core.specs.Moves.{on_own, outside, made, own_cell, settled, with_own, do_own, Row, act, Outcome, trapped, run}
+use Rattle.machine_core.specs.FrameRows.{at_once, expand}
 use Rattle.machine_sound.specs.Sound.{Each}
 use Rattle.machine_sound.proofs.Lists.{each_none, each_cons, each_one}
 use Rattle.prelude_stays.specs.Guards.{Guard, Row as RowOf, apart, takes, from_upvalue, from_register, from_register_named}
@@ -21,7 +21,7 @@ use Rattle.prelude_stays.proofs.Own.{held_write}
 use Rattle.prelude_stays.proofs.Worlds.{EndKeeps, TopIs, OnPlace, place_there, place_top, top_ok, heap_keeps}
 use Rattle.prelude_stays.proofs.Frames.{own_ok, top_keeps, own_keeps, own_top}
 use Rattle.prelude_stays.proofs.Quick.{top_own}
-use Rattle.prelude_stays.proofs.Texts.{raises_blind, jump_blind, enter_goes, text_keeps}
+use Rattle.prelude_stays.proofs.Texts.{raises_blind, jump_blind, enter_goes, told_row, text_keeps}
 
 -- a value is apart from the environment, or is it
 value_is : (e : ℕ) (v : Value) → Apart e v ⊎ (v ≡ object a_table e)
@@ -131,11 +131,7 @@ module _ (y : Home) (g : Guard) where
     -- what was settled goes to a register, whatever was read before
     got_goes : (r : ℕ) (env : List Value) (p : Place) (s : Settled) → SettledOk y W.heap k.heap s → EndKeeps y (elim (settled W p s) as (λ _. Outcome) [
       | None ↦ trapped
-      | Some d ↦ run (elim d.told as (λ _. Row) [
-        | is_found ↦ prepares [] (only (length env) (expand (to_register r (read 0))))
-        | is_asked ↦ calls_row at_once (read (length env)) (suc (length env)) for_value []
-        | is_fault text ↦ prepares [] (raises text)
-      ]) (env ++ d.values) d.world
+      | Some d ↦ run (told_row at_once (length env) for_value [] (to_register r (read 0)) d.told) (env ++ d.values) d.world
     ])
     got_goes r env p (found H vs) h =
         text_keeps y g at_once (to_register r (read 0)) (tt, λ _ _. tt) gs (drop (length env) (env ++ vs)) (record W { heap = H }) (subst (Each (Apart y.table)) (sym (drop_front env vs)) h.1) (heap_keeps y gs W H k h.0) t
@@ -151,11 +147,7 @@ module _ (y : Home) (g : Guard) where
       where
         by : (o : Option Place) → EndKeeps y (elim (bind o (λ p. settled W p (does index (args_of env (read 0 ∷ read key ∷ [])) W.heap))) as (λ _. Outcome) [
           | None ↦ trapped
-          | Some d ↦ run (elim d.told as (λ _. Row) [
-            | is_found ↦ prepares [] (only (length env) (expand (to_register r (read 0))))
-            | is_asked ↦ calls_row at_once (read (length env)) (suc (length env)) for_value []
-            | is_fault text ↦ prepares [] (raises text)
-          ]) (env ++ d.values) d.world
+          | Some d ↦ run (told_row at_once (length env) for_value [] (to_register r (read 0)) d.told) (env ++ d.values) d.world
         ])
         by None = tt
         by (Some p) = got_goes r env p (does index (args_of env (read 0 ∷ read key ∷ [])) W.heap) h

@@ -86,6 +86,14 @@ enter_goes y by_asking f slot wait prepared gs env W k w a b = blind y (move (aw
     (made_bind y (place_of W) _ (λ p e.
     (gs, moving_keeps y gs (with_own W p (named env wait) prepared env) (arg env f ∷ drop slot env) (w p (place_there W p e)) (each_cons (Apart y.table) (arg env f) (drop slot env) a b), each_none (Apart y.table))))
 
+-- what follows an operation that is settled
+abbrev pub told_row : When → (n : ℕ) → Wait Arg → List Own → Text → SettledShape → Row
+told_row when n wait prepared t told = elim told as (λ _. Row) [
+  | is_found ↦ prepares prepared (only n (expand_by when t))
+  | is_asked ↦ calls_row when (read n) (suc n) wait prepared
+  | is_fault text ↦ prepares prepared (raises text)
+]
+
 module _ (y : Home) (g : Guard) (when : When) where
   calls_goes : (f : Arg) (slot : ℕ) (wait : Wait Arg) (prepared : List Own) → AllRead g prepared → Goes y g (calls_row when f slot wait prepared)
   calls_goes f slot wait prepared r gs env W v k t =
@@ -96,11 +104,7 @@ module _ (y : Home) (g : Guard) (when : When) where
   prepares_goes [] r a h gs env W v k t = h gs env W v k t
   prepares_goes (m ∷ ms) r a h gs env W v k t = on_goes y g (move (on_own m) env W) env (λ _. prepares ms r) v (own_goes y gs W k g t m env a.0 v) (λ _. prepares_goes ms r a.1 h)
 
-  settled_row : (n : ℕ) (wait : Wait Arg) (prepared : List Own) (t : Text) → AllRead g prepared → Goes y g (expand_by when t) → (told : SettledShape) → Goes y g (elim told as (λ _. Row) [
-    | is_found ↦ prepares prepared (only n (expand_by when t))
-    | is_asked ↦ calls_row when (read n) (suc n) wait prepared
-    | is_fault text ↦ prepares prepared (raises text)
-  ])
+  settled_row : (n : ℕ) (wait : Wait Arg) (prepared : List Own) (t : Text) → AllRead g prepared → Goes y g (expand_by when t) → (told : SettledShape) → Goes y g (told_row when n wait prepared t told)
   settled_row n wait prepared t a h is_found = prepares_goes prepared (only n (expand_by when t)) a (λ gs env W v k z. h gs (drop n env) W (each_drop (Apart y.table) n env v) k z)
   settled_row n wait prepared t a h is_asked = calls_goes (read n) (suc n) wait prepared a
   settled_row n wait prepared t a h (is_fault text) = prepares_goes prepared (raises text) a (free_goes y g (raises text) (raises_keep text))
@@ -123,11 +127,7 @@ module _ (y : Home) (g : Guard) (when : When) where
       on_goes y g (move (outside pay) env W) env (λ paid. cond paid (expand_by when (c (length env))) (stop spent)) v (quick_goes y gs W k g t pay env tt v)
       (λ paid. cond_goes y g paid (expand_by when (c (length env))) (stop spent) (text_keeps (c (length env)) (r.1 (length env))) (free_goes y g (stop spent) stop_keeps))
   text_keeps (operate op xs wait prepared u) r gs env W v k t =
-      on_goes y g (move (settle op xs) env W) env (λ s. elim s as (λ _. Row) [
-        | is_found ↦ prepares prepared (only (length env) (expand_by when u))
-        | is_asked ↦ calls_row when (read (length env)) (suc (length env)) wait prepared
-        | is_fault text ↦ prepares prepared (raises text)
-      ]) v (settle_goes y gs W k g t op xs env (does_ok y W.heap k.heap op (args_of env xs) (args_apart y.table env xs v))) (settled_row (length env) wait prepared u r.0 (text_keeps u r.1))
+      on_goes y g (move (settle op xs) env W) env (λ s. told_row when (length env) wait prepared u s) v (settle_goes y gs W k g t op xs env (does_ok y W.heap k.heap op (args_of env xs) (args_apart y.table env xs v))) (settled_row (length env) wait prepared u r.0 (text_keeps u r.1))
   text_keeps (call f slot wait prepared) r gs env W v k t = calls_goes f slot wait prepared r gs env W v k t
   text_keeps (tail_call f slot) r gs env W v k t = free_goes y g (act (enter_tail f slot) (λ _ s. after_call s)) (act_keeps tt (λ n s. after_call_keeps s)) gs env W v k t
   text_keeps (close x e wait prepared) r gs env W v k t =

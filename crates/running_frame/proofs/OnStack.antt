@@ -52,7 +52,7 @@ module _ (g : Running) (k : Code) (s : KeptStack) (ts : List Contents) (cs : Lis
       → frames (value g.around.texts) (with_top s w) ≡ g.around.context.below ++ lua (with_registers (map (value g.around.texts) w) m.top) ∷ []
   rewritten w o l = (lent_becomes s w (lent_length w o l)).top (value g.around.texts) refl g.around.context.below m.top m.is
 
-  pub stays_on_top : (w : List Kept) → OnTop s (λ f t. map f r ≡ t.own.registers) → length w ≡ length r → HasLuaTop (with_top s w)
+  stays_on_top : (w : List Kept) → OnTop s (λ f t. map f r ≡ t.own.registers) → length w ≡ length r → HasLuaTop (with_top s w)
   stays_on_top w o l = record { value = value g.around.texts; below = g.around.context.below; top = with_registers (map (value g.around.texts) w) m.top; is = rewritten w o l }
 
   -- what the loop has done to the stack
@@ -105,3 +105,9 @@ module _ (g : Running) (k : Code) (s : KeptStack) (ts : List Contents) (cs : Lis
 
       own_moved : moved.own ≡ own_with q to
       own_moved = activation_is moved.own to (map (value g.around.texts) q) g.around.varargs g.around.pending g.around.opened refl refl m.varargs m.pending m.opened
+
+-- a frame that runs stays on top with other values in its registers
+pub stays_so : {g : Running} {k : Code} {s : KeptStack} {ts : List Contents} {cs : List Cell} {fuel pc : ℕ} → RunsAt g k s ts cs fuel pc → (r w : List Kept) → OnTop s (λ f t. map f r ≡ t.own.registers) → length w ≡ length r
+    → HasLuaTop (with_top s w)
+stays_so {g} {k} {s} {ts} {cs} {fuel} {pc} x r w o l =
+    stays_on_top g k s ts cs fuel x.may r pc x.runs (sym x.at_pc) (o (value g.around.texts) g.around.context.below x.may.top x.may.is) w o l

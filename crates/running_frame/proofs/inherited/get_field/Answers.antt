@@ -2,12 +2,11 @@ use Rattle.std.proofs.Common.{ap, sym, ◌∙◌, arith, refl}
 use Rattle.std.specs.Prelude.{slice_get, slice_set}
 use Rattle.code_core.specs.Instruction.{a_of}
 use Rattle.code_core.specs.declared.opcode.Opcode.TheVariants.{GetField}
-use Rattle.lua_heap.specs.Reading.{value}
 use Rattle.machine_arms_tables.specs.Frame.{code}
 use Rattle.machine_view.proofs.Places.{next_there, register_there}
 use Rattle.running_frame.specs.Inheriting.{metatable_number}
 use Rattle.running_frame.proofs.FoundFields.{field_goes, finds_here, read_at}
-use Rattle.running_frame.proofs.OnStack.{stays_on_top}
+use Rattle.running_frame.proofs.OnStack.{stays_so}
 use Rattle.running_frame.proofs.inherited.get_field.Goals as goal
 
 pub put-requires : goal.put-requires
@@ -25,11 +24,7 @@ next-to-requires g c =
     refl
 
 pub set_pc-requires : goal.set_pc-requires
-set_pc-requires g c =
-    let x = c.requires.0.runs in
-    let m = x.may in
-    stays_on_top g.g _ _ _ _ _ m c.registers_mut-registers.result.now c.args.pc x.runs (sym x.at_pc) (c.registers_mut-registers.ensures.registers (value g.g.around.texts) g.g.around.context.below m.top m.is)
-    c.put.new.registers c.registers_mut-registers.ensures.registers c.put.auto.registers
+set_pc-requires g c = stays_so c.requires.0.runs c.registers_mut-registers.result.now c.put.new.registers c.registers_mut-registers.ensures.registers c.put.auto.registers
 
 pub returns-clause-goes : goal.returns-clause-goes
 returns-clause-goes g c =

@@ -1,7 +1,7 @@
 use Rattle.std.proofs.Common.{map, refl, sym}
 use Rattle.lua_heap.specs.Reading.{value}
 use Rattle.lua_stack.specs.Frames.{with_registers}
-use Rattle.running_frame.proofs.OnStack.{loop_ready, loop_reaches, rewritten, runs_at, stays_on_top}
+use Rattle.running_frame.proofs.OnStack.{loop_ready, loop_reaches, rewritten, runs_at, stays_so}
 use Rattle.running_frame.proofs.stack.run_round.Goals as goal
 
 pub run_frame-pc-requires : goal.run_frame-pc-requires
@@ -13,13 +13,7 @@ run_frame-pc-requires g c =
     (loop_ready g.g _ _ _ _ _ m c.registers_mut-registers.result.now c.args.start x.runs (sym x.at_pc) (c.registers_mut-registers.ensures.registers v below m.top m.is), c.requires.1)
 
 pub set_pc-requires : goal.set_pc-requires
-set_pc-requires g c =
-    let x = c.requires.0 in
-    let m = x.may in
-    let v = value g.g.around.texts in
-    let below = g.g.around.context.below in
-    stays_on_top g.g _ _ _ _ _ m c.registers_mut-registers.result.now c.args.start x.runs (sym x.at_pc) (c.registers_mut-registers.ensures.registers v below m.top m.is)
-    c.run_frame-pc.new.registers c.registers_mut-registers.ensures.registers c.run_frame-pc.auto.registers
+set_pc-requires g c = stays_so c.requires.0 c.registers_mut-registers.result.now c.run_frame-pc.new.registers c.registers_mut-registers.ensures.registers c.run_frame-pc.auto.registers
 
 pub returns-clause-reaches : goal.returns-clause-reaches
 returns-clause-reaches g c =

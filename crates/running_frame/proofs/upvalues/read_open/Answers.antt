@@ -1,11 +1,10 @@
 use Rattle.std.proofs.Common.{◌≡◌, ap, sym, subst, ◌∙◌, arith, refl, rules, true}
 use Rattle.std.specs.Prelude.{slice_set}
 use Rattle.code_core.specs.Instruction.{a_of, b_of, opcode_of}
-use Rattle.lua_heap.specs.Reading.{value}
 use Rattle.machine_arms_tables.specs.Frame.{code}
 use Rattle.machine_view.proofs.Places.{next_there, register_there}
 use Rattle.running_frame.specs.Upvalues.{StandsOpen}
-use Rattle.running_frame.proofs.OnStack.{stays_on_top}
+use Rattle.running_frame.proofs.OnStack.{stays_so}
 use Rattle.running_frame.proofs.OpenRead.{lists_open, read_at, read_goes, read_is}
 use Rattle.running_frame.proofs.upvalues.read_open.Goals as goal
 
@@ -33,11 +32,7 @@ next-to-requires g c =
     next_there (read_at g.g (code c.args.closure g.g.around.texts) c.args.stack.now c.args.cells.now.objects c.args.pc c.registers_mut-registers.result.now c.registers_mut-registers.ensures.registers c.requires.0.tables c.requires.0.fuel c.requires.0.runs c.fetch-i.result c.fetch-i.ensures (read_is (opcode_of c.fetch-i.result) (sym c.is_read.ensures ∙ yes))) refl
 
 pub set_pc-requires : goal.set_pc-requires
-set_pc-requires g c =
-    let x = c.requires.0.runs in
-    let m = x.may in
-    stays_on_top g.g _ _ _ _ _ m c.registers_mut-registers.result.now c.args.pc x.runs (sym x.at_pc) (c.registers_mut-registers.ensures.registers (value g.g.around.texts) g.g.around.context.below m.top m.is)
-    c.put.new.registers c.registers_mut-registers.ensures.registers c.put.auto.registers
+set_pc-requires g c = stays_so c.requires.0.runs c.registers_mut-registers.result.now c.put.new.registers c.registers_mut-registers.ensures.registers c.put.auto.registers
 
 pub returns-clause-goes : goal.returns-clause-goes
 returns-clause-goes g c =
