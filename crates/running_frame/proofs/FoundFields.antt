@@ -11,7 +11,7 @@ use Rattle.code_core.specs.declared.proto.Const.{Const}
 use Rattle.int_core.specs.Heap.{Heap}
 use Rattle.int_core.specs.Operations.{index}
 use Rattle.int_core.specs.Value.{Value, is_known, known, nil}
-use Rattle.machine_core.specs.World.{for_value, lua}
+use Rattle.machine_core.specs.World.{for_value}
 use Rattle.machine_core.specs.FrameRows.{at_once, calls_row, expand, prepares, raises}
 use Rattle.machine_core.specs.InstructionRows.{gets, register_or_constant, row_of, to_register}
 use Rattle.machine_core.specs.MachineStep.{and_then, from_world, step, steps}
@@ -31,7 +31,7 @@ use Rattle.machine_view.proofs.Rows.{settles, write_map}
 use Rattle.table_core.specs.Table.{Contents}
 use Rattle.table_core.specs.declared.value.CellId.{CellId}
 use Rattle.table_core.specs.declared.value.Value.{Value as Kept}
-use Rattle.lua_stack.specs.Frames.{KeptStack, OnTop, TopBecomes, frames, with_pc, with_registers}
+use Rattle.lua_stack.specs.Frames.{KeptStack, OnTop, TopBecomes, with_pc}
 use Rattle.lua_stack.specs.Lending.{with_top}
 use Rattle.lua_heap.specs.declared.world.Cell.{Cell as KeptCell}
 use Rattle.lua_heap.specs.Plain.{cell, heap}
@@ -43,7 +43,7 @@ use Rattle.running_frame.specs.Inheriting.{Finds, GoesAmid, GoesWith}
 use Rattle.running_frame.specs.Standing.{RunsAt}
 use Rattle.running_frame.specs.Upvalues.{GoesOver}
 use Rattle.running_frame.proofs.FrameRows.{own_runs, row_is}
-use Rattle.running_frame.proofs.OnStack.{loop_reaches, rewritten, runs_at}
+use Rattle.running_frame.proofs.OnStack.{round_reaches, round_runs}
 use Rattle.running_frame.proofs.OpenRead.{ready_at}
 
 -- what the rows come to
@@ -175,18 +175,10 @@ module _ (g : Running) (k : Code) (s : KeptStack) (ts : List Contents) (pc : ℕ
     goes_amid : ((cs : List KeptCell) (fuel : ℕ) → RunsAt g k s ts cs fuel pc
         → IsReadyAt g.around g.string_metatable k (moment ts cs q to fuel) × RunsTo g.around g.string_metatable (moment ts cs r pc fuel) (moment ts cs q to fuel)) → GoesAmid g k s u ts pc to
     goes_amid stepped = record {
-      runs = λ cs fuel x.
-          runs_at g k s ts cs fuel x.may r pc x.runs (sym x.at_pc) (registers_are cs fuel x) u ts cs q to fuel (stepped cs fuel x).0 (becomes cs fuel x) b.cells refl;
-      reaches = λ cs fuel x.
-          loop_reaches g k s ts cs fuel x.may r pc x.runs (sym x.at_pc) (registers_are cs fuel x) u ts cs q to fuel (stepped cs fuel x).1 (becomes cs fuel x);
+      runs = λ cs fuel x. round_runs x r q lent long u ts cs to fuel b (stepped cs fuel x).0 refl;
+      reaches = λ cs fuel x. round_reaches x r q lent long u ts cs to fuel b (stepped cs fuel x).1;
       listed = b.cells;
     }
-      where
-        becomes : (cs : List KeptCell) (fuel : ℕ) (x : RunsAt g k s ts cs fuel pc)
-            → frames (value g.around.texts) u ≡ g.around.context.below ++ lua (with_pc to (with_registers (map (value g.around.texts) q) x.may.top)) ∷ []
-        becomes cs fuel x =
-            b.top (value g.around.texts) refl g.around.context.below (with_registers (map (value g.around.texts) q) x.may.top)
-            (rewritten g k s ts cs fuel x.may r pc x.runs (sym x.at_pc) (registers_are cs fuel x) q lent long)
 
     module _ (w : Instruction) (word : slice_get k.words pc ≡ Some w) (next : to ≡ pc + 1) (rs : List Kept) (are : OnTop s (λ f t. map f rs ≡ t.own.registers)) (object key v : Kept)
         (receiver : slice_get rs (b_of w) ≡ Some object) (name : slice_get k.constants (c_of w) ≡ Some key) (finds : Finds g.around.texts ts g.string_metatable object key v) where

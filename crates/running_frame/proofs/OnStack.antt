@@ -7,7 +7,7 @@ use Rattle.machine_focus.specs.Focus.{stacked, Reaches}
 use Rattle.machine_focus.specs.Law.{IsReady as IsHeldReady}
 use Rattle.table_core.specs.Table.{Contents}
 use Rattle.table_core.specs.declared.value.Value.{Value as Kept}
-use Rattle.lua_stack.specs.Frames.{KeptStack, cell_at, frames, HasLuaTop, OnTop, with_pc, with_registers}
+use Rattle.lua_stack.specs.Frames.{KeptStack, cell_at, frames, HasLuaTop, OnTop, TopBecomes, with_pc, with_registers}
 use Rattle.lua_stack.specs.Lending.{with_top}
 use Rattle.lua_stack.proofs.Lent.{lent_becomes}
 use Rattle.lua_heap.specs.declared.world.Cell.{Cell}
@@ -106,8 +106,24 @@ module _ (g : Running) (k : Code) (s : KeptStack) (ts : List Contents) (cs : Lis
       own_moved : moved.own ≡ own_with q to
       own_moved = activation_is moved.own to (map (value g.around.texts) q) g.around.varargs g.around.pending g.around.opened refl refl m.varargs m.pending m.opened
 
--- a frame that runs stays on top with other values in its registers
-pub stays_so : {g : Running} {k : Code} {s : KeptStack} {ts : List Contents} {cs : List Cell} {fuel pc : ℕ} → RunsAt g k s ts cs fuel pc → (r w : List Kept) → OnTop s (λ f t. map f r ≡ t.own.registers) → length w ≡ length r
-    → HasLuaTop (with_top s w)
-stays_so {g} {k} {s} {ts} {cs} {fuel} {pc} x r w o l =
-    stays_on_top g k s ts cs fuel x.may r pc x.runs (sym x.at_pc) (o (value g.around.texts) g.around.context.below x.may.top x.may.is) w o l
+-- a frame that runs, once other values are in its registers
+
+module _ {g : Running} {k : Code} {s : KeptStack} {ts : List Contents} {cs : List Cell} {fuel pc : ℕ} (x : RunsAt g k s ts cs fuel pc) (r w : List Kept) (lent : OnTop s (λ f t. map f r ≡ t.own.registers)) (long : length w ≡ length r) where
+  values_are : map (value g.around.texts) r ≡ x.may.top.own.registers
+  values_are = lent (value g.around.texts) g.around.context.below x.may.top x.may.is
+
+  -- it is still on top
+  pub stays_so : HasLuaTop (with_top s w)
+  stays_so = stays_on_top g k s ts cs fuel x.may r pc x.runs (sym x.at_pc) values_are w lent long
+
+  -- and what the loop has done, where its place is set behind that
+  module _ (u : KeptStack) (ts' : List Contents) (cs' : List Cell) (to left : ℕ) (b : TopBecomes (with_top s w) u (λ f t. with_pc to t)) where
+    set_behind : frames (value g.around.texts) u ≡ g.around.context.below ++ lua (with_pc to (with_registers (map (value g.around.texts) w) x.may.top)) ∷ []
+    set_behind =
+        b.top (value g.around.texts) refl g.around.context.below (with_registers (map (value g.around.texts) w) x.may.top) (rewritten g k s ts cs fuel x.may r pc x.runs (sym x.at_pc) values_are w lent long)
+
+    pub round_reaches : RunsTo g.around g.string_metatable (moment ts cs r pc fuel) (moment ts' cs' w to left) → Reaches g.around.rows (standing g s ts cs fuel) (standing g u ts' cs' left)
+    round_reaches h = loop_reaches g k s ts cs fuel x.may r pc x.runs (sym x.at_pc) values_are u ts' cs' w to left h set_behind
+
+    pub round_runs : IsReadyAt g.around g.string_metatable k (moment ts' cs' w to left) → AreOpenAlike cs cs' → RunsAt g k u ts' cs' left to
+    round_runs h a = runs_at g k s ts cs fuel x.may r pc x.runs (sym x.at_pc) values_are u ts' cs' w to left h set_behind b.cells a

@@ -1,12 +1,11 @@
 -- GETUPVAL of a variable that stands in a register of the same coroutine is a step that changes a register of the frame on top alone.
-use Rattle.std.proofs.Common.{◌≡◌, ℕ, ◌+◌, List, [], ◌∷◌, ◌++◌, length, map, Option, Some, None, refl, ap, sym, subst, ◌∙◌, arith, true}
+use Rattle.std.proofs.Common.{◌≡◌, ℕ, ◌+◌, List, [], length, map, Option, Some, None, refl, ap, sym, subst, ◌∙◌, arith, true}
 use Rattle.std.specs.Prelude.{slice_get, slice_set}
 use Rattle.code_core.specs.Check.{at}
 use Rattle.code_core.specs.Instruction.{a_of, b_of, opcode_of}
 use Rattle.code_core.specs.declared.instruction.Instruction.{Instruction}
 use Rattle.code_core.specs.declared.opcode.Opcode.{Opcode}
 use Rattle.code_core.specs.declared.opcode.Opcode.TheVariants.{GetUpval}
-use Rattle.machine_core.specs.World.{lua}
 use Rattle.machine_core.specs.Text.{trap}
 use Rattle.machine_core.specs.InstructionRows.{row_of, text_at, text_by}
 use Rattle.machine_core.specs.MachineStep.{steps, and_then}
@@ -15,7 +14,7 @@ use Rattle.machine_focus.proofs.Here.{held_is_step}
 use Rattle.machine_view.specs.View.{held, IsAt}
 use Rattle.table_core.specs.Table.{Contents}
 use Rattle.table_core.specs.declared.value.Value.{Value as Kept}
-use Rattle.lua_stack.specs.Frames.{KeptStack, OnTop, TopBecomes, frames, register_in, with_pc, with_registers}
+use Rattle.lua_stack.specs.Frames.{KeptStack, OnTop, TopBecomes, frames, register_in, with_pc}
 use Rattle.lua_stack.specs.Lending.{with_top}
 use Rattle.lua_heap.specs.declared.world.Cell.{Cell as KeptCell}
 use Rattle.lua_heap.specs.Plain.{cell, heap}
@@ -26,7 +25,7 @@ use Rattle.machine_loop.specs.Running.{Running}
 use Rattle.machine_loop.proofs.Recalled.{open_comes}
 use Rattle.running_frame.specs.Standing.{RunsAt}
 use Rattle.running_frame.specs.Upvalues.{GoesOver, ListsOpen, StandsOpen, is_read}
-use Rattle.running_frame.proofs.OnStack.{frames_are, loop_reaches, loop_ready, rewritten, runs_at}
+use Rattle.running_frame.proofs.OnStack.{frames_are, loop_ready, round_reaches, round_runs}
 
 pub read_is : (o : Option Opcode) → is_read o ≡ true → o ≡ Some GetUpval
 read_is (Some GetUpval) h = refl
@@ -78,19 +77,11 @@ module _ (g : Running) (k : Code) (s : KeptStack) (cs : List KeptCell) (pc : ℕ
   pub read_goes : (w : Instruction) → slice_get k.words pc ≡ Some w → opcode_of w ≡ Some GetUpval → (v : Kept) → StandsOpen g.around.context.coroutine k.upvalues s cs (b_of w) v
       → (q : List Kept) → q ≡ slice_set r (a_of w) v → length q ≡ length r → (to : ℕ) → to ≡ pc + 1 → (u : KeptStack) → TopBecomes (with_top s q) u (λ f t. with_pc to t) → GoesOver g k s u cs pc to
   read_goes w e o v open_there q written long to next u b = record {
-    runs = λ ts fuel x.
-        runs_at g k s ts cs fuel x.may r pc x.runs (sym x.at_pc) (registers_are ts fuel x) u ts cs q to fuel (stepped ts fuel x).0 (becomes ts fuel x) b.cells refl;
-    reaches = λ ts fuel x.
-        loop_reaches g k s ts cs fuel x.may r pc x.runs (sym x.at_pc) (registers_are ts fuel x) u ts cs q to fuel (stepped ts fuel x).1 (becomes ts fuel x);
+    runs = λ ts fuel x. round_runs x r q lent long u ts cs to fuel b (stepped ts fuel x).0 refl;
+    reaches = λ ts fuel x. round_reaches x r q lent long u ts cs to fuel b (stepped ts fuel x).1;
     listed = b.cells;
   }
     where
-      becomes : (ts : List Contents) (fuel : ℕ) (x : RunsAt g k s ts cs fuel pc)
-          → frames (value g.around.texts) u ≡ g.around.context.below ++ lua (with_pc to (with_registers (map (value g.around.texts) q) x.may.top)) ∷ []
-      becomes ts fuel x =
-          b.top (value g.around.texts) refl g.around.context.below (with_registers (map (value g.around.texts) q) x.may.top)
-          (rewritten g k s ts cs fuel x.may r pc x.runs (sym x.at_pc) (registers_are ts fuel x) q lent long)
-
       stepped : (ts : List Contents) (fuel : ℕ) → RunsAt g k s ts cs fuel pc
           → IsReadyAt g.around g.string_metatable k (moment ts cs q to fuel) × RunsTo g.around g.string_metatable (moment ts cs r pc fuel) (moment ts cs q to fuel)
       stepped ts fuel x =
