@@ -77,25 +77,19 @@ returns-then-step-eq0-clause-leads c =
 pub begin-requires-clause-safe : goal.begin-requires-clause-safe
 begin-requires-clause-safe c =
     let x = c.loop_values-values.ensures in
-    let e : c.loop_values-values.result.second ≡ Some c.in-Some.limit = search rules in
-    let f : c.loop_values-values.result.third ≡ Some c.in-Some-third.step = search rules in
-    let g : c.loop_values-values.result.first ≡ Some c.in-Some-first.from = search rules in
     let same = same_start c.args.base c.args.by c.in-Some-first.from c.in-Some.limit c.in-Some-third.step (search rules) (search rules) (search rules) in
     record {
       env = x.values;
-      safe = subst (λ t. IsSafe (expand t) x.values c.args.world.now) (sym same) (safe_as {q = expand (starts c.args.base c.args.by c.in-Some-first.from c.in-Some.limit c.in-Some-third.step)} {more = x.values} (c.requires.safe c.requires.at.place.function.code) (with_first c.args.base c.args.by x c.in-Some.limit e c.in-Some-third.step c.in-Some-first.from f g));
+      safe = subst (λ t. IsSafe (expand t) x.values c.args.world.now) (sym same) (safe_as {q = expand (starts c.args.base c.args.by c.in-Some-first.from c.in-Some.limit c.in-Some-third.step)} {more = x.values} (c.requires.safe c.requires.at.place.function.code) (with_first c.args.base c.args.by x c.in-Some.limit (search rules) c.in-Some-third.step c.in-Some-first.from (search rules) (search rules)));
     }
 
 pub returns-clause-leads : goal.returns-clause-leads
 returns-clause-leads c = λ p.
     let x = c.loop_values-values.ensures in
-    let e : c.loop_values-values.result.second ≡ Some c.in-Some.limit = search rules in
-    let f : c.loop_values-values.result.third ≡ Some c.in-Some-third.step = search rules in
-    let g : c.loop_values-values.result.first ≡ Some c.in-Some-first.from = search rules in
     let same = same_start c.args.base c.args.by c.in-Some-first.from c.in-Some.limit c.in-Some-third.step (search rules) (search rules) (search rules) in
     record {
       is = λ fuel.
-          with_first c.args.base c.args.by x c.in-Some.limit e c.in-Some-third.step c.in-Some-first.from f g fuel
+          with_first c.args.base c.args.by x c.in-Some.limit (search rules) c.in-Some-third.step c.in-Some-first.from (search rules) (search rules) fuel
           ∙ ap (λ t. run (expand t) x.values (plain c.args.world.now fuel)) (sym same)
           ∙ (c.begin.ensures.leads x.values).is fuel;
     }
