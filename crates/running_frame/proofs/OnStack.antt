@@ -1,5 +1,5 @@
 -- The frame on top of a stack: what the loop over it supposes, and what the loop has done to the stack.
-use Rattle.std.proofs.Common.{◌≡◌, ℕ, List, [], ◌∷◌, ◌++◌, length, map, refl, ap, sym, subst, ◌∙◌}
+use Rattle.std.proofs.Common.{◌≡◌, ℕ, ◌<◌, List, [], ◌∷◌, ◌++◌, length, map, refl, ap, sym, subst, ◌∙◌, arith}
 use Rattle.std.proofs.lemmas.List.{length-map}
 use Rattle.int_core.specs.Value.{Value}
 use Rattle.machine_core.specs.World.{running, Activation, LuaFrame, Frame, lua}
@@ -105,6 +105,10 @@ module _ (g : Running) (k : Code) (s : KeptStack) (ts : List Contents) (cs : Lis
 
       own_moved : moved.own ≡ own_with q to
       own_moved = activation_is moved.own to (map (value g.around.texts) q) g.around.varargs g.around.pending g.around.opened refl refl m.varargs m.pending m.opened
+
+-- a frame that runs is at a word of its code
+pub place_within : {g : Running} {k : Code} {s : KeptStack} {ts : List Contents} {cs : List Cell} {fuel pc : ℕ} → RunsAt g k s ts cs fuel pc → pc < length k.words
+place_within x = let l = x.may.within in let e = x.at_pc in omega (arith, l, e)
 
 -- a frame that runs, once other values are in its registers
 

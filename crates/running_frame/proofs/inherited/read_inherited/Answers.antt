@@ -1,12 +1,9 @@
-use Rattle.std.proofs.Common.{Some, ap, sym, ◌∙◌, arith}
+use Rattle.std.proofs.Common.{Some, ap, sym, ◌∙◌}
+use Rattle.running_frame.proofs.OnStack.{place_within}
 use Rattle.running_frame.proofs.inherited.read_inherited.Goals as goal
 
 pub fetch-i-requires : goal.fetch-i-requires
-fetch-i-requires g c =
-    let x = c.requires.0.runs in
-    let l = x.may.within in
-    let e = x.at_pc in
-    omega (arith, l, e)
+fetch-i-requires g c = place_within c.requires.0.runs
 
 pub get_field-requires : goal.get_field-requires
 get_field-requires g c =

@@ -4,16 +4,12 @@ use Rattle.code_core.specs.Instruction.{a_of, b_of, opcode_of}
 use Rattle.machine_arms_tables.specs.Frame.{code}
 use Rattle.machine_view.proofs.Places.{next_there, register_there}
 use Rattle.running_frame.specs.Upvalues.{StandsOpen}
-use Rattle.running_frame.proofs.OnStack.{stays_so}
+use Rattle.running_frame.proofs.OnStack.{place_within, stays_so}
 use Rattle.running_frame.proofs.OpenRead.{lists_open, read_at, read_goes, read_is}
 use Rattle.running_frame.proofs.upvalues.read_open.Goals as goal
 
 pub fetch-i-requires : goal.fetch-i-requires
-fetch-i-requires g c =
-    let x = c.requires.0.runs in
-    let l = x.may.within in
-    let e = x.at_pc in
-    omega (arith, l, e)
+fetch-i-requires g c = place_within c.requires.0.runs
 
 pub open_value-requires : goal.open_value-requires
 open_value-requires g c = lists_open c.args.co.0 c.requires.1 c.requires.0.runs
