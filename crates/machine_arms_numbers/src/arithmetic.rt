@@ -6,7 +6,7 @@ ghost use Rattle.int_core.specs.Value.{bind};
 ghost use Rattle.machine_arms_numbers.specs.Numbers.{event_of, has_registers, has_constant};
 ghost use Rattle.machine_view.specs.View.{IsAt, Goes};
 
-use crate::registers::{behind, constant, get_b, get_c, integer, set_a_integer};
+use crate::registers::{behind, constant, get_b, get_c, integer, put_integer};
 use code_core::{Instruction, Opcode};
 use int_core::{add, floor_div, floor_mod, mul, neg, shl, shr, sub};
 use table_core::Value;
@@ -95,8 +95,7 @@ pub(crate) fn with_registers(
         return Some(behind(words, pc, 1));
     };
     let k = computed(op, m, n)?;
-    set_a_integer(registers, i, k);
-    Some(behind(words, pc, 2))
+    Some(put_integer(words, registers, i, pc, k, 2))
 }
 
 /// ADDK to BXORK: R[A] := R[B] op K[C]. `None` is a division by zero.
@@ -121,8 +120,7 @@ pub(crate) fn with_constant(
         return Some(behind(words, pc, 1));
     };
     let k = computed(op, m, n)?;
-    set_a_integer(registers, i, k);
-    Some(behind(words, pc, 2))
+    Some(put_integer(words, registers, i, pc, k, 2))
 }
 
 /// ADDI: R[A] := R[B] + sC.
@@ -140,8 +138,7 @@ pub(crate) fn add_number(
     let Some(m) = integer(get_b(registers, i)) else {
         return behind(words, pc, 1);
     };
-    set_a_integer(registers, i, add(m, i64::from(i.sc())));
-    behind(words, pc, 2)
+    put_integer(words, registers, i, pc, add(m, i64::from(i.sc())), 2)
 }
 
 /// SHRI: R[A] := R[B] >> sC.
@@ -159,8 +156,7 @@ pub(crate) fn shift_right_by(
     let Some(m) = integer(get_b(registers, i)) else {
         return behind(words, pc, 1);
     };
-    set_a_integer(registers, i, shr(m, i64::from(i.sc())));
-    behind(words, pc, 2)
+    put_integer(words, registers, i, pc, shr(m, i64::from(i.sc())), 2)
 }
 
 /// SHLI: R[A] := sC << R[B].
@@ -178,8 +174,7 @@ pub(crate) fn shift_number_left(
     let Some(m) = integer(get_b(registers, i)) else {
         return behind(words, pc, 1);
     };
-    set_a_integer(registers, i, shl(i64::from(i.sc()), m));
-    behind(words, pc, 2)
+    put_integer(words, registers, i, pc, shl(i64::from(i.sc()), m), 2)
 }
 
 /// UNM: R[A] := -R[B].
@@ -196,8 +191,7 @@ pub(crate) fn negate(
     ensures kept { IfNone result (registers.new ≡ registers.old) }
 {
     let n = integer(get_b(registers, i))?;
-    set_a_integer(registers, i, neg(n));
-    Some(behind(words, pc, 1))
+    Some(put_integer(words, registers, i, pc, neg(n), 1))
 }
 
 /// BNOT: R[A] := ~R[B].
@@ -214,6 +208,5 @@ pub(crate) fn complement(
     ensures kept { IfNone result (registers.new ≡ registers.old) }
 {
     let n = integer(get_b(registers, i))?;
-    set_a_integer(registers, i, flipped(n));
-    Some(behind(words, pc, 1))
+    Some(put_integer(words, registers, i, pc, flipped(n), 1))
 }

@@ -125,6 +125,25 @@ pub(crate) fn behind(words: &[Instruction], pc: usize, by: usize) -> usize
     pc + by
 }
 
+/// R[A] := an integer, and the place `by` behind the instruction.
+#[inline(always)]
+pub(crate) fn put_integer(
+    words: &[Instruction],
+    registers: &mut [Value],
+    i: Instruction,
+    pc: usize,
+    n: i64,
+    by: usize,
+) -> usize
+    requires there { a_of i < length registers.old }
+    requires next { pc + by < length words.now }
+    ensures registers { registers.new ≡ slice_set registers.old (a_of i) (Int n) }
+    ensures next { result ≡ pc + by }
+{
+    set_a_integer(registers, i, n);
+    behind(words, pc, by)
+}
+
 /// The place behind a test: the next instruction is passed over where the truth is not k.
 #[inline(always)]
 pub(crate) fn branch(words: &[Instruction], i: Instruction, pc: usize, truth: bool) -> usize

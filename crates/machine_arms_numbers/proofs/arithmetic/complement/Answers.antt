@@ -22,13 +22,10 @@ use Rattle.machine_arms_numbers.proofs.arithmetic.complement.Goals as goal
 pub get_b-requires : goal.get_b-requires
 get_b-requires c = register_there c.requires 1 (b_of c.args.i) refl
 
-pub set_a_integer-requires : goal.set_a_integer-requires
-set_a_integer-requires c = register_there c.requires 0 (a_of c.args.i) refl
-
-pub behind-requires : goal.behind-requires
-behind-requires c = next_there c.requires refl
+pub put_integer-requires : goal.put_integer-requires
+put_integer-requires c = record { there = register_there c.requires 0 (a_of c.args.i) refl; next = next_there c.requires refl }
 
 pub returns-clause-goes : goal.returns-clause-goes
 returns-clause-goes c =
-    let t : c.set_a_integer.new.registers ≡ slice_set c.args.registers.now (a_of c.args.i) (Int (negsuc 0 -ℤ c.in_ok-n.n)) = search rules in
-    unary_does c.requires of_bnot (λ p. refl) refl (register_there c.requires 0 (a_of c.args.i) refl) c.get_b.result c.in_ok-n.n (negsuc 0 -ℤ c.in_ok-n.n) c.get_b.ensures c.in_ok-n.ensures refl t c.behind.ensures
+    let t : c.put_integer.new.registers ≡ slice_set c.args.registers.now (a_of c.args.i) (Int (negsuc 0 -ℤ c.in_ok-n.n)) = search rules in
+    unary_does c.requires of_bnot (λ p. refl) refl (register_there c.requires 0 (a_of c.args.i) refl) c.get_b.result c.in_ok-n.n (negsuc 0 -ℤ c.in_ok-n.n) c.get_b.ensures c.in_ok-n.ensures refl t c.put_integer.ensures.next

@@ -28,13 +28,10 @@ behind-requires c = next_there c.requires refl
 pub returns-in_default : goal.returns-in_default
 returns-in_default c = number_left c.requires of_shl (λ o. Some (sc_of c.args.i)) (λ o. o) (λ p. refl) refl refl c.get_b.result c.get_b.ensures c.in_default.ensures (inr refl) c.behind.ensures
 
-pub set_a_integer-requires : goal.set_a_integer-requires
-set_a_integer-requires c = register_there c.requires 0 (a_of c.args.i) refl
-
-pub behind-requires-2 : goal.behind-requires-2
-behind-requires-2 c = behind_there c.requires MmBinI refl refl
+pub put_integer-requires : goal.put_integer-requires
+put_integer-requires c = record { there = register_there c.requires 0 (a_of c.args.i) refl; next = behind_there c.requires MmBinI refl refl }
 
 pub returns : goal.returns
 returns c =
-    let t : c.set_a_integer.new.registers ≡ slice_set c.args.registers.now (a_of c.args.i) (Int (shl (sc_of c.args.i) c.in-Some.m)) = search rules in
-    number_both c.requires of_shl (λ o. Some (sc_of c.args.i)) (λ o. o) (λ p. refl) refl refl c.get_b.result c.in-Some.m (sc_of c.args.i) c.in-Some.m (shl (sc_of c.args.i) c.in-Some.m) c.get_b.ensures c.in-Some.ensures refl refl refl (register_there c.requires 0 (a_of c.args.i) refl) t c.behind-2.ensures
+    let t : c.put_integer.new.registers ≡ slice_set c.args.registers.now (a_of c.args.i) (Int (shl (sc_of c.args.i) c.in-Some.m)) = search rules in
+    number_both c.requires of_shl (λ o. Some (sc_of c.args.i)) (λ o. o) (λ p. refl) refl refl c.get_b.result c.in-Some.m (sc_of c.args.i) c.in-Some.m (shl (sc_of c.args.i) c.in-Some.m) c.get_b.ensures c.in-Some.ensures refl refl refl (register_there c.requires 0 (a_of c.args.i) refl) t c.put_integer.ensures.next

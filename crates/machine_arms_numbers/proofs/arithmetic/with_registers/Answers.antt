@@ -37,14 +37,11 @@ behind-requires-in_default-integer c = registers_next c.requires.at c.requires.f
 pub returns-in_default-integer-clause-goes : goal.returns-in_default-integer-clause-goes
 returns-in_default-integer-clause-goes c = registers_right c.requires.at c.requires.form c.get_b.result c.get_c.result c.get_b.ensures c.get_c.ensures c.in_default-integer.ensures c.behind-in_default-integer.ensures
 
-pub set_a_integer-requires : goal.set_a_integer-requires
-set_a_integer-requires c = register_named c.requires.at c.requires.form 0 (a_of c.args.i) refl
-
-pub behind-requires-2 : goal.behind-requires-2
-behind-requires-2 c = registers_skip c.requires.at c.requires.form
+pub put_integer-requires : goal.put_integer-requires
+put_integer-requires c = record { there = register_named c.requires.at c.requires.form 0 (a_of c.args.i) refl; next = registers_skip c.requires.at c.requires.form }
 
 pub returns-clause-goes : goal.returns-clause-goes
 returns-clause-goes c =
-    let t : c.set_a_integer.new.registers ≡ slice_set c.args.registers.now (a_of c.args.i) (Int c.in_ok-k.k) = search rules in
+    let t : c.put_integer.new.registers ≡ slice_set c.args.registers.now (a_of c.args.i) (Int c.in_ok-k.k) = search rules in
     let q : Some c.in_ok-k.k ≡ bind (event_of c.args.op) (λ event. computed event c.in-Some.m c.in-Some-integer.n) = search rules in
-    registers_both c.requires.at c.requires.form c.get_b.result c.get_c.result c.in-Some.m c.in-Some-integer.n c.in_ok-k.k c.get_b.ensures c.get_c.ensures c.in-Some.ensures c.in-Some-integer.ensures q t c.behind-2.ensures
+    registers_both c.requires.at c.requires.form c.get_b.result c.get_c.result c.in-Some.m c.in-Some-integer.n c.in_ok-k.k c.get_b.ensures c.get_c.ensures c.in-Some.ensures c.in-Some-integer.ensures q t c.put_integer.ensures.next
