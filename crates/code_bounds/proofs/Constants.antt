@@ -4,11 +4,12 @@ use Rattle.std.proofs.lemmas.Option.{slice_get_within}
 use Rattle.tree_core.specs.declared.name.Place.{Place}
 use Rattle.tree_core.specs.declared.name.Place.TheVariants.{Unset, Upvalue, GlobalIn, GlobalOf, Local as LocalPlace}
 use Rattle.tree_core.specs.Tree.{Block, Falls, Returns, Stats, EndStats, MoreStats, Stat, Local, Assign, CallStat, Do, While, Repeat, If, IfElse, NumFor, NumForStep, GenFor, Arms, EndArms, MoreArms, Exp, Int, Str, Var, Index, Call, Method, Unary, Binary, And, Or, Paren, Table, Exps, EndExps, MoreExps, Fields, EndFields, MoreFields, Field, Item, Keyed}
+use Rattle.tree_terms.specs.Asked.{ExpMeets, ExpsMeet, FieldsMeet, FieldMeets, StatMeets, ArmsMeet, StatsMeet}
 use Rattle.code_core.specs.declared.proto.Const.{Const}
 use Rattle.code_core.specs.declared.proto.Const.TheVariants.{Int as IntConst, Str as StrConst}
 use Rattle.code_of.specs.Constants.{same_constant, number_in, with_constant, is_small, with_any, of_name, of_exp, of_exps, of_fields, of_field, of_stat, of_arms, of_stats, of_block, Found}
 use Rattle.code_of.specs.ConstantOperands.{any_constant, constant_of, stored_constant}
-use Rattle.code_bounds.specs.Constants.{Has, NameHas, ExpHas, ExpsHave, FieldsHave, FieldHas, StatHas, ArmsHave, StatsHave, BlockHas, ConstantsAreNumbered}
+use Rattle.code_bounds.specs.Constants.{Has, NameHas, BlockHas, ConstantsAreNumbered, all_constants}
 use Rattle.code_of.proofs.Constants.{same_int, same_text, same_is}
 
 -- of the kinds that trees have
@@ -159,7 +160,7 @@ int_has z cs ds k great =
     kept (IntConst z) (int_there z cs)
 
 mutual
-  pub exp_has : (e : Exp) (cs ds : List Const) → Keeps (of_exp e cs) ds → ExpHas ds e
+  pub exp_has : (e : Exp) (cs ds : List Const) → Keeps (of_exp e cs) ds → ExpMeets (all_constants ds) e
   exp_has (Int line z) cs ds k = int_has z cs ds k
   exp_has (Str line bytes) cs ds k = k (StrConst bytes) (text_there bytes cs)
   exp_has (Var line name) cs ds k = name_has name.place name.text cs ds k
@@ -183,15 +184,15 @@ mutual
   exp_has (Table line fs) cs ds k = fields_have fs cs ds k
   exp_has _ cs ds k = tt
 
-  pub exps_have : (es : Exps) (cs ds : List Const) → Keeps (of_exps es cs) ds → ExpsHave ds es
+  pub exps_have : (es : Exps) (cs ds : List Const) → Keeps (of_exps es cs) ds → ExpsMeet (all_constants ds) es
   exps_have EndExps cs ds k = tt
   exps_have (MoreExps e es) cs ds k = (exp_has e cs ds (λ x h. k x (keeps_exps es (of_exp e cs) x h)), exps_have es (of_exp e cs) ds k)
 
-  fields_have : (fs : Fields) (cs ds : List Const) → Keeps (of_fields fs cs) ds → FieldsHave ds fs
+  fields_have : (fs : Fields) (cs ds : List Const) → Keeps (of_fields fs cs) ds → FieldsMeet (all_constants ds) fs
   fields_have EndFields cs ds k = tt
   fields_have (MoreFields f fs) cs ds k = (field_has f cs ds (λ x h. k x (keeps_fields fs (of_field f cs) x h)), fields_have fs (of_field f cs) ds k)
 
-  field_has : (f : Field) (cs ds : List Const) → Keeps (of_field f cs) ds → FieldHas ds f
+  field_has : (f : Field) (cs ds : List Const) → Keeps (of_field f cs) ds → FieldMeets (all_constants ds) f
   field_has (Item e) cs ds k = exp_has e cs ds k
   field_has (Keyed line e d) cs ds k =
       let value = with_any (any_constant d) (of_exp e cs) in
@@ -199,7 +200,7 @@ mutual
       (exp_has e cs ds (λ x h. kept x (any_keeps (any_constant d) (of_exp e cs) x h)), exp_has d value ds k)
 
 mutual
-  stat_has : (s : Stat) (cs ds : List Const) → Keeps (of_stat s cs) ds → StatHas ds s
+  stat_has : (s : Stat) (cs ds : List Const) → Keeps (of_stat s cs) ds → StatMeets (all_constants ds) s
   stat_has (Local line names es) cs ds k = exps_have es cs ds k
   stat_has (Assign line targets es) cs ds k =
       let value = with_any (stored_constant targets es) (of_exps targets cs) in
@@ -230,7 +231,7 @@ mutual
       (exps_have es cs ds (λ x h. k x (keeps_block block (of_exps es cs) x h)), block_has block (of_exps es cs) ds k)
   stat_has _ cs ds k = tt
 
-  arms_have : (arms : Arms) (cs ds : List Const) → Keeps (of_arms arms cs) ds → ArmsHave ds arms
+  arms_have : (arms : Arms) (cs ds : List Const) → Keeps (of_arms arms cs) ds → ArmsMeet (all_constants ds) arms
   arms_have EndArms cs ds k = tt
   arms_have (MoreArms e block arms) cs ds k =
       let first = of_exp e cs in
@@ -238,7 +239,7 @@ mutual
       let kept : Keeps second ds = λ x h. k x (keeps_arms arms second x h) in
       (exp_has e cs ds (λ x h. kept x (keeps_block block first x h)), (block_has block first ds kept, arms_have arms second ds k))
 
-  stats_have : (ss : Stats) (cs ds : List Const) → Keeps (of_stats ss cs) ds → StatsHave ds ss
+  stats_have : (ss : Stats) (cs ds : List Const) → Keeps (of_stats ss cs) ds → StatsMeet (all_constants ds) ss
   stats_have EndStats cs ds k = tt
   stats_have (MoreStats s ss) cs ds k = (stat_has s cs ds (λ x h. k x (keeps_stats ss (of_stat s cs) x h)), stats_have ss (of_stat s cs) ds k)
 

@@ -39,7 +39,7 @@ more_params_kept xs room ready =
 
 block_held : (ss : List tree.Stat) (es : Option (List tree.Exp)) (n k m line : ℕ) → n ≤ k → ItemsHold ss es n m → BlockHolds (block_of ss es k line) k m
 block_held ss None n k m line le c = (omega (arith, le, c.0), c.1, (omega (arith, le, c.0), c.2))
-block_held ss (Some es) n k m line le c = (omega (arith, le, c.0), c.1, (omega (arith, le, c.0), c.2.0, c.2.1))
+block_held ss (Some es) n k m line le c = (omega (arith, le, c.0), c.1, (omega (arith, le, c.0), (c.2.0, c.2.1)))
 
 pub block_kept : Kept block
 block_kept room ready =
@@ -67,7 +67,7 @@ do_block_kept room ready =
 
 pub arms_kept : Kept arms
 arms_kept room ready =
-    on_an_arm tt (λ e b h k j c. only_reads (more_arms ((e, b) ∷ []) h) (c.2.0, c.2.1, tt) (λ p k' j' d. more p (omega (arith, c.0)) (omega (arith, c.1)) d))
+    on_an_arm tt (λ e b h k j c. only_reads (more_arms ((e, b) ∷ []) h) (c.2.0, (c.2.1, tt)) (λ p k' j' d. more p (omega (arith, c.0)) (omega (arith, c.1)) d))
 
 pub more_arms_kept : (as' : List (tree.Exp × tree.Block)) (height : ℕ) → Kept (more_arms as' height)
 more_arms_kept as' height room ready =

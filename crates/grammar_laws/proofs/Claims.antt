@@ -11,7 +11,8 @@ use Rattle.token_cursor.specs.Words.{Lexeme, is_word}
 use Rattle.lua_parse.specs.Moves.{Piece, a_line, a_name, some_names, some_params, a_declared, some_declared, an_exp, maybe_exp, some_exps, a_field, some_fields, a_target, an_arm, some_arms, some_items, a_stat, a_block, maybe_block, a_body, Part, chunk, word, behind, more_fields, suffixes, suffix, dotted, indexed, method, call, method_arguments, arguments, listed, string_argument, more_exps, items, do_block, more_arms, numeric, generic, more_names, path, local_function, local_names, more_declared, assignment, more_targets}
 use Rattle.tree_terms.specs.Weight.{weight, weight_of_arguments, weight_of_exps, weight_of_fields, weight_of_field, weight_of_stat, weight_of_arms, weight_of_stats, weight_of_block, weight_of_body}
 use Rattle.tree_terms.specs.FunctionCount.{functions, functions_in_exps, functions_in_fields, functions_in_field, functions_in_stat, functions_in_arms, functions_in_stats, functions_in_block, functions_in_body}
-use Rattle.grammar_laws.specs.Counted.{ExpIsCounted, ExpsAreCounted, FieldsAreCounted, FieldIsCounted, StatIsCounted, ArmsAreCounted, StatsAreCounted, BlockIsCounted, BodyIsCounted}
+use Rattle.tree_terms.specs.Asked.{ExpMeets, ExpsMeet, FieldsMeet, FieldMeets, StatMeets, ArmsMeet, StatsMeet}
+use Rattle.grammar_laws.specs.Counted.{BlockIsCounted, BodyIsCounted, all_counted}
 
 -- tokens `function`
 
@@ -34,22 +35,22 @@ opens_function_as w = opens_function (spelling w)
 -- what a piece of tree weighs and has
 
 abbrev pub ExpHolds : tree.Exp → (n m : ℕ) → Type 0
-ExpHolds e n m = (weight e ≤ n) × (functions e ≤ m) × ExpIsCounted e
+ExpHolds e n m = (weight e ≤ n) × (functions e ≤ m) × ExpMeets all_counted e
 
 abbrev pub ExpsHold : tree.Exps → (n m : ℕ) → Type 0
-ExpsHold es n m = (weight_of_exps es ≤ n) × (functions_in_exps es ≤ m) × ExpsAreCounted es
+ExpsHold es n m = (weight_of_exps es ≤ n) × (functions_in_exps es ≤ m) × ExpsMeet all_counted es
 
 abbrev pub ArgumentsHold : tree.Exps → (n m : ℕ) → Type 0
-ArgumentsHold es n m = (weight_of_arguments es ≤ n) × (functions_in_exps es ≤ m) × ExpsAreCounted es
+ArgumentsHold es n m = (weight_of_arguments es ≤ n) × (functions_in_exps es ≤ m) × ExpsMeet all_counted es
 
 abbrev pub FieldHolds : tree.Field → (n m : ℕ) → Type 0
-FieldHolds f n m = (weight_of_field f ≤ n) × (functions_in_field f ≤ m) × FieldIsCounted f
+FieldHolds f n m = (weight_of_field f ≤ n) × (functions_in_field f ≤ m) × FieldMeets all_counted f
 
 abbrev pub FieldsHold : tree.Fields → (n m : ℕ) → Type 0
-FieldsHold fs n m = (weight_of_fields fs ≤ n) × (functions_in_fields fs ≤ m) × FieldsAreCounted fs
+FieldsHold fs n m = (weight_of_fields fs ≤ n) × (functions_in_fields fs ≤ m) × FieldsMeet all_counted fs
 
 abbrev pub StatHolds : tree.Stat → (n m : ℕ) → Type 0
-StatHolds s n m = (weight_of_stat s ≤ n) × (functions_in_stat s ≤ m) × StatIsCounted s
+StatHolds s n m = (weight_of_stat s ≤ n) × (functions_in_stat s ≤ m) × StatMeets all_counted s
 
 abbrev pub BlockHolds : tree.Block → (n m : ℕ) → Type 0
 BlockHolds b n m = (weight_of_block b ≤ n) × (functions_in_block b ≤ m) × BlockIsCounted b
@@ -58,17 +59,17 @@ abbrev pub BodyHolds : tree.Body → (n m : ℕ) → Type 0
 BodyHolds b n m = (weight_of_body b ≤ n) × (functions_in_body b ≤ m) × BodyIsCounted b
 
 abbrev pub ArmsHold : tree.Arms → (n m : ℕ) → Type 0
-ArmsHold as' n m = (weight_of_arms as' ≤ n) × (functions_in_arms as' ≤ m) × ArmsAreCounted as'
+ArmsHold as' n m = (weight_of_arms as' ≤ n) × (functions_in_arms as' ≤ m) × ArmsMeet all_counted as'
 
 abbrev pub ItemsHold : List tree.Stat → Option (List tree.Exp) → (n m : ℕ) → Type 0
-ItemsHold ss None n m = (weight_of_stats (tree.stats ss) ≤ n) × (functions_in_stats (tree.stats ss) ≤ m) × StatsAreCounted (tree.stats ss)
+ItemsHold ss None n m = (weight_of_stats (tree.stats ss) ≤ n) × (functions_in_stats (tree.stats ss) ≤ m) × StatsMeet all_counted (tree.stats ss)
 ItemsHold ss (Some es) n m =
     (weight_of_stats (tree.stats ss) + weight_of_exps (tree.exps es) + 1 ≤ n) × (functions_in_stats (tree.stats ss) + functions_in_exps (tree.exps es) ≤ m)
-    × (StatsAreCounted (tree.stats ss) × ExpsAreCounted (tree.exps es))
+    × (StatsMeet all_counted (tree.stats ss) × ExpsMeet all_counted (tree.exps es))
 
 abbrev pub StepHolds : Option tree.Exp → (n m : ℕ) → Type 0
 StepHolds None n m = Unit {0}
-StepHolds (Some e) n m = (weight e + 1 ≤ n) × (functions e ≤ m) × ExpIsCounted e
+StepHolds (Some e) n m = (weight e + 1 ≤ n) × (functions e ≤ m) × ExpMeets all_counted e
 
 abbrev pub ElseHolds : Option tree.Block → (n m : ℕ) → Type 0
 ElseHolds None n m = Unit {0}
@@ -87,7 +88,7 @@ Holds (some_exps es) n m = ExpsHold (tree.exps es) n m
 Holds (a_field f) n m = FieldHolds f n m
 Holds (some_fields fs) n m = FieldsHold (tree.fields fs) n m
 Holds (a_target e own) n m = ExpHolds e n m
-Holds (an_arm e b) n m = (weight e + weight_of_block b + 1 ≤ n) × (functions e + functions_in_block b ≤ m) × (ExpIsCounted e × BlockIsCounted b)
+Holds (an_arm e b) n m = (weight e + weight_of_block b + 1 ≤ n) × (functions e + functions_in_block b ≤ m) × (ExpMeets all_counted e × BlockIsCounted b)
 Holds (some_arms as') n m = ArmsHold (tree.arms as') n m
 Holds (some_items ss es line) n m = ItemsHold ss es n m
 Holds (a_stat s) n m = StatHolds s n m
@@ -101,7 +102,7 @@ HoldsAsArguments _ n m = ⊥
 
 -- with the bracket behind them
 abbrev pub HoldsAsFields : Piece → (n m : ℕ) → Type 0
-HoldsAsFields (some_fields fs) n m = (weight_of_fields (tree.fields fs) + 1 ≤ n) × (functions_in_fields (tree.fields fs) ≤ m) × FieldsAreCounted (tree.fields fs)
+HoldsAsFields (some_fields fs) n m = (weight_of_fields (tree.fields fs) + 1 ≤ n) × (functions_in_fields (tree.fields fs) ≤ m) × FieldsMeet all_counted (tree.fields fs)
 HoldsAsFields _ n m = ⊥
 
 -- with `do` and `end`
@@ -172,18 +173,18 @@ written (more_targets ts height) = functions_in_exps (tree.exps ts)
 written _ = 0
 
 abbrev pub IsReady : Part → Type 0
-IsReady (behind level left height) = ExpIsCounted left
-IsReady (more_fields fs height) = FieldsAreCounted (tree.fields fs)
-IsReady (suffixes left height) = ExpIsCounted left
-IsReady (suffix left height) = ExpIsCounted left
-IsReady (dotted w left height) = ExpIsCounted left
-IsReady (indexed left height) = ExpIsCounted left
-IsReady (method left height) = ExpIsCounted left
-IsReady (call left height) = ExpIsCounted left
-IsReady (more_exps es height) = ExpsAreCounted (tree.exps es)
-IsReady (items ss height) = StatsAreCounted (tree.stats ss)
-IsReady (more_arms as' height) = ArmsAreCounted (tree.arms as')
-IsReady (path left height) = ExpIsCounted left
-IsReady (assignment line first height) = ExpIsCounted first
-IsReady (more_targets ts height) = ExpsAreCounted (tree.exps ts)
+IsReady (behind level left height) = ExpMeets all_counted left
+IsReady (more_fields fs height) = FieldsMeet all_counted (tree.fields fs)
+IsReady (suffixes left height) = ExpMeets all_counted left
+IsReady (suffix left height) = ExpMeets all_counted left
+IsReady (dotted w left height) = ExpMeets all_counted left
+IsReady (indexed left height) = ExpMeets all_counted left
+IsReady (method left height) = ExpMeets all_counted left
+IsReady (call left height) = ExpMeets all_counted left
+IsReady (more_exps es height) = ExpsMeet all_counted (tree.exps es)
+IsReady (items ss height) = StatsMeet all_counted (tree.stats ss)
+IsReady (more_arms as' height) = ArmsMeet all_counted (tree.arms as')
+IsReady (path left height) = ExpMeets all_counted left
+IsReady (assignment line first height) = ExpMeets all_counted first
+IsReady (more_targets ts height) = ExpsMeet all_counted (tree.exps ts)
 IsReady _ = Unit {0}

@@ -17,7 +17,8 @@ use Rattle.lua_parse.specs.Moves.{an_exp, Part, chain, behind, unary, simple, ta
 use Rattle.lua_parse.specs.Grammar.{operand, right_operand, operator_move, unary_move, string_move, item_move}
 use Rattle.tree_terms.specs.Weight.{weight}
 use Rattle.tree_terms.specs.FunctionCount.{functions}
-use Rattle.grammar_laws.specs.Counted.{ExpIsCounted}
+use Rattle.tree_terms.specs.Asked.{ExpMeets}
+use Rattle.grammar_laws.specs.Counted.{all_counted}
 use Rattle.grammar_laws.proofs.Claims.{ExpHolds, Claim, carried, written, IsReady}
 use Rattle.grammar_laws.proofs.SizeKeeping.{opened, Keeps, picks, passes, refuses, reads, ends, either, either_by, passes_if, on_a_line, on_a_name, on_an_exp, on_some_exps, on_a_field, on_some_fields, on_a_body, only_reads, more, more_arguments, more_fields_hold}
 use Rattle.grammar_laws.proofs.Lists.{exps_weigh, exps_have, exps_counted, fields_weigh, fields_have, fields_counted, arguments_weigh}
@@ -35,7 +36,7 @@ joined_has joining.Or line a b = refl
 joined_has joining.And line a b = refl
 joined_has (joining.Binary op) line a b = refl
 
-joined_counted : (op : Infix) (line : ℕ) (a b : tree.Exp) → ExpIsCounted a → ExpIsCounted b → ExpIsCounted (joined op line a b)
+joined_counted : (op : Infix) (line : ℕ) (a b : tree.Exp) → ExpMeets all_counted a → ExpMeets all_counted b → ExpMeets all_counted (joined op line a b)
 joined_counted joining.Or line a b h k = (h, k)
 joined_counted joining.And line a b h k = (h, k)
 joined_counted (joining.Binary op) line a b h k = (h, k)

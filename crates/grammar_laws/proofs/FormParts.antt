@@ -5,6 +5,7 @@ use Rattle.tree_core.specs.declared.name.Name.{Name}
 use Rattle.tree_core.specs.declared.operator.UnOp.{UnOp}
 use Rattle.tree_core.specs.Tree as tree
 use Rattle.tree_core.specs.Plain.{block_of, if_of, num_for_of}
+use Rattle.tree_terms.specs.Asked.{ExpMeets, ExpsMeet, FieldsMeet, FieldMeets, StatMeets, ArmsMeet, StatsMeet}
 use Rattle.tree_making.specs.Made.{above, joined}
 use Rattle.tree_making.specs.Form.{is_target, is_call, variable_of}
 use Rattle.tree_making.specs.declared.operator.Infix.{Infix}
@@ -22,7 +23,7 @@ use Rattle.lua_parse.specs.Words.{literal, constant_of}
 use Rattle.lua_parse.specs.Moves.{an_exp, Part, chunk, word, opener, name, chain, behind, unary, simple, table, more_fields, separated_field, field, keyed, item, prefix, primary, paren, suffixes, suffix, dotted, indexed, method, call, method_arguments, arguments, listed, string_argument, explist, more_exps, body, params, more_params, block, items, returned, stat, label_stat, goto_stat, do_stat, while_stat, repeat_stat, if_stat, arms, more_arms, arm, else_part, do_block, for_stat, numeric, step, generic, more_names, function_stat, function_name, path, local_stat, local_function, local_names, more_declared, declared, values, prefix_stat, assignment, more_targets, Move}
 use Rattle.lua_parse.specs.Grammar.{expects, name_move, constant_move, operand, right_operand, operator_move, unary_move, string_move, item_move, stat_move}
 use Rattle.grammar_laws.proofs.Operands.{operand_has, right_has}
-use Rattle.grammar_laws.specs.Formed.{IsCall, IsNameOrIndex, AreTargets, ExpIsFormed, ExpsAreFormed, FieldsAreFormed, FieldIsFormed, StatIsFormed, ArmsAreFormed, StatsAreFormed, BlockIsFormed}
+use Rattle.grammar_laws.specs.Formed.{IsCall, IsNameOrIndex, AreTargets, BlockIsFormed, all_formed}
 use Rattle.grammar_laws.proofs.FormKeeping.{MaybeIsFormed, ElseIsFormed, ValuesAreFormed, IsFormedBy, StandsFormed, FrontIsFormed, GivesFormed}
 use Rattle.grammar_laws.proofs.Walk.{picks, passes, refuses, reads, ends, either, either_by, passes_if, only_reads, on_a_line, on_a_name, on_some_names, on_some_params, on_a_declared, on_some_declared, on_an_exp, on_maybe_exp, on_some_exps, on_a_field, on_some_fields, on_a_target, on_an_arm, on_some_arms, on_some_items, on_a_stat, on_a_block, on_maybe_block, on_a_body}
 
@@ -40,7 +41,7 @@ target_is _ is = absurd cc
 
 -- lists that grew by one item
 
-more_exps_formed : (es : List tree.Exp) (e : tree.Exp) → ExpsAreFormed (tree.exps es) → ExpIsFormed e → ExpsAreFormed (tree.exps (es ++ e ∷ []))
+more_exps_formed : (es : List tree.Exp) (e : tree.Exp) → ExpsMeet all_formed (tree.exps es) → ExpMeets all_formed e → ExpsMeet all_formed (tree.exps (es ++ e ∷ []))
 more_exps_formed [] e h k = (k, tt)
 more_exps_formed (d ∷ es) e h k = (h.0, more_exps_formed es e h.1 k)
 
@@ -48,16 +49,16 @@ more_targets_formed : (es : List tree.Exp) (e : tree.Exp) → AreTargets (tree.e
 more_targets_formed [] e h k = (k, tt)
 more_targets_formed (d ∷ es) e h k = (h.0, more_targets_formed es e h.1 k)
 
-more_fields_formed : (fs : List tree.Field) (f : tree.Field) → FieldsAreFormed (tree.fields fs) → FieldIsFormed f → FieldsAreFormed (tree.fields (fs ++ f ∷ []))
+more_fields_formed : (fs : List tree.Field) (f : tree.Field) → FieldsMeet all_formed (tree.fields fs) → FieldMeets all_formed f → FieldsMeet all_formed (tree.fields (fs ++ f ∷ []))
 more_fields_formed [] f h k = (k, tt)
 more_fields_formed (g ∷ fs) f h k = (h.0, more_fields_formed fs f h.1 k)
 
-more_stats_formed : (ss : List tree.Stat) (s : tree.Stat) → StatsAreFormed (tree.stats ss) → StatIsFormed s → StatsAreFormed (tree.stats (ss ++ s ∷ []))
+more_stats_formed : (ss : List tree.Stat) (s : tree.Stat) → StatsMeet all_formed (tree.stats ss) → StatMeets all_formed s → StatsMeet all_formed (tree.stats (ss ++ s ∷ []))
 more_stats_formed [] s h k = (k, tt)
 more_stats_formed (r ∷ ss) s h k = (h.0, more_stats_formed ss s h.1 k)
 
-more_arms_formed : (as' : List (tree.Exp × tree.Block)) (e : tree.Exp) (b : tree.Block) → ArmsAreFormed (tree.arms as') → ExpIsFormed e → BlockIsFormed b
-    → ArmsAreFormed (tree.arms (as' ++ (e, b) ∷ []))
+more_arms_formed : (as' : List (tree.Exp × tree.Block)) (e : tree.Exp) (b : tree.Block) → ArmsMeet all_formed (tree.arms as') → ExpMeets all_formed e → BlockIsFormed b
+    → ArmsMeet all_formed (tree.arms (as' ++ (e, b) ∷ []))
 more_arms_formed [] e b h k l = (k, (l, tt))
 more_arms_formed (a ∷ as') e b h k l = (h.0, (h.1.0, more_arms_formed as' e b h.1.1 k l))
 
@@ -86,7 +87,7 @@ constant_gives (Some e) h k = passes (ends h)
 
 -- operators
 
-joined_formed : (op : Infix) (line : ℕ) (a b : tree.Exp) → ExpIsFormed a → ExpIsFormed b → ExpIsFormed (joined op line a b)
+joined_formed : (op : Infix) (line : ℕ) (a b : tree.Exp) → ExpMeets all_formed a → ExpMeets all_formed b → ExpMeets all_formed (joined op line a b)
 joined_formed joining.Or line a b h k = (h, k)
 joined_formed joining.And line a b h k = (h, k)
 joined_formed (joining.Binary op) line a b h k = (h, k)
@@ -94,16 +95,16 @@ joined_formed (joining.Binary op) line a b h k = (h, k)
 operand_stands : (level : Level) → StandsFormed (operand level)
 operand_stands level = operand_has StandsFormed (λ level. tt) tt level
 
-operand_formed : (level : Level) (e : tree.Exp) → IsFormedBy (operand level) (an_exp e) → ExpIsFormed e
-operand_formed level e = operand_has (λ part. IsFormedBy part (an_exp e) → ExpIsFormed e) (λ level h. h) (λ h. h) level
+operand_formed : (level : Level) (e : tree.Exp) → IsFormedBy (operand level) (an_exp e) → ExpMeets all_formed e
+operand_formed level e = operand_has (λ part. IsFormedBy part (an_exp e) → ExpMeets all_formed e) (λ level h. h) (λ h. h) level
 
 right_stands : (level : Level) → StandsFormed (right_operand level)
 right_stands level = right_has StandsFormed (λ level. tt) tt level
 
-right_formed : (level : Level) (e : tree.Exp) → IsFormedBy (right_operand level) (an_exp e) → ExpIsFormed e
-right_formed level e = right_has (λ part. IsFormedBy part (an_exp e) → ExpIsFormed e) (λ level h. h) (λ h. h) level
+right_formed : (level : Level) (e : tree.Exp) → IsFormedBy (right_operand level) (an_exp e) → ExpMeets all_formed e
+right_formed level e = right_has (λ part. IsFormedBy part (an_exp e) → ExpMeets all_formed e) (λ level h. h) (λ h. h) level
 
-operator_gives : (room : ℕ) (level : Level) (left : tree.Exp) (height line : ℕ) (o : Option Infix) → ExpIsFormed left → GivesFormed (behind level left height) room (operator_move room level left height line o)
+operator_gives : (room : ℕ) (level : Level) (left : tree.Exp) (height line : ℕ) (o : Option Infix) → ExpMeets all_formed left → GivesFormed (behind level left height) room (operator_move room level left height line o)
 operator_gives room level left height line None c = ends c
 operator_gives room level left height line (Some op) c =
     passes_if (nat_lt height room) (on_an_exp (right_stands level) (λ e h k d. only_reads (behind level (joined op line left e) (above height h)) (joined_formed op line left e c (right_formed level e d)) (λ p q. q)))
@@ -140,16 +141,16 @@ start_gives room line start.Prefix = only_reads prefix_stat tt (λ p q. q)
 
 -- statements of parts that may be missing
 
-block_formed : (ss : List tree.Stat) (es : Option (List tree.Exp)) (tokens line : ℕ) → StatsAreFormed (tree.stats ss) → ValuesAreFormed es → BlockIsFormed (block_of ss es tokens line)
+block_formed : (ss : List tree.Stat) (es : Option (List tree.Exp)) (tokens line : ℕ) → StatsMeet all_formed (tree.stats ss) → ValuesAreFormed es → BlockIsFormed (block_of ss es tokens line)
 block_formed ss None tokens line h k = h
 block_formed ss (Some es) tokens line h k = (h, k)
 
-if_formed : (line : ℕ) (as' : List (tree.Exp × tree.Block)) (b : Option tree.Block) → ArmsAreFormed (tree.arms as') → ElseIsFormed b → StatIsFormed (if_of line as' b)
+if_formed : (line : ℕ) (as' : List (tree.Exp × tree.Block)) (b : Option tree.Block) → ArmsMeet all_formed (tree.arms as') → ElseIsFormed b → StatMeets all_formed (if_of line as' b)
 if_formed line as' None h k = h
 if_formed line as' (Some b) h k = (h, k)
 
-for_formed : (line : ℕ) (x : Name) (a b : tree.Exp) (c : Option tree.Exp) (inner : tree.Block) → ExpIsFormed a → ExpIsFormed b → MaybeIsFormed c → BlockIsFormed inner
-    → StatIsFormed (num_for_of line x a b c inner)
+for_formed : (line : ℕ) (x : Name) (a b : tree.Exp) (c : Option tree.Exp) (inner : tree.Block) → ExpMeets all_formed a → ExpMeets all_formed b → MaybeIsFormed c → BlockIsFormed inner
+    → StatMeets all_formed (num_for_of line x a b c inner)
 for_formed line x a b None inner h k i j = (h, (k, j))
 for_formed line x a b (Some c) inner h k i j = (h, (k, (i, j)))
 

@@ -2,6 +2,7 @@ mod FormKeeping
 pub mod Operands
 mod FormParts
 pub mod FormReadings
+pub mod PlacedParts
 pub mod PlacedForms
 mod Claims
 mod SizeKeeping

@@ -3,7 +3,8 @@ use Rattle.std.proofs.Common.{◌≡◌, ◌+◌, ◌≤◌, List, [], ◌∷◌
 use Rattle.tree_core.specs.Tree as tree
 use Rattle.tree_terms.specs.Weight.{weight, weight_of_arguments, weight_of_exps, weight_of_fields, weight_of_field, weight_of_stat, weight_of_arms, weight_of_stats, weight_of_block}
 use Rattle.tree_terms.specs.FunctionCount.{functions, functions_in_exps, functions_in_fields, functions_in_field, functions_in_stat, functions_in_arms, functions_in_stats, functions_in_block}
-use Rattle.grammar_laws.specs.Counted.{ExpIsCounted, ExpsAreCounted, FieldsAreCounted, FieldIsCounted, StatIsCounted, ArmsAreCounted, StatsAreCounted, BlockIsCounted}
+use Rattle.tree_terms.specs.Asked.{ExpMeets, ExpsMeet, FieldsMeet, FieldMeets, StatMeets, ArmsMeet, StatsMeet}
+use Rattle.grammar_laws.specs.Counted.{BlockIsCounted, all_counted}
 
 -- expressions
 
@@ -15,7 +16,7 @@ pub exps_have : (es : List tree.Exp) (e : tree.Exp) → functions_in_exps (tree.
 exps_have [] e = omega arith
 exps_have (d ∷ es) e = omega (arith, exps_have es e)
 
-pub exps_counted : (es : List tree.Exp) (e : tree.Exp) → ExpsAreCounted (tree.exps es) → ExpIsCounted e → ExpsAreCounted (tree.exps (es ++ e ∷ []))
+pub exps_counted : (es : List tree.Exp) (e : tree.Exp) → ExpsMeet all_counted (tree.exps es) → ExpMeets all_counted e → ExpsMeet all_counted (tree.exps (es ++ e ∷ []))
 exps_counted [] e h k = (k, tt)
 exps_counted (d ∷ es) e h k = (h.0, exps_counted es e h.1 k)
 
@@ -29,7 +30,7 @@ pub fields_have : (fs : List tree.Field) (f : tree.Field) → functions_in_field
 fields_have [] f = omega arith
 fields_have (g ∷ fs) f = omega (arith, fields_have fs f)
 
-pub fields_counted : (fs : List tree.Field) (f : tree.Field) → FieldsAreCounted (tree.fields fs) → FieldIsCounted f → FieldsAreCounted (tree.fields (fs ++ f ∷ []))
+pub fields_counted : (fs : List tree.Field) (f : tree.Field) → FieldsMeet all_counted (tree.fields fs) → FieldMeets all_counted f → FieldsMeet all_counted (tree.fields (fs ++ f ∷ []))
 fields_counted [] f h k = (k, tt)
 fields_counted (g ∷ fs) f h k = (h.0, fields_counted fs f h.1 k)
 
@@ -43,7 +44,7 @@ pub stats_have : (ss : List tree.Stat) (s : tree.Stat) → functions_in_stats (t
 stats_have [] s = omega arith
 stats_have (r ∷ ss) s = omega (arith, stats_have ss s)
 
-pub stats_counted : (ss : List tree.Stat) (s : tree.Stat) → StatsAreCounted (tree.stats ss) → StatIsCounted s → StatsAreCounted (tree.stats (ss ++ s ∷ []))
+pub stats_counted : (ss : List tree.Stat) (s : tree.Stat) → StatsMeet all_counted (tree.stats ss) → StatMeets all_counted s → StatsMeet all_counted (tree.stats (ss ++ s ∷ []))
 stats_counted [] s h k = (k, tt)
 stats_counted (r ∷ ss) s h k = (h.0, stats_counted ss s h.1 k)
 
@@ -60,9 +61,9 @@ arms_have [] e b = omega arith
 arms_have (a ∷ as') e b = omega (arith, arms_have as' e b)
 
 pub arms_counted : (as' : List (tree.Exp × tree.Block)) (e : tree.Exp) (b : tree.Block)
-    → ArmsAreCounted (tree.arms as') → ExpIsCounted e → BlockIsCounted b → ArmsAreCounted (tree.arms (as' ++ (e, b) ∷ []))
-arms_counted [] e b h k l = (k, l, tt)
-arms_counted (a ∷ as') e b h k l = (h.0, h.1, arms_counted as' e b h.2 k l)
+    → ArmsMeet all_counted (tree.arms as') → ExpMeets all_counted e → BlockIsCounted b → ArmsMeet all_counted (tree.arms (as' ++ (e, b) ∷ []))
+arms_counted [] e b h k l = (k, (l, tt))
+arms_counted (a ∷ as') e b h k l = (h.0, (h.1.0, arms_counted as' e b h.1.1 k l))
 
 -- names
 

@@ -5,13 +5,14 @@ use Rattle.std.proofs.lemmas.Bool.Decides.{nat_tests}
 use Rattle.std.proofs.lemmas.Grind.{flat_map-append}
 use Rattle.std.proofs.lemmas.List.Concat.{flat_map-cons}
 use Rattle.tree_core.specs.Tree.{Block, Falls, Returns, Body, BodyOf, Stats, EndStats, MoreStats, Stat, Local, LocalFunction, Assign, CallStat, Do, While, Repeat, If, IfElse, NumFor, NumForStep, GenFor, Arms, EndArms, MoreArms, Exp, Function, Index, Call, Method, Unary, Binary, And, Or, Paren, Table, Exps, EndExps, MoreExps, Fields, EndFields, MoreFields, Field, Item, Keyed}
+use Rattle.tree_terms.specs.Asked.{ExpMeets, ExpsMeet, FieldsMeet, FieldMeets, StatMeets, ArmsMeet, StatsMeet, BlockMeets}
 use Rattle.scope_core.specs.declared.violation.Violation.{Violation}
 use Rattle.scope_core.specs.Scopes.{Scope, declared_by, plain_variable, numeric_hidden, generic_hidden}
 use Rattle.scope_core.specs.Parts.{Inner, Statement, Until, Result, Located, at, with_variables, with_block, in_loop_of, inside, scope_behind, declarations, name_declarations, loop_scope, for_declarations, exp_parts, exps_parts, fields_parts, field_parts, body_parts, stats_parts, block_parts, stat_parts, arms_parts}
 use Rattle.scope_core.specs.Places.{placed}
 use Rattle.scope_core.specs.Rules.{breach, tokens_of, stat_violations, held_violations, stat_line, part_violations, begin, violations}
 use Rattle.scope_core.specs.Held.{held_stat}
-use Rattle.grammar_laws.specs.Each.{InExp, InExps, InFields, InField, InStat, InArms, InStats, InBlock, InBody}
+use Rattle.grammar_laws.specs.Each.{InBody, each_one}
 
 abbrev pub Nothing : Body → Type 0
 Nothing body = Unit {0}
@@ -59,7 +60,7 @@ own : (scope : Scope) (s : Stat) → part_violations scope (Statement s) ≡ [] 
 own scope s e = nothing_left (stat_violations scope s) (held_violations scope (stat_line s) (held_stat s)) e
 
 mutual
-  exp_rules : (scope : Scope) (e : Exp) → IsQuiet (exp_parts scope e) → InExp Nothing IsShort e
+  exp_rules : (scope : Scope) (e : Exp) → IsQuiet (exp_parts scope e) → ExpMeets (each_one Nothing IsShort) e
   exp_rules scope (Function line body) q = body_rules scope body q
   exp_rules scope (Index line object key) q =
       (exp_rules scope object (left (exp_parts scope object) (exp_parts scope key) q), exp_rules scope key (right (exp_parts scope object) (exp_parts scope key) q))
@@ -75,16 +76,16 @@ mutual
   exp_rules scope (Table line fs) q = fields_rules scope fs q
   exp_rules scope _ q = tt
 
-  exps_rules : (scope : Scope) (es : Exps) → IsQuiet (exps_parts scope es) → InExps Nothing IsShort es
+  exps_rules : (scope : Scope) (es : Exps) → IsQuiet (exps_parts scope es) → ExpsMeet (each_one Nothing IsShort) es
   exps_rules scope EndExps q = tt
   exps_rules scope (MoreExps e es) q = (exp_rules scope e (left (exp_parts scope e) (exps_parts scope es) q), exps_rules scope es (right (exp_parts scope e) (exps_parts scope es) q))
 
-  fields_rules : (scope : Scope) (fs : Fields) → IsQuiet (fields_parts scope fs) → InFields Nothing IsShort fs
+  fields_rules : (scope : Scope) (fs : Fields) → IsQuiet (fields_parts scope fs) → FieldsMeet (each_one Nothing IsShort) fs
   fields_rules scope EndFields q = tt
   fields_rules scope (MoreFields f fs) q =
       (field_rules scope f (left (field_parts scope f) (fields_parts scope fs) q), fields_rules scope fs (right (field_parts scope f) (fields_parts scope fs) q))
 
-  field_rules : (scope : Scope) (f : Field) → IsQuiet (field_parts scope f) → InField Nothing IsShort f
+  field_rules : (scope : Scope) (f : Field) → IsQuiet (field_parts scope f) → FieldMeets (each_one Nothing IsShort) f
   field_rules scope (Item e) q = exp_rules scope e q
   field_rules scope (Keyed line e d) q = (exp_rules scope e (left (exp_parts scope e) (exp_parts scope d) q), exp_rules scope d (right (exp_parts scope e) (exp_parts scope d) q))
 
@@ -95,7 +96,7 @@ mutual
       let whole = later (at scope (Inner (BodyOf params vararg inner ups line))) (name_declarations start params ++ block_parts within true inner) q in
       (tt, block_rules within true inner (right (name_declarations start params) (block_parts within true inner) whole))
 
-  stats_rules : (scope : Scope) (before : List Stat) (ends : Bool) (ss : Stats) → IsQuiet (stats_parts scope before ends ss) → InStats Nothing IsShort ss
+  stats_rules : (scope : Scope) (before : List Stat) (ends : Bool) (ss : Stats) → IsQuiet (stats_parts scope before ends ss) → StatsMeet (each_one Nothing IsShort) ss
   stats_rules scope before ends EndStats q = tt
   stats_rules scope before ends (MoreStats s ss) q =
       let here : Scope = with_block scope (record { before = before; behind = ss; ends_scope = ends }) in
@@ -105,7 +106,7 @@ mutual
         stats_rules (with_variables scope (declared_by s)) (s ∷ before) ends ss (right (stat_parts here s) rest inner),
       )
 
-  block_rules : (scope : Scope) (ends : Bool) (block : Block) → IsQuiet (block_parts scope ends block) → InBlock Nothing IsShort block
+  block_rules : (scope : Scope) (ends : Bool) (block : Block) → IsQuiet (block_parts scope ends block) → BlockMeets (each_one Nothing IsShort) block
   block_rules scope ends (Falls ss tokens line) q = stats_rules scope [] ends ss q
   block_rules scope ends (Returns ss es tokens line) q =
       let last : Scope = scope_behind scope (Falls ss tokens line) in
@@ -113,7 +114,7 @@ mutual
       let behind = right (stats_parts scope [] false ss) values q in
       (stats_rules scope [] false ss (left (stats_parts scope [] false ss) values q), exps_rules last es (later (at last (Result line es)) (exps_parts last es) behind))
 
-  stat_rules : (scope : Scope) (s : Stat) → part_violations scope (Statement s) ≡ [] → IsQuiet (stat_parts scope s) → InStat Nothing IsShort s
+  stat_rules : (scope : Scope) (s : Stat) → part_violations scope (Statement s) ≡ [] → IsQuiet (stat_parts scope s) → StatMeets (each_one Nothing IsShort) s
   stat_rules scope (Local line names es) o q = exps_rules scope es (left (exps_parts scope es) (declarations scope names) q)
   stat_rules scope (LocalFunction line name body) o q =
       let inner : Scope = with_variables scope (plain_variable name ∷ []) in
@@ -143,9 +144,10 @@ mutual
       let front = left (a ++ b ++ c) d q in
       let start = left (a ++ b) c front in (
         exp_rules scope from (left a b start),
-        exp_rules scope limit (right a b start),
-        no_breach (tokens_of block) line 12 (own scope (NumFor line name from limit block) o),
-        block_rules within true block (right (a ++ b ++ c) d q),
+        (
+          exp_rules scope limit (right a b start),
+          (no_breach (tokens_of block) line 12 (own scope (NumFor line name from limit block) o), block_rules within true block (right (a ++ b ++ c) d q)),
+        ),
       )
   stat_rules scope (NumForStep line name from limit step block) o q =
       let hidden : Scope = loop_scope scope numeric_hidden in
@@ -159,10 +161,13 @@ mutual
       let start = left (a ++ b ++ c) d front in
       let both = left (a ++ b) c start in (
         exp_rules scope from (left a b both),
-        exp_rules scope limit (right a b both),
-        exp_rules scope step (right (a ++ b) c start),
-        no_breach (tokens_of block) line 12 (own scope (NumForStep line name from limit step block) o),
-        block_rules within true block (right (a ++ b ++ c ++ d) inner q),
+        (
+          exp_rules scope limit (right a b both),
+          (
+            exp_rules scope step (right (a ++ b) c start),
+            (no_breach (tokens_of block) line 12 (own scope (NumForStep line name from limit step block) o), block_rules within true block (right (a ++ b ++ c ++ d) inner q)),
+          ),
+        ),
       )
   stat_rules scope (GenFor line names es block) o q =
       let hidden : Scope = loop_scope scope generic_hidden in
@@ -171,19 +176,18 @@ mutual
       let b = for_declarations hidden line names in
       let inner = block_parts within true block in (
         exps_rules scope es (left a b (left (a ++ b) inner q)),
-        no_breach (tokens_of block) line 12 (own scope (GenFor line names es block) o),
-        block_rules within true block (right (a ++ b) inner q),
+        (no_breach (tokens_of block) line 12 (own scope (GenFor line names es block) o), block_rules within true block (right (a ++ b) inner q)),
       )
   stat_rules scope _ o q = tt
 
-  arms_rules : (scope : Scope) (arms : Arms) → IsQuiet (arms_parts scope arms) → InArms Nothing IsShort arms
+  arms_rules : (scope : Scope) (arms : Arms) → IsQuiet (arms_parts scope arms) → ArmsMeet (each_one Nothing IsShort) arms
   arms_rules scope EndArms q = tt
   arms_rules scope (MoreArms e block arms) q =
       let a = exp_parts scope e in
       let b = block_parts scope true block in
       let c = arms_parts scope arms in
       let front = left (a ++ b) c q in
-      (exp_rules scope e (left a b front), block_rules scope true block (right a b front), arms_rules scope arms (right (a ++ b) c q))
+      (exp_rules scope e (left a b front), (block_rules scope true block (right a b front), arms_rules scope arms (right (a ++ b) c q)))
 
 pub short_loops : (tree : Block) → violations tree ≡ [] → InBody Nothing IsShort (placed tree)
 short_loops tree e = body_rules begin (placed tree) e

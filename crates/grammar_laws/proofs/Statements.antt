@@ -58,9 +58,9 @@ num_for_held : (line : ℕ) (x : Name) (a b : tree.Exp) (c : Option tree.Exp) (i
     → (weight_of_block inner + 2 ≤ n4) → (functions_in_block inner ≤ m4) → BlockIsCounted inner → n1 + n2 + n3 + n4 + 4 ≤ k → m1 + m2 + m3 + m4 ≤ l
     → StatHolds (num_for_of line x a b c inner) k l
 num_for_held line x a b None inner n1 n2 n3 n4 m1 m2 m3 m4 k l ha hb hc w f counted e g =
-    (omega (arith, ha.0, hb.0, w, e), omega (arith, ha.1, hb.1, f, g), (ha.2, hb.2, counted))
+    (omega (arith, ha.0, hb.0, w, e), omega (arith, ha.1, hb.1, f, g), (ha.2, (hb.2, counted)))
 num_for_held line x a b (Some c) inner n1 n2 n3 n4 m1 m2 m3 m4 k l ha hb hc w f counted e g =
-    (omega (arith, ha.0, hb.0, hc.0, w, e), omega (arith, ha.1, hb.1, hc.1, f, g), (ha.2, hb.2, hc.2, counted))
+    (omega (arith, ha.0, hb.0, hc.0, w, e), omega (arith, ha.1, hb.1, hc.1, f, g), (ha.2, (hb.2, (hc.2, counted))))
 
 pub numeric_kept : (line : ℕ) (x : Name) → Kept (numeric line x)
 numeric_kept line x room ready =

@@ -5,7 +5,7 @@ use Rattle.tree_core.specs.declared.name.Name.{Name}
 use Rattle.tree_core.specs.declared.name.UpName.{UpName}
 use Rattle.tree_core.specs.Tree.{Block, Falls, Returns, BodyOf, Stats, EndStats, MoreStats}
 use Rattle.code_core.specs.declared.proto.Const.{Const}
-use Rattle.tree_terms.specs.Levels.{level_after, levels_after}
+use Rattle.tree_terms.specs.Levels.{levels_after}
 use Rattle.code_of.specs.Levels.{made_in_block, made_in_stats, closings_after}
 use Rattle.code_of.specs.CodeOf.{body_code, code_of}
 use Rattle.stat_laws.specs.Fits.{BlockFits, setting, Alone}
@@ -44,7 +44,7 @@ block_fits :
 block_fits x (Falls ss tokens line) params k f h m s o c b w =
     (stats_placed x ss true false params 0 [] [] false k f h m s o c.1 (omega (arith, b)) w, stats_fit (constants_of x) (stack_of x) ss params s)
 block_fits x (Returns ss es tokens line) params k f h m s o c b w = (
-  stats_placed x ss false false params 0 [] [] false k.0 f.0 h.0 m.0 s.0 o.0 c.1 (omega (arith, b)) (omega (arith, w)),
+  stats_placed x ss false false params 0 [] [] false k.0 f.0 h.0 m.0 s.0 o.0 c.1.0 (omega (arith, b)) (omega (arith, w)),
   return_placed x es (closings_after ss false) (levels_after ss params) (0 + made_in_stats ss) k.1.0 f.1 h.1 m.1 s.1 (omega (arith, b)) (omega (arith, w)),
 )
 

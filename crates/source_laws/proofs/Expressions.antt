@@ -14,10 +14,11 @@ use Rattle.exp_laws.specs.Setting.{UnderAll}
 use Rattle.exp_laws.specs.Placed.{Inner, Captures, NameIsPlaced, IsPlaced, ArePlaced, FieldsArePlaced}
 use Rattle.tree_terms.specs.Hidden.{IsNoneOf}
 use Rattle.scope_laws.specs.Finding.{PlaceIsThere, CaptureIsThere, CapturesAreThere, ExpFinds, ExpsFind, FieldsFind}
-use Rattle.code_bounds.specs.Constants.{Has, NameHas, ExpHas, ExpsHave, FieldsHave}
+use Rattle.code_bounds.specs.Constants.{Has, NameHas, all_constants}
 use Rattle.code_bounds.specs.Functions.{IsMade, ExpMakes, ExpsMake, FieldsMake}
 use Rattle.code_bounds.proofs.Constants.{found}
 use Rattle.tree_terms.specs.Weight.{weight, weight_of_exps, weight_of_fields}
+use Rattle.tree_terms.specs.Asked.{ExpMeets, ExpsMeet, FieldsMeet}
 use Rattle.code_bounds.proofs.Counts.{arguments_weigh}
 use Rattle.source_laws.proofs.Around.{Around, constants_of, functions_of}
 use Rattle.stat_laws.proofs.Raised.{upvalues_same}
@@ -58,7 +59,7 @@ module _ (x : Around) where
   name_placed (GlobalOf u) text t f h = (let few = x.few in omega (arith, f, few), constant_found (StrConst text) h)
 
   mutual
-    pub exp_placed : (e : Exp) (t j : ℕ) → ExpFinds e x.hidden t x.ups → ExpHas (constants_of x) e → ExpMakes x.source (functions_of x) e j → j + made_by e ≤ x.most → weight e ≤ x.heavy → IsPlaced x.setting e t j
+    pub exp_placed : (e : Exp) (t j : ℕ) → ExpFinds e x.hidden t x.ups → ExpMeets (all_constants (constants_of x)) e → ExpMakes x.source (functions_of x) e j → j + made_by e ≤ x.most → weight e ≤ x.heavy → IsPlaced x.setting e t j
     exp_placed (Int line z) t j f h m b w = λ great. constant_found (IntConst z) (h great)
     exp_placed (Str line bytes) t j f h m b w = constant_found (StrConst bytes) h
     exp_placed (Function line body) t j f h m b w = (inner_placed body j m b, captures_placed (upvalues_of body) t f.1)
@@ -84,12 +85,12 @@ module _ (x : Around) where
     exp_placed (Table line fs) t j f h m b w = fields_placed fs 0 t j f h m b (omega (arith, w))
     exp_placed _ t j f h m b w = tt
 
-    pub exps_placed : (es : Exps) (t j : ℕ) → ExpsFind es x.hidden t x.ups → ExpsHave (constants_of x) es → ExpsMake x.source (functions_of x) es j → j + made_in es ≤ x.most → weight_of_exps es ≤ x.heavy → ArePlaced x.setting es t j
+    pub exps_placed : (es : Exps) (t j : ℕ) → ExpsFind es x.hidden t x.ups → ExpsMeet (all_constants (constants_of x)) es → ExpsMake x.source (functions_of x) es j → j + made_in es ≤ x.most → weight_of_exps es ≤ x.heavy → ArePlaced x.setting es t j
     exps_placed EndExps t j f h m b w = tt
     exps_placed (MoreExps e es) t j f h m b w =
         (exp_placed e t j f.0 h.0 m.0 (omega (arith, b)) (omega (arith, w)), exps_placed es t (j + made_by e) f.1 h.1 m.1 (omega (arith, b)) (omega (arith, w)))
 
-    fields_placed : (fs : Fields) (items t j : ℕ) → FieldsFind fs x.hidden t x.ups → FieldsHave (constants_of x) fs → FieldsMake x.source (functions_of x) fs j → j + made_in_fields fs ≤ x.most → items + weight_of_fields fs ≤ x.heavy → FieldsArePlaced x.setting fs items t j
+    fields_placed : (fs : Fields) (items t j : ℕ) → FieldsFind fs x.hidden t x.ups → FieldsMeet (all_constants (constants_of x)) fs → FieldsMake x.source (functions_of x) fs j → j + made_in_fields fs ≤ x.most → items + weight_of_fields fs ≤ x.heavy → FieldsArePlaced x.setting fs items t j
     fields_placed EndFields items t j f h m b w = tt
     fields_placed (MoreFields (Item e) fs) items t j f h m b w =
         let some = some_weight e in

@@ -6,11 +6,12 @@ use Rattle.tree_core.specs.Tree.{Block, Falls, Returns, Body, BodyOf, Stats, End
 use Rattle.scope_core.specs.Rules.{tokens_of, violations}
 use Rattle.tree_terms.specs.Weight.{weight, weight_of_exps, weight_of_fields, weight_of_field, weight_of_stat, weight_of_arms, weight_of_stats, weight_of_block, weight_of_body}
 use Rattle.tree_terms.specs.FunctionCount.{functions, functions_in_exps, functions_in_fields, functions_in_field, functions_in_stat, functions_in_arms, functions_in_stats, functions_in_block, functions_in_body}
+use Rattle.tree_terms.specs.Asked.{ExpMeets, ExpsMeet, FieldsMeet, FieldMeets, StatMeets, ArmsMeet, StatsMeet, BlockMeets}
 use Rattle.code_bounds.proofs.Counts.{arguments_weigh, made_block, few_block}
 use Rattle.code_bounds.proofs.ShortStatements.{block_short}
 use Rattle.code_bounds.proofs.ShortBodies.{body_short}
-use Rattle.grammar_laws.specs.Counted.{ExpIsCounted, ExpsAreCounted, FieldsAreCounted, FieldIsCounted, StatIsCounted, ArmsAreCounted, StatsAreCounted, BlockIsCounted, BodyIsCounted}
-use Rattle.grammar_laws.specs.Each.{InExp, InExps, InFields, InField, InStat, InArms, InStats, InBlock, InBody}
+use Rattle.grammar_laws.specs.Counted.{BlockIsCounted, BodyIsCounted, all_counted}
+use Rattle.grammar_laws.specs.Each.{InBody, each_one}
 use Rattle.grammar_laws.proofs.Rules.{Nothing, IsShort, short_loops}
 use Rattle.source_laws.specs.Fields.{FunctionFits, LoopFits}
 use Rattle.token_cursor.specs.Words.{Lexeme}
@@ -38,7 +39,7 @@ small params vararg inner ups line w f = record {
 }
 
 mutual
-  exp_fits : (e : Exp) → weight e ≤ 1048579 → functions e ≤ 131072 → ExpIsCounted e → InExp Nothing IsShort e → InExp FunctionFits LoopFits e
+  exp_fits : (e : Exp) → weight e ≤ 1048579 → functions e ≤ 131072 → ExpMeets all_counted e → ExpMeets (each_one Nothing IsShort) e → ExpMeets (each_one FunctionFits LoopFits) e
   exp_fits (Function line body) w m c r = body_fits body (omega (arith, w)) (omega (arith, m)) c r
   exp_fits (Index line object key) w m c r = (exp_fits object (omega (arith, w)) (omega (arith, m)) c.0 r.0, exp_fits key (omega (arith, w)) (omega (arith, m)) c.1 r.1)
   exp_fits (Call line f es) w m c r = (exp_fits f (omega (arith, w, arguments_weigh es)) (omega (arith, m)) c.0 r.0, exps_fits es (omega (arith, w, arguments_weigh es)) (omega (arith, m)) c.1 r.1)
@@ -51,19 +52,19 @@ mutual
   exp_fits (Table line fs) w m c r = fields_fits fs (omega (arith, w)) (omega (arith, m)) c r
   exp_fits _ w m c r = tt
 
-  exps_fits : (es : Exps) → weight_of_exps es ≤ 1048579 → functions_in_exps es ≤ 131072 → ExpsAreCounted es → InExps Nothing IsShort es → InExps FunctionFits LoopFits es
+  exps_fits : (es : Exps) → weight_of_exps es ≤ 1048579 → functions_in_exps es ≤ 131072 → ExpsMeet all_counted es → ExpsMeet (each_one Nothing IsShort) es → ExpsMeet (each_one FunctionFits LoopFits) es
   exps_fits EndExps w m c r = tt
   exps_fits (MoreExps e es) w m c r = (exp_fits e (omega (arith, w)) (omega (arith, m)) c.0 r.0, exps_fits es (omega (arith, w)) (omega (arith, m)) c.1 r.1)
 
-  fields_fits : (fs : Fields) → weight_of_fields fs ≤ 1048579 → functions_in_fields fs ≤ 131072 → FieldsAreCounted fs → InFields Nothing IsShort fs → InFields FunctionFits LoopFits fs
+  fields_fits : (fs : Fields) → weight_of_fields fs ≤ 1048579 → functions_in_fields fs ≤ 131072 → FieldsMeet all_counted fs → FieldsMeet (each_one Nothing IsShort) fs → FieldsMeet (each_one FunctionFits LoopFits) fs
   fields_fits EndFields w m c r = tt
   fields_fits (MoreFields g fs) w m c r = (field_fits g (omega (arith, w)) (omega (arith, m)) c.0 r.0, fields_fits fs (omega (arith, w)) (omega (arith, m)) c.1 r.1)
 
-  field_fits : (f : Field) → weight_of_field f ≤ 1048579 → functions_in_field f ≤ 131072 → FieldIsCounted f → InField Nothing IsShort f → InField FunctionFits LoopFits f
+  field_fits : (f : Field) → weight_of_field f ≤ 1048579 → functions_in_field f ≤ 131072 → FieldMeets all_counted f → FieldMeets (each_one Nothing IsShort) f → FieldMeets (each_one FunctionFits LoopFits) f
   field_fits (Item e) w m c r = exp_fits e w m c r
   field_fits (Keyed line e d) w m c r = (exp_fits e (omega (arith, w)) (omega (arith, m)) c.0 r.0, exp_fits d (omega (arith, w)) (omega (arith, m)) c.1 r.1)
 
-  stat_fits : (s : Stat) → weight_of_stat s ≤ 1048579 → functions_in_stat s ≤ 131072 → StatIsCounted s → InStat Nothing IsShort s → InStat FunctionFits LoopFits s
+  stat_fits : (s : Stat) → weight_of_stat s ≤ 1048579 → functions_in_stat s ≤ 131072 → StatMeets all_counted s → StatMeets (each_one Nothing IsShort) s → StatMeets (each_one FunctionFits LoopFits) s
   stat_fits (Local line names es) w m c r = exps_fits es (omega (arith, w)) (omega (arith, m)) c r
   stat_fits (LocalFunction line name body) w m c r = body_fits body (omega (arith, w)) (omega (arith, m)) c r
   stat_fits (Assign line targets es) w m c r = (exps_fits targets (omega (arith, w)) (omega (arith, m)) c.0 r.0, exps_fits es (omega (arith, w)) (omega (arith, m)) c.1 r.1)
@@ -73,29 +74,31 @@ mutual
   stat_fits (Repeat line block e) w m c r = (block_fits block (omega (arith, w)) (omega (arith, m)) c.0 r.0, exp_fits e (omega (arith, w)) (omega (arith, m)) c.1 r.1)
   stat_fits (If line arms) w m c r = arms_fits arms (omega (arith, w)) (omega (arith, m)) c r
   stat_fits (IfElse line arms block) w m c r = (arms_fits arms (omega (arith, w)) (omega (arith, m)) c.0 r.0, block_fits block (omega (arith, w)) (omega (arith, m)) c.1 r.1)
-  stat_fits (NumFor line name from limit block) w m c r =
-      (exp_fits from (omega (arith, w)) (omega (arith, m)) c.0 r.0, exp_fits limit (omega (arith, w)) (omega (arith, m)) c.1 r.1, near block c.2 r.2, block_fits block (omega (arith, w)) (omega (arith, m)) c.2 r.3)
+  stat_fits (NumFor line name from limit block) w m c r = (
+    exp_fits from (omega (arith, w)) (omega (arith, m)) c.0 r.0,
+    (exp_fits limit (omega (arith, w)) (omega (arith, m)) c.1.0 r.1.0, (near block c.1.1 r.1.1.0, block_fits block (omega (arith, w)) (omega (arith, m)) c.1.1 r.1.1.1)),
+  )
   stat_fits (NumForStep line name from limit step block) w m c r = (
     exp_fits from (omega (arith, w)) (omega (arith, m)) c.0 r.0,
-    exp_fits limit (omega (arith, w)) (omega (arith, m)) c.1 r.1,
-    exp_fits step (omega (arith, w)) (omega (arith, m)) c.2 r.2,
-    near block c.3 r.3,
-    block_fits block (omega (arith, w)) (omega (arith, m)) c.3 r.4,
+    (
+      exp_fits limit (omega (arith, w)) (omega (arith, m)) c.1.0 r.1.0,
+      (exp_fits step (omega (arith, w)) (omega (arith, m)) c.1.1.0 r.1.1.0, (near block c.1.1.1 r.1.1.1.0, block_fits block (omega (arith, w)) (omega (arith, m)) c.1.1.1 r.1.1.1.1)),
+    ),
   )
-  stat_fits (GenFor line names es block) w m c r = (exps_fits es (omega (arith, w)) (omega (arith, m)) c.0 r.0, near block c.1 r.1, block_fits block (omega (arith, w)) (omega (arith, m)) c.1 r.2)
+  stat_fits (GenFor line names es block) w m c r = (exps_fits es (omega (arith, w)) (omega (arith, m)) c.0 r.0, (near block c.1 r.1.0, block_fits block (omega (arith, w)) (omega (arith, m)) c.1 r.1.1))
   stat_fits _ w m c r = tt
 
-  arms_fits : (arms : Arms) → weight_of_arms arms ≤ 1048579 → functions_in_arms arms ≤ 131072 → ArmsAreCounted arms → InArms Nothing IsShort arms → InArms FunctionFits LoopFits arms
+  arms_fits : (arms : Arms) → weight_of_arms arms ≤ 1048579 → functions_in_arms arms ≤ 131072 → ArmsMeet all_counted arms → ArmsMeet (each_one Nothing IsShort) arms → ArmsMeet (each_one FunctionFits LoopFits) arms
   arms_fits EndArms w m c r = tt
-  arms_fits (MoreArms e block arms) w m c r = (exp_fits e (omega (arith, w)) (omega (arith, m)) c.0 r.0, block_fits block (omega (arith, w)) (omega (arith, m)) c.1 r.1, arms_fits arms (omega (arith, w)) (omega (arith, m)) c.2 r.2)
+  arms_fits (MoreArms e block arms) w m c r = (exp_fits e (omega (arith, w)) (omega (arith, m)) c.0 r.0, (block_fits block (omega (arith, w)) (omega (arith, m)) c.1.0 r.1.0, arms_fits arms (omega (arith, w)) (omega (arith, m)) c.1.1 r.1.1))
 
-  stats_fits : (ss : Stats) → weight_of_stats ss ≤ 1048579 → functions_in_stats ss ≤ 131072 → StatsAreCounted ss → InStats Nothing IsShort ss → InStats FunctionFits LoopFits ss
+  stats_fits : (ss : Stats) → weight_of_stats ss ≤ 1048579 → functions_in_stats ss ≤ 131072 → StatsMeet all_counted ss → StatsMeet (each_one Nothing IsShort) ss → StatsMeet (each_one FunctionFits LoopFits) ss
   stats_fits EndStats w m c r = tt
   stats_fits (MoreStats s ss) w m c r = (stat_fits s (omega (arith, w)) (omega (arith, m)) c.0 r.0, stats_fits ss (omega (arith, w)) (omega (arith, m)) c.1 r.1)
 
-  block_fits : (block : Block) → weight_of_block block ≤ 1048579 → functions_in_block block ≤ 131072 → BlockIsCounted block → InBlock Nothing IsShort block → InBlock FunctionFits LoopFits block
+  block_fits : (block : Block) → weight_of_block block ≤ 1048579 → functions_in_block block ≤ 131072 → BlockIsCounted block → BlockMeets (each_one Nothing IsShort) block → BlockMeets (each_one FunctionFits LoopFits) block
   block_fits (Falls ss tokens line) w m c r = stats_fits ss w m c.1 r
-  block_fits (Returns ss es tokens line) w m c r = (stats_fits ss (omega (arith, w)) (omega (arith, m)) c.1 r.0, exps_fits es (omega (arith, w)) (omega (arith, m)) c.2 r.1)
+  block_fits (Returns ss es tokens line) w m c r = (stats_fits ss (omega (arith, w)) (omega (arith, m)) c.1.0 r.0, exps_fits es (omega (arith, w)) (omega (arith, m)) c.1.1 r.1)
 
   pub body_fits : (body : Body) → weight_of_body body ≤ 1048579 → functions_in_body body ≤ 131072 → BodyIsCounted body → InBody Nothing IsShort body → InBody FunctionFits LoopFits body
   body_fits (BodyOf params vararg inner ups line) w m c r = (small params vararg inner ups line w m, block_fits inner (omega (arith, w)) m c r.1)

@@ -2,9 +2,10 @@
 use Rattle.std.proofs.Common.{ℕ, ◌<◌, ◌≤◌, ◌^◌, List, [], ◌∷◌, arith, lt-ltb}
 use Rattle.tree_core.specs.declared.name.Declared.{Declared}
 use Rattle.tree_core.specs.Tree.{Block, Falls, Returns, Body, BodyOf, Stats, EndStats, MoreStats, Stat, Empty, Local, LocalFunction, Assign, CallStat, Do, While, Repeat, If, IfElse, NumFor, NumForStep, GenFor, Label, Goto, Break, Arms, EndArms, MoreArms, Exp, Nil, True, False, Int, Str, Vararg, Function, Var, Index, Call, Method, Unary, Binary, And, Or, Paren, Table, Exps, EndExps, MoreExps, Fields, EndFields, MoreFields, Item, Keyed}
+use Rattle.tree_terms.specs.Asked.{ExpMeets, ExpsMeet, FieldsMeet, StatMeets, ArmsMeet, StatsMeet}
 use Rattle.grammar_laws.specs.Lines.{DeclaredAreWithin, ExpIsWithin, ExpsAreWithin, FieldsAreWithin, StatIsWithin, ArmsAreWithin, StatsAreWithin, BlockIsWithin, BodyIsWithin}
 use Rattle.code_checked.specs.Written.{LineFits, DeclaredFit, ExpIsWritten, ExpsAreWritten, FieldsAreWritten, StatIsWritten, ArmsAreWritten, StatsAreWritten, BlockIsWritten, BodyIsWritten}
-use Rattle.source_laws.proofs.Texts.{DeclaredTextsFit, ExpTextsFit, ExpsTextsFit, FieldsTextsFit, StatTextsFit, ArmsTextsFit, StatsTextsFit, BlockTextsFit, BodyTextsFit}
+use Rattle.source_laws.proofs.Texts.{DeclaredTextsFit, BlockTextsFit, BodyTextsFit, all_texts}
 
 module _ (most : ℕ) (small : most < 2 ^ 31) where
   line_fits : (line : ℕ) → line ≤ most → LineFits line
@@ -15,7 +16,7 @@ module _ (most : ℕ) (small : most < 2 ^ 31) where
   declared_written (d ∷ names) h w = (w.0, (line_fits d.name.line h.0.0, declared_written names h.1 w.1))
 
   mutual
-    exp_written : (x : Exp) → ExpIsWithin most x → ExpTextsFit x → ExpIsWritten x
+    exp_written : (x : Exp) → ExpIsWithin most x → ExpMeets all_texts x → ExpIsWritten x
     exp_written (Nil line) h w = line_fits line h
     exp_written (True line) h w = line_fits line h
     exp_written (False line) h w = line_fits line h
@@ -34,16 +35,16 @@ module _ (most : ℕ) (small : most < 2 ^ 31) where
     exp_written (Paren line e) h w = (line_fits line h.0, exp_written e h.1 w)
     exp_written (Table line fs) h w = (line_fits line h.0, fields_written fs h.1 w)
 
-    exps_written : (x : Exps) → ExpsAreWithin most x → ExpsTextsFit x → ExpsAreWritten x
+    exps_written : (x : Exps) → ExpsAreWithin most x → ExpsMeet all_texts x → ExpsAreWritten x
     exps_written EndExps h w = tt
     exps_written (MoreExps e es) h w = (exp_written e h.0 w.0, exps_written es h.1 w.1)
 
-    fields_written : (x : Fields) → FieldsAreWithin most x → FieldsTextsFit x → FieldsAreWritten x
+    fields_written : (x : Fields) → FieldsAreWithin most x → FieldsMeet all_texts x → FieldsAreWritten x
     fields_written EndFields h w = tt
     fields_written (MoreFields (Item e) fs) h w = (exp_written e h.0 w.0, fields_written fs h.1 w.1)
     fields_written (MoreFields (Keyed line e d) fs) h w = (line_fits line h.0.0, (exp_written e h.0.1 w.0.0, (exp_written d h.0.2 w.0.1, fields_written fs h.1 w.1)))
 
-    stat_written : (x : Stat) → StatIsWithin most x → StatTextsFit x → StatIsWritten x
+    stat_written : (x : Stat) → StatIsWithin most x → StatMeets all_texts x → StatIsWritten x
     stat_written (Empty line) h w = line_fits line h
     stat_written (Local line names es) h w = (line_fits line h.0, (declared_written names h.1 w.0, exps_written es h.2 w.1))
     stat_written (LocalFunction line name body) h w = (line_fits line h.0, (w.0, body_written body h.2 w.1))
@@ -61,11 +62,11 @@ module _ (most : ℕ) (small : most < 2 ^ 31) where
     stat_written (Goto line name) h w = line_fits line h.0
     stat_written (Break line) h w = line_fits line h
 
-    arms_written : (x : Arms) → ArmsAreWithin most x → ArmsTextsFit x → ArmsAreWritten x
+    arms_written : (x : Arms) → ArmsAreWithin most x → ArmsMeet all_texts x → ArmsAreWritten x
     arms_written EndArms h w = tt
     arms_written (MoreArms e block arms) h w = (exp_written e h.0 w.0, (block_written block h.1 w.1.0, arms_written arms h.2 w.1.1))
 
-    stats_written : (x : Stats) → StatsAreWithin most x → StatsTextsFit x → StatsAreWritten x
+    stats_written : (x : Stats) → StatsAreWithin most x → StatsMeet all_texts x → StatsAreWritten x
     stats_written EndStats h w = tt
     stats_written (MoreStats s ss) h w = (stat_written s h.0 w.0, stats_written ss h.1 w.1)
 

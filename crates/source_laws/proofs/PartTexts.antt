@@ -4,10 +4,11 @@ use Rattle.std.specs.Prelude.{map}
 use Rattle.tree_core.specs.declared.name.Name.{Name}
 use Rattle.tree_core.specs.declared.name.Declared.{Declared}
 use Rattle.tree_core.specs.Tree.{Block, Falls, Returns, Body, BodyOf, Stats, EndStats, MoreStats, Stat, Local, LocalFunction, Assign, CallStat, Do, While, Repeat, If, IfElse, NumFor, NumForStep, GenFor, Arms, EndArms, MoreArms, Exp, Vararg, Var, Function, Index, Call, Method, Unary, Binary, And, Or, Paren, Table, Exps, EndExps, MoreExps, Fields, EndFields, MoreFields, Field, Item, Keyed}
+use Rattle.tree_terms.specs.Asked.{ExpMeets, ExpsMeet, FieldsMeet, FieldMeets, StatMeets, ArmsMeet, StatsMeet}
 use Rattle.scope_core.specs.Scopes.{Scope, declared_by, declared_variable, plain_variable, numeric_hidden, generic_hidden}
 use Rattle.scope_core.specs.Parts.{Part, Naming, Located, with_variables, with_block, in_loop_of, inside, scope_behind, declarations, name_declarations, loop_scope, exp_parts, exps_parts, fields_parts, field_parts, body_parts, stats_parts, block_parts, stat_parts, arms_parts}
 use Rattle.code_checked.specs.Written.{TextFits}
-use Rattle.source_laws.proofs.Texts.{ExpTextsFit, ExpsTextsFit, FieldsTextsFit, FieldTextsFit, StatTextsFit, ArmsTextsFit, StatsTextsFit, BlockTextsFit, BodyTextsFit}
+use Rattle.source_laws.proofs.Texts.{BlockTextsFit, BodyTextsFit, all_texts}
 
 abbrev pub PartFits : Part → Type 0
 PartFits (Naming name) = TextFits name.text
@@ -30,7 +31,7 @@ name_parts s [] = none
 name_parts s (x ∷ names) = also tt (name_parts (with_variables s (plain_variable x ∷ [])) names)
 
 mutual
-  exp_named : (s : Scope) (e : Exp) → ExpTextsFit e → PartsFit (exp_parts s e)
+  exp_named : (s : Scope) (e : Exp) → ExpMeets all_texts e → PartsFit (exp_parts s e)
   exp_named s (Vararg line) h = also tt none
   exp_named s (Function line body) h = body_named s body h
   exp_named s (Var line name) h = also h none
@@ -45,15 +46,15 @@ mutual
   exp_named s (Table line fs) h = fields_named s fs h
   exp_named s _ h = none
 
-  exps_named : (s : Scope) (es : Exps) → ExpsTextsFit es → PartsFit (exps_parts s es)
+  exps_named : (s : Scope) (es : Exps) → ExpsMeet all_texts es → PartsFit (exps_parts s es)
   exps_named s EndExps h = none
   exps_named s (MoreExps e es) h = both (exp_named s e h.0) (exps_named s es h.1)
 
-  fields_named : (s : Scope) (fs : Fields) → FieldsTextsFit fs → PartsFit (fields_parts s fs)
+  fields_named : (s : Scope) (fs : Fields) → FieldsMeet all_texts fs → PartsFit (fields_parts s fs)
   fields_named s EndFields h = none
   fields_named s (MoreFields f fs) h = both (field_named s f h.0) (fields_named s fs h.1)
 
-  field_named : (s : Scope) (f : Field) → FieldTextsFit f → PartsFit (field_parts s f)
+  field_named : (s : Scope) (f : Field) → FieldMeets all_texts f → PartsFit (field_parts s f)
   field_named s (Item e) h = exp_named s e h
   field_named s (Keyed line e d) h = both (exp_named s e h.0) (exp_named s d h.1)
 
@@ -62,7 +63,7 @@ mutual
       let begin : Scope = inside s.frames (BodyOf params vararg inner ups line) in
       also tt (both (name_parts begin params) (block_named (with_variables begin (map plain_variable params)) true inner h.1.1))
 
-  stats_named : (s : Scope) (before : List Stat) (ends : Bool) (ss : Stats) → StatsTextsFit ss → PartsFit (stats_parts s before ends ss)
+  stats_named : (s : Scope) (before : List Stat) (ends : Bool) (ss : Stats) → StatsMeet all_texts ss → PartsFit (stats_parts s before ends ss)
   stats_named s before ends EndStats h = none
   stats_named s before ends (MoreStats stat ss) h =
       let here : Scope = with_block s (record { before = before; behind = ss; ends_scope = ends }) in
@@ -73,7 +74,7 @@ mutual
   block_named s ends (Returns ss es tokens line) h =
       both (stats_named s [] false ss h.0) (also tt (exps_named (scope_behind s (Falls ss tokens line)) es h.1))
 
-  stat_named : (s : Scope) (stat : Stat) → StatTextsFit stat → PartsFit (stat_parts s stat)
+  stat_named : (s : Scope) (stat : Stat) → StatMeets all_texts stat → PartsFit (stat_parts s stat)
   stat_named s (Local line names es) h = both (exps_named s es h.1) (declared_parts s names)
   stat_named s (LocalFunction line name body) h = both (name_parts s (name ∷ [])) (body_named (with_variables s (plain_variable name ∷ [])) body h.1)
   stat_named s (Assign line targets es) h = both (exps_named s targets h.0) (exps_named s es h.1)
@@ -96,6 +97,6 @@ mutual
       both (both (exps_named s es h.1.0) (also tt (name_parts hidden names))) (block_named (with_variables hidden (map plain_variable names)) true block h.1.1)
   stat_named s _ h = none
 
-  arms_named : (s : Scope) (arms : Arms) → ArmsTextsFit arms → PartsFit (arms_parts s arms)
+  arms_named : (s : Scope) (arms : Arms) → ArmsMeet all_texts arms → PartsFit (arms_parts s arms)
   arms_named s EndArms h = none
   arms_named s (MoreArms e block arms) h = both (both (exp_named s e h.0) (block_named s true block h.1.0)) (arms_named s arms h.1.1)

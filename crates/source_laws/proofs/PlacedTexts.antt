@@ -7,12 +7,13 @@ use Rattle.std.specs.Str.{bytes_eq}
 use Rattle.tree_core.specs.declared.name.Name.{Name}
 use Rattle.tree_core.specs.declared.name.Declared.{Declared}
 use Rattle.tree_core.specs.declared.name.UpName.{UpName}
-use Rattle.tree_core.specs.Tree.{Block, Falls, Returns, Body, BodyOf, Stats, EndStats, MoreStats, Stat, Local, LocalFunction, Assign, CallStat, Do, While, Repeat, If, IfElse, NumFor, NumForStep, GenFor, Arms, EndArms, MoreArms, Exp, Function, Index, Call, Method, Unary, Binary, And, Or, Paren, Table, Exps, EndExps, MoreExps, Fields, EndFields, MoreFields, Field, Item, Keyed}
-use Rattle.scope_core.specs.Scopes.{Scope, Frame, bare, declare, declare_all, declared_by, declared_variable, plain_variable, behind, behind_stats, numeric_hidden, generic_hidden, register_of, environment, is_local, is_variable}
+use Rattle.tree_core.specs.Tree.{Block, Body, BodyOf, Stat, Local, LocalFunction, NumFor, NumForStep, GenFor, Exp, Int, Str, Var}
+use Rattle.scope_core.specs.Scopes.{Scope, Frame, bare, declare, declare_all, declared_variable, plain_variable, generic_hidden, register_of, environment, is_local, is_variable}
 use Rattle.scope_core.specs.Parts.{Part, Naming, Located, body_parts}
-use Rattle.scope_core.specs.Places.{as_byte, upvalue_number, up_name, outside_name, outside_all, firsts, upvalues_of, placed_names, placed_declared, placed_exp, placed_exps, placed_fields, placed_field, placed_body, placed_block, placed_stats, placed_stat, placed_arms, placed}
+use Rattle.scope_core.specs.Places.{as_byte, upvalue_number, up_name, outside_name, outside_all, firsts, upvalues_of, placed_names, placed_declared, placed_exp, placed_body, placed_stat, main_upvalues, placed}
 use Rattle.code_checked.specs.Written.{TextFits, NamesFit, UpvaluesFit}
-use Rattle.source_laws.proofs.Texts.{DeclaredTextsFit, ExpTextsFit, ExpsTextsFit, FieldsTextsFit, FieldTextsFit, StatTextsFit, ArmsTextsFit, StatsTextsFit, BlockTextsFit, BodyTextsFit}
+use Rattle.grammar_laws.proofs.PlacedParts.{Stays, block_stays}
+use Rattle.source_laws.proofs.Texts.{DeclaredTextsFit, exp_texts, stat_texts, body_texts, all_texts, BlockTextsFit, BodyTextsFit}
 use Rattle.source_laws.proofs.PartTexts.{PartFits, PartsFit, none, also, body_named}
 
 -- upvalues
@@ -80,66 +81,36 @@ declared_fit : (fs : List Frame) (names : List Declared) → DeclaredTextsFit na
 declared_fit fs [] h = tt
 declared_fit fs (d ∷ names) h = (h.0, declared_fit (declare fs (declared_variable d)) names h.1)
 
-mutual
-  exp_fits : (fs : List Frame) (e : Exp) → ExpTextsFit e → ExpTextsFit (placed_exp fs e)
-  exp_fits fs (Function line body) h = body_fits fs body h
-  exp_fits fs (Index line object key) h = (exp_fits fs object h.0, exp_fits fs key h.1)
-  exp_fits fs (Call line f es) h = (exp_fits fs f h.0, exps_fit fs es h.1)
-  exp_fits fs (Method line object name es) h = (exp_fits fs object h.0, (h.1.0, exps_fit fs es h.1.1))
-  exp_fits fs (Unary line op e) h = exp_fits fs e h
-  exp_fits fs (Binary line op e d) h = (exp_fits fs e h.0, exp_fits fs d h.1)
-  exp_fits fs (And line e d) h = (exp_fits fs e h.0, exp_fits fs d h.1)
-  exp_fits fs (Or line e d) h = (exp_fits fs e h.0, exp_fits fs d h.1)
-  exp_fits fs (Paren line e) h = exp_fits fs e h
-  exp_fits fs (Table line inner) h = fields_fit fs inner h
-  exp_fits fs _ h = h
+exp_stays : (p q : Type 0) (fs : List Frame) (e : Exp) → exp_texts e p → (p → q) → exp_texts (placed_exp fs e) q
+exp_stays p q fs (Int line z) h k = h
+exp_stays p q fs (Str line bytes) h k = h
+exp_stays p q fs (Var line name) h k = h
+exp_stays p q fs _ h k = k h
 
-  exps_fit : (fs : List Frame) (es : Exps) → ExpsTextsFit es → ExpsTextsFit (placed_exps fs es)
-  exps_fit fs EndExps h = tt
-  exps_fit fs (MoreExps e es) h = (exp_fits fs e h.0, exps_fit fs es h.1)
+stat_stays : (p q : Type 0) (fs : List Frame) (s : Stat) → stat_texts s p → (p → q) → stat_texts (placed_stat fs s) q
+stat_stays p q fs (Local line names es) h k = (declared_fit fs names h.0, k h.1)
+stat_stays p q fs (LocalFunction line name body) h k = (h.0, k h.1)
+stat_stays p q fs (NumFor line name from limit block) h k = (h.0, k h.1)
+stat_stays p q fs (NumForStep line name from limit step block) h k = (h.0, k h.1)
+stat_stays p q fs (GenFor line names es block) h k = (names_fit (declare_all fs generic_hidden) names h.0, k h.1)
+stat_stays p q fs _ h k = k h
 
-  fields_fit : (fs : List Frame) (inner : Fields) → FieldsTextsFit inner → FieldsTextsFit (placed_fields fs inner)
-  fields_fit fs EndFields h = tt
-  fields_fit fs (MoreFields f inner) h = (field_fits fs f h.0, fields_fit fs inner h.1)
+body_stays : (q : Type 0) (fs : List Frame) (params : List Name) (vararg : Bool) (inner : Block) (ups : List UpName) (line : ℕ)
+    → BodyTextsFit (BodyOf params vararg inner ups line) → (BlockTextsFit inner → q) → body_texts (placed_body fs (BodyOf params vararg inner ups line)) q
+body_stays q fs params vararg inner ups line h k =
+    let begin : List Frame = record { variables = []; upvalues = upvalues_of fs (BodyOf params vararg inner ups line) } ∷ fs in
+    (names_fit begin params h.0, (upvalues_fit fs (BodyOf params vararg inner ups line) h, k h.1.1))
 
-  field_fits : (fs : List Frame) (f : Field) → FieldTextsFit f → FieldTextsFit (placed_field fs f)
-  field_fits fs (Item e) h = exp_fits fs e h
-  field_fits fs (Keyed line e d) h = (exp_fits fs e h.0, exp_fits fs d h.1)
-
-  stat_fits : (fs : List Frame) (s : Stat) → StatTextsFit s → StatTextsFit (placed_stat fs s)
-  stat_fits fs (Local line names es) h = (declared_fit fs names h.0, exps_fit fs es h.1)
-  stat_fits fs (LocalFunction line name body) h = (h.0, body_fits (declare fs (plain_variable name)) body h.1)
-  stat_fits fs (Assign line targets es) h = (exps_fit fs targets h.0, exps_fit fs es h.1)
-  stat_fits fs (CallStat line e) h = exp_fits fs e h
-  stat_fits fs (Do line block) h = block_fits fs block h
-  stat_fits fs (While line e block) h = (exp_fits fs e h.0, block_fits fs block h.1)
-  stat_fits fs (Repeat line block e) h = (block_fits fs block h.0, exp_fits (behind fs block) e h.1)
-  stat_fits fs (If line arms) h = arms_fit fs arms h
-  stat_fits fs (IfElse line arms block) h = (arms_fit fs arms h.0, block_fits fs block h.1)
-  stat_fits fs (NumFor line name from limit block) h =
-      (h.0, (exp_fits fs from h.1.0, (exp_fits fs limit h.1.1.0, block_fits (declare (declare_all fs numeric_hidden) (plain_variable name)) block h.1.1.1)))
-  stat_fits fs (NumForStep line name from limit step block) h =
-      (h.0, (exp_fits fs from h.1.0, (exp_fits fs limit h.1.1.0, (exp_fits fs step h.1.1.1.0, block_fits (declare (declare_all fs numeric_hidden) (plain_variable name)) block h.1.1.1.1))))
-  stat_fits fs (GenFor line names es block) h =
-      (names_fit (declare_all fs generic_hidden) names h.0, (exps_fit fs es h.1.0, block_fits (declare_all (declare_all fs generic_hidden) (map plain_variable names)) block h.1.1))
-  stat_fits fs _ h = h
-
-  arms_fit : (fs : List Frame) (arms : Arms) → ArmsTextsFit arms → ArmsTextsFit (placed_arms fs arms)
-  arms_fit fs EndArms h = tt
-  arms_fit fs (MoreArms e block arms) h = (exp_fits fs e h.0, (block_fits fs block h.1.0, arms_fit fs arms h.1.1))
-
-  stats_fit : (fs : List Frame) (ss : Stats) → StatsTextsFit ss → StatsTextsFit (placed_stats fs ss)
-  stats_fit fs EndStats h = tt
-  stats_fit fs (MoreStats s ss) h = (stat_fits fs s h.0, stats_fit (declare_all fs (declared_by s)) ss h.1)
-
-  block_fits : (fs : List Frame) (block : Block) → BlockTextsFit block → BlockTextsFit (placed_block fs block)
-  block_fits fs (Falls ss tokens line) h = stats_fit fs ss h
-  block_fits fs (Returns ss es tokens line) h = (stats_fit fs ss h.0, exps_fit (behind_stats fs ss) es h.1)
-
-  body_fits : (fs : List Frame) (body : Body) → BodyTextsFit body → BodyTextsFit (placed_body fs body)
-  body_fits fs (BodyOf params vararg inner ups line) h =
-      let begin : List Frame = record { variables = []; upvalues = upvalues_of fs (BodyOf params vararg inner ups line) } ∷ fs in
-      (names_fit begin params h.0, (upvalues_fit fs (BodyOf params vararg inner ups line) h, block_fits (declare_all begin (map plain_variable params)) inner h.1.1))
+texts_stay : Stays all_texts
+texts_stay = record {
+  exp = exp_stays;
+  name = λ p q x h k. (h.0, k h.1);
+  stat = stat_stays;
+  loop = λ p q fs b h k. k h;
+  block = λ p q fs b h k. k h;
+  body = body_stays;
+}
 
 pub placed_fits : (block : Block) → BlockTextsFit block → BodyTextsFit (placed block)
-placed_fits block h = (tt, ((refl, (omega arith, tt)), block_fits _ block h))
+placed_fits block h =
+    (tt, ((refl, (omega arith, tt)), block_stays all_texts texts_stay (record { variables = []; upvalues = main_upvalues } ∷ []) block h))

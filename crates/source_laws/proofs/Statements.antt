@@ -20,15 +20,16 @@ use Rattle.tree_terms.specs.Labels.{Named, names_ahead, names_passed}
 use Rattle.stat_laws.specs.Scoped.{MayAssign, IsNear, TargetsArePlaced, KeptIsPlaced, StoreIsPlaced, AssignIsPlaced, ListIsPlaced, LastIsPlaced, ReturnIsPlaced, StatIsPlaced, ArmsArePlaced, StatsArePlaced, BlockIsPlaced, OpenIsPlaced, TwoIsPlaced}
 use Rattle.scope_laws.specs.Keeping.{BlockKeeps, StatsKeep, StatKeeps, ArmsKeep}
 use Rattle.scope_laws.specs.Finding.{PlaceIsThere, ExpsFind, BlockFinds, StatsFind, StatFinds, ArmsFind}
-use Rattle.code_bounds.specs.Constants.{ExpsHave, StatHas, ArmsHave, StatsHave, BlockHas}
+use Rattle.code_bounds.specs.Constants.{BlockHas, all_constants}
 use Rattle.code_bounds.specs.Functions.{ExpsMake, StatMakes, ArmsMake, StatsMake, BlockMakes}
 use Rattle.code_bounds.specs.Registers.{TargetsHaveRoom, KeptHasRoom, StoreHasRoom, AssignHasRoom, StatHasRoom, ArmsHaveRoom, StatsHaveRoom, BlockHasRoom, TwoHasRoom}
 use Rattle.code_bounds.proofs.Widths.{list_width, targets_width}
 use Rattle.tree_terms.specs.Weight.{weight_of_exps, weight_of_stat, weight_of_arms, weight_of_stats, weight_of_block}
+use Rattle.tree_terms.specs.Asked.{ExpsMeet, StatMeets, ArmsMeet, StatsMeet}
 use Rattle.code_bounds.proofs.Counts.{arguments_weigh}
 use Rattle.code_bounds.proofs.ShortStatements.{block_short}
-use Rattle.grammar_laws.specs.Formed.{IsCall, AreTargets, StatIsFormed, ArmsAreFormed, StatsAreFormed, BlockIsFormed}
-use Rattle.grammar_laws.specs.Counted.{StatIsCounted, ArmsAreCounted, StatsAreCounted, BlockIsCounted}
+use Rattle.grammar_laws.specs.Formed.{IsCall, AreTargets, BlockIsFormed, all_formed}
+use Rattle.grammar_laws.specs.Counted.{BlockIsCounted, all_counted}
 use Rattle.source_laws.proofs.Around.{Around, constants_of, functions_of, stack_of, counting, iterating}
 use Rattle.source_laws.proofs.Expressions.{constant_found, inner_placed, captures_placed, exp_placed, exps_placed}
 use Rattle.source_laws.proofs.Fields.{light}
@@ -54,7 +55,7 @@ module _ (x : Around) where
   place_may _ t f = tt
 
   targets_placed :
-      (es : Exps) (r t j : ℕ) → AreTargets es → ExpsFind es x.hidden t x.ups → ExpsHave (constants_of x) es → ExpsMake x.source (functions_of x) es j
+      (es : Exps) (r t j : ℕ) → AreTargets es → ExpsFind es x.hidden t x.ups → ExpsMeet (all_constants (constants_of x)) es → ExpsMake x.source (functions_of x) es j
       → TargetsHaveRoom (constants_of x) (stack_of x) es r → j + made_in es ≤ x.most → weight_of_exps es ≤ x.heavy → TargetsArePlaced x.setting es r t j
   targets_placed EndExps r t j o f h m s b w = tt
   targets_placed (MoreExps (Var line name) es) r t j o f h m s b w = (
@@ -76,12 +77,12 @@ module _ (x : Around) where
   -- what is returned
 
   list_placed :
-      (es : Exps) (t j : ℕ) → t + held_behind 0 es ≤ 250 → ExpsFind es x.hidden t x.ups → ExpsHave (constants_of x) es → ExpsMake x.source (functions_of x) es j
+      (es : Exps) (t j : ℕ) → t + held_behind 0 es ≤ 250 → ExpsFind es x.hidden t x.ups → ExpsMeet (all_constants (constants_of x)) es → ExpsMake x.source (functions_of x) es j
       → t + room_of_last (constants_of x) es ≤ stack_of x → j + made_in es ≤ x.most → weight_of_exps es ≤ x.heavy → ListIsPlaced x.setting es t j
   list_placed es t j g f h m s b w = (exps_placed x es t j f h m b w, (s, list_width es t g))
 
   last_placed :
-      (es : Exps) (t j : ℕ) → t + held_behind 0 es ≤ 250 → ExpsFind es x.hidden t x.ups → ExpsHave (constants_of x) es → ExpsMake x.source (functions_of x) es j
+      (es : Exps) (t j : ℕ) → t + held_behind 0 es ≤ 250 → ExpsFind es x.hidden t x.ups → ExpsMeet (all_constants (constants_of x)) es → ExpsMake x.source (functions_of x) es j
       → t + room_of_last (constants_of x) es ≤ stack_of x → j + made_in es ≤ x.most → weight_of_exps es ≤ x.heavy → LastIsPlaced x.setting es t j
   last_placed (MoreExps (Call line called es) EndExps) t j g f h m s b w =
       let arguments = arguments_weigh es in (
@@ -102,7 +103,7 @@ module _ (x : Around) where
   last_placed es t j g f h m s b w = list_placed es t j g f h m s b w
 
   pub return_placed :
-      (es : Exps) (closing : Bool) (t j : ℕ) → t + held_behind 0 es ≤ 250 → ExpsFind es x.hidden t x.ups → ExpsHave (constants_of x) es → ExpsMake x.source (functions_of x) es j
+      (es : Exps) (closing : Bool) (t j : ℕ) → t + held_behind 0 es ≤ 250 → ExpsFind es x.hidden t x.ups → ExpsMeet (all_constants (constants_of x)) es → ExpsMake x.source (functions_of x) es j
       → t + room_of_last (constants_of x) es ≤ stack_of x → j + made_in es ≤ x.most → weight_of_exps es ≤ x.heavy → ReturnIsPlaced x.setting es closing t j
   return_placed es false t j g f h m s b w = last_placed es t j g f h m s b w
   return_placed es true t j g f h m s b w = list_placed es t j g f h m s b w
@@ -110,8 +111,8 @@ module _ (x : Around) where
 mutual
   stat_placed :
       (x : Around) (s : Stat) (closing : Bool) (t j : ℕ) (named : List Named) (loops : Bool) → StatKeeps s x.vararg t named loops → t + held_stat s ≤ 250
-      → StatFinds s x.hidden t x.ups → StatHas (constants_of x) s → StatMakes x.source (functions_of x) s j → StatHasRoom (constants_of x) (stack_of x) s t
-      → StatIsFormed s → StatIsCounted s → j + made_by_stat s ≤ x.most → weight_of_stat s ≤ x.heavy → StatIsPlaced x.setting s closing t j named loops
+      → StatFinds s x.hidden t x.ups → StatMeets (all_constants (constants_of x)) s → StatMakes x.source (functions_of x) s j → StatHasRoom (constants_of x) (stack_of x) s t
+      → StatMeets all_formed s → StatMeets all_counted s → j + made_by_stat s ≤ x.most → weight_of_stat s ≤ x.heavy → StatIsPlaced x.setting s closing t j named loops
   stat_placed x (Empty line) closing t j named loops k g f h m s o c b w = tt
   stat_placed x (Local line names es) closing t j named loops k g f h m s o c b w =
       let declared = k.1 in
@@ -175,8 +176,8 @@ mutual
         (
           s.1.1.0,
           (
-            near x block closing (t + 3) (t + 4) inner c.2 k.1.1.1.0,
-            block_placed (counting x t) block closing (t + 4) inner named true k.1.1.1.1 f.1.1 h.1.1 m.1.1 s.1.1.1 o.1.1 c.2 (omega (arith, b)) (omega (arith, w)),
+            near x block closing (t + 3) (t + 4) inner c.1.1 k.1.1.1.0,
+            block_placed (counting x t) block closing (t + 4) inner named true k.1.1.1.1 f.1.1 h.1.1 m.1.1 s.1.1.1 o.1.1 c.1.1 (omega (arith, b)) (omega (arith, w)),
           ),
         ),
       )
@@ -193,8 +194,8 @@ mutual
             (
               s.1.1.1.0,
               (
-                near x block closing (t + 3) (t + 4) inner c.3 k.1.1.1.1.0,
-                block_placed (counting x t) block closing (t + 4) inner named true k.1.1.1.1.1 f.1.1.1 h.1.1.1 m.1.1.1 s.1.1.1.1 o.1.1.1 c.3 (omega (arith, b)) (omega (arith, w)),
+                near x block closing (t + 3) (t + 4) inner c.1.1.1 k.1.1.1.1.0,
+                block_placed (counting x t) block closing (t + 4) inner named true k.1.1.1.1.1 f.1.1.1 h.1.1.1 m.1.1.1 s.1.1.1.1 o.1.1.1 c.1.1.1 (omega (arith, b)) (omega (arith, w)),
               ),
             ),
           ),
@@ -227,24 +228,24 @@ mutual
 
   arms_placed :
       (x : Around) (arms : Arms) (closing : Bool) (t j : ℕ) (named : List Named) (loops : Bool) → ArmsKeep arms x.vararg t named loops
-      → ArmsFind arms x.hidden t x.ups → ArmsHave (constants_of x) arms → ArmsMake x.source (functions_of x) arms j → ArmsHaveRoom (constants_of x) (stack_of x) arms t
-      → ArmsAreFormed arms → ArmsAreCounted arms → j + made_in_arms arms ≤ x.most → weight_of_arms arms ≤ x.heavy → ArmsArePlaced x.setting arms closing t j named loops
+      → ArmsFind arms x.hidden t x.ups → ArmsMeet (all_constants (constants_of x)) arms → ArmsMake x.source (functions_of x) arms j → ArmsHaveRoom (constants_of x) (stack_of x) arms t
+      → ArmsMeet all_formed arms → ArmsMeet all_counted arms → j + made_in_arms arms ≤ x.most → weight_of_arms arms ≤ x.heavy → ArmsArePlaced x.setting arms closing t j named loops
   arms_placed x EndArms closing t j named loops k f h m s o c b w = tt
   arms_placed x (MoreArms e block arms) closing t j named loops k f h m s o c b w = (
     exp_placed x e t j f.0 h.0 m.0 (omega (arith, b)) (omega (arith, w)),
     (
       s.0,
       (
-        block_placed x block closing t (j + made_by e) named loops k.1.0 f.1.0 h.1.0 m.1.0 s.1.0 o.1.0 c.1 (omega (arith, b)) (omega (arith, w)),
-        arms_placed x arms closing t (j + made_by e + made_in_block block) named loops k.1.1 f.1.1 h.1.1 m.1.1 s.1.1 o.1.1 c.2 (omega (arith, b)) (omega (arith, w)),
+        block_placed x block closing t (j + made_by e) named loops k.1.0 f.1.0 h.1.0 m.1.0 s.1.0 o.1.0 c.1.0 (omega (arith, b)) (omega (arith, w)),
+        arms_placed x arms closing t (j + made_by e + made_in_block block) named loops k.1.1 f.1.1 h.1.1 m.1.1 s.1.1 o.1.1 c.1.1 (omega (arith, b)) (omega (arith, w)),
       ),
     ),
   )
 
   pub stats_placed :
       (x : Around) (ss : Stats) (falls closing : Bool) (t j : ℕ) (names named : List Named) (loops : Bool) → StatsKeep ss falls x.vararg t names named loops
-      → StatsFind ss x.hidden t x.ups → StatsHave (constants_of x) ss → StatsMake x.source (functions_of x) ss j → StatsHaveRoom (constants_of x) (stack_of x) ss t
-      → StatsAreFormed ss → StatsAreCounted ss → j + made_in_stats ss ≤ x.most → weight_of_stats ss ≤ x.heavy → StatsArePlaced x.setting ss falls closing t j names named loops
+      → StatsFind ss x.hidden t x.ups → StatsMeet (all_constants (constants_of x)) ss → StatsMake x.source (functions_of x) ss j → StatsHaveRoom (constants_of x) (stack_of x) ss t
+      → StatsMeet all_formed ss → StatsMeet all_counted ss → j + made_in_stats ss ≤ x.most → weight_of_stats ss ≤ x.heavy → StatsArePlaced x.setting ss falls closing t j names named loops
   stats_placed x EndStats falls closing t j names named loops k f h m s o c b w = tt
   stats_placed x (MoreStats stat ss) falls closing t j names named loops k f h m s o c b w = (
     stat_placed x stat closing t j (names_ahead ss falls t (level_after stat t) ++ (names ++ named)) loops k.1.0 k.0 f.0 h.0 m.0 s.1.0 o.0 c.0 (omega (arith, b)) (omega (arith, w)),
@@ -257,7 +258,7 @@ mutual
       → BlockIsFormed block → BlockIsCounted block → j + made_in_block block ≤ x.most → weight_of_block block ≤ x.heavy → BlockIsPlaced x.setting block closing t j named loops
   block_placed x (Falls ss tokens line) closing t j named loops k f h m s o c b w = stats_placed x ss true closing t j [] named loops k f h m s o c.1 b w
   block_placed x (Returns ss es tokens line) closing t j named loops k f h m s o c b w = (
-    stats_placed x ss false closing t j [] named loops k.0 f.0 h.0 m.0 s.0 o.0 c.1 (omega (arith, b)) (omega (arith, w)),
+    stats_placed x ss false closing t j [] named loops k.0 f.0 h.0 m.0 s.0 o.0 c.1.0 (omega (arith, b)) (omega (arith, w)),
     return_placed x es (closings_after ss closing) (levels_after ss t) (j + made_in_stats ss) k.1.0 f.1 h.1 m.1 s.1 (omega (arith, b)) (omega (arith, w)),
   )
 
@@ -268,6 +269,6 @@ mutual
       → BlockIsFormed block → BlockIsCounted block → j + made_in_block block ≤ x.most → weight_of_block block ≤ x.heavy → OpenIsPlaced x.setting block closing t j named loops
   open_placed x (Falls ss tokens line) closing t j named loops k f h m s o c b w = stats_placed x ss false closing t j [] named loops k f h m s o c.1 b w
   open_placed x (Returns ss es tokens line) closing t j named loops k f h m s o c b w = (
-    stats_placed x ss false closing t j [] named loops k.0 f.0 h.0 m.0 s.0 o.0 c.1 (omega (arith, b)) (omega (arith, w)),
+    stats_placed x ss false closing t j [] named loops k.0 f.0 h.0 m.0 s.0 o.0 c.1.0 (omega (arith, b)) (omega (arith, w)),
     return_placed x es (closings_after ss closing) (levels_after ss t) (j + made_in_stats ss) k.1.0 f.1 h.1 m.1 s.1 (omega (arith, b)) (omega (arith, w)),
   )

@@ -6,6 +6,7 @@ use Rattle.tree_core.specs.declared.name.Declared.{Declared}
 use Rattle.tree_core.specs.declared.operator.UnOp.{UnOp}
 use Rattle.tree_core.specs.Tree as tree
 use Rattle.tree_core.specs.Plain.{block_of, if_of, num_for_of}
+use Rattle.tree_terms.specs.Asked.{ExpMeets, ExpsMeet, FieldsMeet, FieldMeets, StatMeets, ArmsMeet, StatsMeet}
 use Rattle.tree_making.specs.Made.{above, joined}
 use Rattle.tree_making.specs.Form.{is_target, is_call, variable_of}
 use Rattle.tree_making.specs.declared.operator.Infix.{Infix}
@@ -25,7 +26,7 @@ use Rattle.lua_parse.specs.Grammar.{expects, name_move, constant_move, operand, 
 use Rattle.grammar_laws.proofs.Operands.{operand_has, right_has}
 use Rattle.code_core.specs.Writable.{signed_fits}
 use Rattle.code_checked.specs.Written.{TextFits, NamesFit}
-use Rattle.source_laws.proofs.Texts.{DeclaredTextsFit, ExpTextsFit, ExpsTextsFit, FieldsTextsFit, FieldTextsFit, StatTextsFit, ArmsTextsFit, StatsTextsFit, BlockTextsFit, BodyTextsFit}
+use Rattle.source_laws.proofs.Texts.{DeclaredTextsFit, BlockTextsFit, BodyTextsFit, all_texts}
 use Rattle.grammar_laws.proofs.Walk.{Keeps, picks, passes, refuses, reads, ends, either, passes_if, only_reads, on_a_line, on_a_name, on_some_names, on_some_params, on_a_declared, on_some_declared, on_an_exp, on_maybe_exp, on_some_exps, on_a_field, on_some_fields, on_a_target, on_an_arm, on_some_arms, on_some_items, on_a_stat, on_a_block, on_maybe_block, on_a_body}
 
 abbrev pub TokenFits : Token → Type 0
@@ -43,7 +44,7 @@ MaybeText (Some text) = TextFits text
 
 abbrev pub MaybeFits : Option tree.Exp → Type 0
 MaybeFits None = Unit {0}
-MaybeFits (Some e) = ExpTextsFit e
+MaybeFits (Some e) = ExpMeets all_texts e
 
 abbrev pub ElseFits : Option tree.Block → Type 0
 ElseFits None = Unit {0}
@@ -51,7 +52,7 @@ ElseFits (Some b) = BlockTextsFit b
 
 abbrev pub ValuesFit : Option (List tree.Exp) → Type 0
 ValuesFit None = Unit {0}
-ValuesFit (Some es) = ExpsTextsFit (tree.exps es)
+ValuesFit (Some es) = ExpsMeet all_texts (tree.exps es)
 
 abbrev pub PieceFits : Piece → Type 0
 PieceFits (a_line line) = Unit {0}
@@ -60,16 +61,16 @@ PieceFits (some_names xs) = NamesFit xs
 PieceFits (some_params xs vararg) = NamesFit xs
 PieceFits (a_declared d) = TextFits d.name.text
 PieceFits (some_declared ds) = DeclaredTextsFit ds
-PieceFits (an_exp e) = ExpTextsFit e
+PieceFits (an_exp e) = ExpMeets all_texts e
 PieceFits (maybe_exp e) = MaybeFits e
-PieceFits (some_exps es) = ExpsTextsFit (tree.exps es)
-PieceFits (a_field f) = FieldTextsFit f
-PieceFits (some_fields fs) = FieldsTextsFit (tree.fields fs)
-PieceFits (a_target e own) = ExpTextsFit e × NamesFit own
-PieceFits (an_arm e b) = ExpTextsFit e × BlockTextsFit b
-PieceFits (some_arms as') = ArmsTextsFit (tree.arms as')
-PieceFits (some_items ss es line) = StatsTextsFit (tree.stats ss) × ValuesFit es
-PieceFits (a_stat s) = StatTextsFit s
+PieceFits (some_exps es) = ExpsMeet all_texts (tree.exps es)
+PieceFits (a_field f) = FieldMeets all_texts f
+PieceFits (some_fields fs) = FieldsMeet all_texts (tree.fields fs)
+PieceFits (a_target e own) = ExpMeets all_texts e × NamesFit own
+PieceFits (an_arm e b) = ExpMeets all_texts e × BlockTextsFit b
+PieceFits (some_arms as') = ArmsMeet all_texts (tree.arms as')
+PieceFits (some_items ss es line) = StatsMeet all_texts (tree.stats ss) × ValuesFit es
+PieceFits (a_stat s) = StatMeets all_texts s
 PieceFits (a_block b) = BlockTextsFit b
 PieceFits (maybe_block b) = ElseFits b
 PieceFits (a_body b) = BodyTextsFit b
@@ -79,27 +80,27 @@ Fits part room p = PieceFits p
 
 -- what stands before a part
 abbrev pub FrontFits : Part → Type 0
-FrontFits (behind level left height) = ExpTextsFit left
-FrontFits (more_fields fs height) = FieldsTextsFit (tree.fields fs)
-FrontFits (suffixes left height) = ExpTextsFit left
-FrontFits (suffix left height) = ExpTextsFit left
-FrontFits (dotted w left height) = ExpTextsFit left
-FrontFits (indexed left height) = ExpTextsFit left
-FrontFits (method left height) = ExpTextsFit left
-FrontFits (call left height) = ExpTextsFit left
-FrontFits (more_exps es height) = ExpsTextsFit (tree.exps es)
+FrontFits (behind level left height) = ExpMeets all_texts left
+FrontFits (more_fields fs height) = FieldsMeet all_texts (tree.fields fs)
+FrontFits (suffixes left height) = ExpMeets all_texts left
+FrontFits (suffix left height) = ExpMeets all_texts left
+FrontFits (dotted w left height) = ExpMeets all_texts left
+FrontFits (indexed left height) = ExpMeets all_texts left
+FrontFits (method left height) = ExpMeets all_texts left
+FrontFits (call left height) = ExpMeets all_texts left
+FrontFits (more_exps es height) = ExpsMeet all_texts (tree.exps es)
 FrontFits (body line own) = NamesFit own
 FrontFits (params own) = NamesFit own
 FrontFits (more_params xs) = NamesFit xs
-FrontFits (items ss height) = StatsTextsFit (tree.stats ss)
-FrontFits (more_arms as' height) = ArmsTextsFit (tree.arms as')
+FrontFits (items ss height) = StatsMeet all_texts (tree.stats ss)
+FrontFits (more_arms as' height) = ArmsMeet all_texts (tree.arms as')
 FrontFits (numeric line x) = TextFits x.text
 FrontFits (generic line x) = TextFits x.text
 FrontFits (more_names xs) = NamesFit xs
-FrontFits (path left height) = ExpTextsFit left
+FrontFits (path left height) = ExpMeets all_texts left
 FrontFits (more_declared ds) = DeclaredTextsFit ds
-FrontFits (assignment line first height) = ExpTextsFit first
-FrontFits (more_targets ts height) = ExpsTextsFit (tree.exps ts)
+FrontFits (assignment line first height) = ExpMeets all_texts first
+FrontFits (more_targets ts height) = ExpsMeet all_texts (tree.exps ts)
 FrontFits _ = Unit {0}
 
 abbrev pub StandsFit : Part → ℕ → Type 0
@@ -121,19 +122,19 @@ more_declared_fit : (ds : List Declared) (d : Declared) → DeclaredTextsFit ds 
 more_declared_fit [] d h k = (k, tt)
 more_declared_fit (c ∷ ds) d h k = (h.0, more_declared_fit ds d h.1 k)
 
-more_exps_fit : (es : List tree.Exp) (e : tree.Exp) → ExpsTextsFit (tree.exps es) → ExpTextsFit e → ExpsTextsFit (tree.exps (es ++ e ∷ []))
+more_exps_fit : (es : List tree.Exp) (e : tree.Exp) → ExpsMeet all_texts (tree.exps es) → ExpMeets all_texts e → ExpsMeet all_texts (tree.exps (es ++ e ∷ []))
 more_exps_fit [] e h k = (k, tt)
 more_exps_fit (d ∷ es) e h k = (h.0, more_exps_fit es e h.1 k)
 
-more_fields_fit : (fs : List tree.Field) (f : tree.Field) → FieldsTextsFit (tree.fields fs) → FieldTextsFit f → FieldsTextsFit (tree.fields (fs ++ f ∷ []))
+more_fields_fit : (fs : List tree.Field) (f : tree.Field) → FieldsMeet all_texts (tree.fields fs) → FieldMeets all_texts f → FieldsMeet all_texts (tree.fields (fs ++ f ∷ []))
 more_fields_fit [] f h k = (k, tt)
 more_fields_fit (g ∷ fs) f h k = (h.0, more_fields_fit fs f h.1 k)
 
-more_stats_fit : (ss : List tree.Stat) (s : tree.Stat) → StatsTextsFit (tree.stats ss) → StatTextsFit s → StatsTextsFit (tree.stats (ss ++ s ∷ []))
+more_stats_fit : (ss : List tree.Stat) (s : tree.Stat) → StatsMeet all_texts (tree.stats ss) → StatMeets all_texts s → StatsMeet all_texts (tree.stats (ss ++ s ∷ []))
 more_stats_fit [] s h k = (k, tt)
 more_stats_fit (r ∷ ss) s h k = (h.0, more_stats_fit ss s h.1 k)
 
-more_arms_fit : (as' : List (tree.Exp × tree.Block)) (e : tree.Exp) (b : tree.Block) → ArmsTextsFit (tree.arms as') → ExpTextsFit e → BlockTextsFit b → ArmsTextsFit (tree.arms (as' ++ (e, b) ∷ []))
+more_arms_fit : (as' : List (tree.Exp × tree.Block)) (e : tree.Exp) (b : tree.Block) → ArmsMeet all_texts (tree.arms as') → ExpMeets all_texts e → BlockTextsFit b → ArmsMeet all_texts (tree.arms (as' ++ (e, b) ∷ []))
 more_arms_fit [] e b h k l = (k, (l, tt))
 more_arms_fit (a ∷ as') e b h k l = (h.0, (h.1.0, more_arms_fit as' e b h.1.1 k l))
 
@@ -173,7 +174,7 @@ string_kept room line (Some bytes) h = passes (ends (h, tt))
 
 -- operators
 
-joined_fits : (op : Infix) (line : ℕ) (a b : tree.Exp) → ExpTextsFit a → ExpTextsFit b → ExpTextsFit (joined op line a b)
+joined_fits : (op : Infix) (line : ℕ) (a b : tree.Exp) → ExpMeets all_texts a → ExpMeets all_texts b → ExpMeets all_texts (joined op line a b)
 joined_fits joining.Or line a b h k = (h, k)
 joined_fits joining.And line a b h k = (h, k)
 joined_fits (joining.Binary op) line a b h k = (h, k)
@@ -184,7 +185,7 @@ operand_stands level = operand_has FrontFits (λ level. tt) tt level
 right_stands : (level : Level) → FrontFits (right_operand level)
 right_stands level = right_has FrontFits (λ level. tt) tt level
 
-operator_kept : (room : ℕ) (level : Level) (left : tree.Exp) (height line : ℕ) (o : Option Infix) → ExpTextsFit left → KeepsTexts (behind level left height) room (operator_move room level left height line o)
+operator_kept : (room : ℕ) (level : Level) (left : tree.Exp) (height line : ℕ) (o : Option Infix) → ExpMeets all_texts left → KeepsTexts (behind level left height) room (operator_move room level left height line o)
 operator_kept room level left height line None h = ends h
 operator_kept room level left height line (Some op) h =
     passes_if (nat_lt height room) (on_an_exp (right_stands level) (λ e h' k c. only_part (behind level (joined op line left e) (above height h')) (joined_fits op line left e h c)))
@@ -193,7 +194,7 @@ unary_kept : (room line : ℕ) (o : Option UnOp) → KeepsTexts unary room (unar
 unary_kept room line None = only_part simple tt
 unary_kept room line (Some op) = passes_if (nat_lt 0 room) (on_an_exp tt (λ e h k c. ends c))
 
-item_kept : (room : ℕ) (e : tree.Exp) → ExpTextsFit e → KeepsTexts item room (item_move room (variable_of e))
+item_kept : (room : ℕ) (e : tree.Exp) → ExpMeets all_texts e → KeepsTexts item room (item_move room (variable_of e))
 item_kept room (tree.Var line x) h = passes (on_an_exp tt (λ value h' k c. ends (h, c)))
 item_kept room _ h = refuses
 
@@ -213,15 +214,15 @@ start_kept room line start.Prefix = only_part prefix_stat tt
 
 -- statements of parts that may be missing
 
-block_fits : (ss : List tree.Stat) (es : Option (List tree.Exp)) (tokens line : ℕ) → StatsTextsFit (tree.stats ss) → ValuesFit es → BlockTextsFit (block_of ss es tokens line)
+block_fits : (ss : List tree.Stat) (es : Option (List tree.Exp)) (tokens line : ℕ) → StatsMeet all_texts (tree.stats ss) → ValuesFit es → BlockTextsFit (block_of ss es tokens line)
 block_fits ss None tokens line h k = h
 block_fits ss (Some es) tokens line h k = (h, k)
 
-if_fits : (line : ℕ) (as' : List (tree.Exp × tree.Block)) (b : Option tree.Block) → ArmsTextsFit (tree.arms as') → ElseFits b → StatTextsFit (if_of line as' b)
+if_fits : (line : ℕ) (as' : List (tree.Exp × tree.Block)) (b : Option tree.Block) → ArmsMeet all_texts (tree.arms as') → ElseFits b → StatMeets all_texts (if_of line as' b)
 if_fits line as' None h k = h
 if_fits line as' (Some b) h k = (h, k)
 
-for_fits : (line : ℕ) (x : Name) (a b : tree.Exp) (c : Option tree.Exp) (inner : tree.Block) → TextFits x.text → ExpTextsFit a → ExpTextsFit b → MaybeFits c → BlockTextsFit inner → StatTextsFit (num_for_of line x a b c inner)
+for_fits : (line : ℕ) (x : Name) (a b : tree.Exp) (c : Option tree.Exp) (inner : tree.Block) → TextFits x.text → ExpMeets all_texts a → ExpMeets all_texts b → MaybeFits c → BlockTextsFit inner → StatMeets all_texts (num_for_of line x a b c inner)
 for_fits line x a b None inner m h k i j = (m, (h, (k, j)))
 for_fits line x a b (Some c) inner m h k i j = (m, (h, (k, (i, j))))
 

@@ -4,3 +4,4 @@ pub mod Labels
 pub mod Hidden
 pub mod Weight
 pub mod FunctionCount
+pub mod Asked
