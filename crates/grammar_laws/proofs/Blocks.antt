@@ -12,8 +12,10 @@ use Rattle.lua_parse.specs.Moves.{chunk, body, params, more_params, block, items
 use Rattle.lua_parse.specs.Grammar.{stat_move}
 use Rattle.grammar_laws.proofs.Claims.{ItemsHold, BlockHolds}
 use Rattle.grammar_laws.proofs.SizeKeeping.{Keeps, picks, passes, ends, either, passes_if, on_a_line, on_a_name, on_some_params, on_an_exp, on_some_exps, on_an_arm, on_some_items, on_a_stat, on_a_block, only_reads, more}
-use Rattle.grammar_laws.proofs.Lists.{stats_weigh, stats_have, stats_counted, arms_weigh, arms_have, arms_counted}
+use Rattle.grammar_laws.proofs.Lists.{stats_weigh, stats_have, arms_weigh, arms_have}
 use Rattle.grammar_laws.proofs.Words.{Kept}
+use Rattle.grammar_laws.proofs.Asking.{arms_more, stats_more}
+use Rattle.grammar_laws.specs.Counted.{all_counted}
 
 pub chunk_kept : Kept chunk
 chunk_kept room ready = on_a_block tt (λ b h k j c. picks (λ t. passes_if (is_end t.0) (λ is. ends (omega (arith, c.0), omega (arith, c.1), c.2))))
@@ -50,7 +52,7 @@ items_kept ss height room ready =
     picks (λ t. either (is_word RETURN t.0) (passes (on_some_exps tt (λ es h k j c. ends (omega (arith, c.0), omega (arith, c.1), (ready, c.2)))))
     (either (ends_block t.0) (ends (omega arith, omega arith, ready))
     (on_a_stat tt (λ s h k j c.
-    only_reads (items (ss ++ s ∷ []) (max height h)) (stats_counted ss s ready c.2) (λ p k' j' d.
+    only_reads (items (ss ++ s ∷ []) (max height h)) (stats_more all_counted ss s ready c.2) (λ p k' j' d.
     more p (omega (arith, c.0, stats_weigh ss s)) (omega (arith, c.1, stats_have ss s)) d)))))
 
 pub returned_kept : Kept returned
@@ -73,7 +75,7 @@ pub more_arms_kept : (as' : List (tree.Exp × tree.Block)) (height : ℕ) → Ke
 more_arms_kept as' height room ready =
     picks (λ t. either (is_word ELSEIF t.0)
     (passes (on_an_arm tt (λ e b h k j c.
-    only_reads (more_arms (as' ++ (e, b) ∷ []) (max height h)) (arms_counted as' e b ready c.2.0 c.2.1) (λ p k' j' d.
+    only_reads (more_arms (as' ++ (e, b) ∷ []) (max height h)) (arms_more all_counted as' e b ready c.2.0 c.2.1) (λ p k' j' d.
     more p (omega (arith, c.0, arms_weigh as' e b)) (omega (arith, c.1, arms_have as' e b)) d))))
     (ends (omega arith, omega arith, ready)))
 

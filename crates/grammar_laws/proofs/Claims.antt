@@ -13,6 +13,7 @@ use Rattle.tree_terms.specs.Weight.{weight, weight_of_arguments, weight_of_exps,
 use Rattle.tree_terms.specs.FunctionCount.{functions, functions_in_exps, functions_in_fields, functions_in_field, functions_in_stat, functions_in_arms, functions_in_stats, functions_in_block, functions_in_body}
 use Rattle.tree_terms.specs.Asked.{ExpMeets, ExpsMeet, FieldsMeet, FieldMeets, StatMeets, ArmsMeet, StatsMeet}
 use Rattle.grammar_laws.specs.Counted.{BlockIsCounted, BodyIsCounted, all_counted}
+use Rattle.grammar_laws.proofs.Asking.{FrontMeets}
 
 -- tokens `function`
 
@@ -173,18 +174,4 @@ written (more_targets ts height) = functions_in_exps (tree.exps ts)
 written _ = 0
 
 abbrev pub IsReady : Part → Type 0
-IsReady (behind level left height) = ExpMeets all_counted left
-IsReady (more_fields fs height) = FieldsMeet all_counted (tree.fields fs)
-IsReady (suffixes left height) = ExpMeets all_counted left
-IsReady (suffix left height) = ExpMeets all_counted left
-IsReady (dotted w left height) = ExpMeets all_counted left
-IsReady (indexed left height) = ExpMeets all_counted left
-IsReady (method left height) = ExpMeets all_counted left
-IsReady (call left height) = ExpMeets all_counted left
-IsReady (more_exps es height) = ExpsMeet all_counted (tree.exps es)
-IsReady (items ss height) = StatsMeet all_counted (tree.stats ss)
-IsReady (more_arms as' height) = ArmsMeet all_counted (tree.arms as')
-IsReady (path left height) = ExpMeets all_counted left
-IsReady (assignment line first height) = ExpMeets all_counted first
-IsReady (more_targets ts height) = ExpsMeet all_counted (tree.exps ts)
-IsReady _ = Unit {0}
+IsReady part = FrontMeets all_counted part

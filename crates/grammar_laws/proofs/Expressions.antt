@@ -21,8 +21,9 @@ use Rattle.tree_terms.specs.Asked.{ExpMeets}
 use Rattle.grammar_laws.specs.Counted.{all_counted}
 use Rattle.grammar_laws.proofs.Claims.{ExpHolds, Claim, carried, written, IsReady}
 use Rattle.grammar_laws.proofs.SizeKeeping.{opened, Keeps, picks, passes, refuses, reads, ends, either, either_by, passes_if, on_a_line, on_a_name, on_an_exp, on_some_exps, on_a_field, on_some_fields, on_a_body, only_reads, more, more_arguments, more_fields_hold}
-use Rattle.grammar_laws.proofs.Lists.{exps_weigh, exps_have, exps_counted, fields_weigh, fields_have, fields_counted, arguments_weigh}
+use Rattle.grammar_laws.proofs.Lists.{exps_weigh, exps_have, fields_weigh, fields_have, arguments_weigh}
 use Rattle.grammar_laws.proofs.Words.{Kept, light_constant, constant_keeps}
+use Rattle.grammar_laws.proofs.Asking.{exps_more, fields_more}
 
 -- chains of operators
 
@@ -108,7 +109,7 @@ pub more_fields_kept : (fs : List tree.Field) (height : ℕ) → Kept (more_fiel
 more_fields_kept fs height room ready =
     picks (λ t. either (is_word CLOSE_CURLY t.0) (passes (ends (omega arith, omega arith, ready)))
     (on_a_field tt (λ f h k j c.
-    only_reads (more_fields (fs ++ f ∷ []) (max height h)) (fields_counted fs f ready c.2) (λ p k' j' d.
+    only_reads (more_fields (fs ++ f ∷ []) (max height h)) (fields_more all_counted fs f ready c.2) (λ p k' j' d.
     more_fields_hold p (omega (arith, c.0, fields_weigh fs f)) (omega (arith, c.1, fields_have fs f)) d))))
 
 pub separated_field_kept : Kept separated_field
@@ -209,6 +210,6 @@ pub more_exps_kept : (es : List tree.Exp) (height : ℕ) → Kept (more_exps es 
 more_exps_kept es height room ready =
     picks (λ t. either (is_word COMMA t.0)
     (passes (on_an_exp tt (λ e h k j c.
-    only_reads (more_exps (es ++ e ∷ []) (max height h)) (exps_counted es e ready c.2) (λ p k' j' d.
+    only_reads (more_exps (es ++ e ∷ []) (max height h)) (exps_more all_counted es e ready c.2) (λ p k' j' d.
     more p (omega (arith, c.0, exps_weigh es e)) (omega (arith, c.1, exps_have es e)) d))))
     (ends (omega arith, omega arith, ready)))

@@ -5,7 +5,7 @@ use Rattle.tree_core.specs.declared.name.Name.{Name}
 use Rattle.tree_core.specs.declared.operator.UnOp.{UnOp}
 use Rattle.tree_core.specs.Tree as tree
 use Rattle.tree_core.specs.Plain.{block_of, if_of, num_for_of}
-use Rattle.tree_terms.specs.Asked.{ExpMeets, ExpsMeet, FieldsMeet, FieldMeets, StatMeets, ArmsMeet, StatsMeet}
+use Rattle.tree_terms.specs.Asked.{ExpMeets, StatMeets, ArmsMeet, StatsMeet}
 use Rattle.tree_making.specs.Made.{above, joined}
 use Rattle.tree_making.specs.Form.{is_target, is_call, variable_of}
 use Rattle.tree_making.specs.declared.operator.Infix.{Infix}
@@ -24,8 +24,9 @@ use Rattle.lua_parse.specs.Moves.{an_exp, Part, chunk, word, opener, name, chain
 use Rattle.lua_parse.specs.Grammar.{expects, name_move, constant_move, operand, right_operand, operator_move, unary_move, string_move, item_move, stat_move}
 use Rattle.grammar_laws.proofs.Operands.{operand_has, right_has}
 use Rattle.grammar_laws.specs.Formed.{IsCall, IsNameOrIndex, AreTargets, BlockIsFormed, all_formed}
-use Rattle.grammar_laws.proofs.FormKeeping.{MaybeIsFormed, ElseIsFormed, ValuesAreFormed, IsFormedBy, StandsFormed, FrontIsFormed, GivesFormed}
+use Rattle.grammar_laws.proofs.FormKeeping.{IsFormedBy, StandsFormed, FrontIsFormed, GivesFormed}
 use Rattle.grammar_laws.proofs.Walk.{picks, passes, refuses, reads, ends, either, either_by, passes_if, only_reads, on_a_line, on_a_name, on_some_names, on_some_params, on_a_declared, on_some_declared, on_an_exp, on_maybe_exp, on_some_exps, on_a_field, on_some_fields, on_a_target, on_an_arm, on_some_arms, on_some_items, on_a_stat, on_a_block, on_maybe_block, on_a_body}
+use Rattle.grammar_laws.proofs.Asking.{MaybeMeets, ElseMeets, ValuesMeet, exps_more, fields_more, stats_more, arms_more}
 
 -- what the tests on expressions say
 
@@ -41,26 +42,9 @@ target_is _ is = absurd cc
 
 -- lists that grew by one item
 
-more_exps_formed : (es : List tree.Exp) (e : tree.Exp) → ExpsMeet all_formed (tree.exps es) → ExpMeets all_formed e → ExpsMeet all_formed (tree.exps (es ++ e ∷ []))
-more_exps_formed [] e h k = (k, tt)
-more_exps_formed (d ∷ es) e h k = (h.0, more_exps_formed es e h.1 k)
-
 more_targets_formed : (es : List tree.Exp) (e : tree.Exp) → AreTargets (tree.exps es) → IsNameOrIndex e → AreTargets (tree.exps (es ++ e ∷ []))
 more_targets_formed [] e h k = (k, tt)
 more_targets_formed (d ∷ es) e h k = (h.0, more_targets_formed es e h.1 k)
-
-more_fields_formed : (fs : List tree.Field) (f : tree.Field) → FieldsMeet all_formed (tree.fields fs) → FieldMeets all_formed f → FieldsMeet all_formed (tree.fields (fs ++ f ∷ []))
-more_fields_formed [] f h k = (k, tt)
-more_fields_formed (g ∷ fs) f h k = (h.0, more_fields_formed fs f h.1 k)
-
-more_stats_formed : (ss : List tree.Stat) (s : tree.Stat) → StatsMeet all_formed (tree.stats ss) → StatMeets all_formed s → StatsMeet all_formed (tree.stats (ss ++ s ∷ []))
-more_stats_formed [] s h k = (k, tt)
-more_stats_formed (r ∷ ss) s h k = (h.0, more_stats_formed ss s h.1 k)
-
-more_arms_formed : (as' : List (tree.Exp × tree.Block)) (e : tree.Exp) (b : tree.Block) → ArmsMeet all_formed (tree.arms as') → ExpMeets all_formed e → BlockIsFormed b
-    → ArmsMeet all_formed (tree.arms (as' ++ (e, b) ∷ []))
-more_arms_formed [] e b h k l = (k, (l, tt))
-more_arms_formed (a ∷ as') e b h k l = (h.0, (h.1.0, more_arms_formed as' e b h.1.1 k l))
 
 is_some : (xs : List Name) (x : Name) → 0 < length (xs ++ x ∷ [])
 is_some [] x = omega arith
@@ -68,20 +52,20 @@ is_some (y ∷ xs) x = omega arith
 
 -- expressions of one token
 
-constant_if : (b : Bool) (o p : Option tree.Exp) → MaybeIsFormed o → MaybeIsFormed p → MaybeIsFormed (if b then o else p)
+constant_if : (b : Bool) (o p : Option tree.Exp) → MaybeMeets all_formed o → MaybeMeets all_formed p → MaybeMeets all_formed (if b then o else p)
 constant_if true o p h k = h
 constant_if false o p h k = k
 
-literal_formed : (t : Token) (line : ℕ) → MaybeIsFormed (literal t line)
+literal_formed : (t : Token) (line : ℕ) → MaybeMeets all_formed (literal t line)
 literal_formed (token.Int n) line = tt
 literal_formed (token.Str bytes) line = tt
 literal_formed _ line = tt
 
-constant_formed : (t : Lexeme) → MaybeIsFormed (constant_of t)
+constant_formed : (t : Lexeme) → MaybeMeets all_formed (constant_of t)
 constant_formed t =
     constant_if (is_word NIL t.0) _ _ tt (constant_if (is_word TRUE t.0) _ _ tt (constant_if (is_word FALSE t.0) _ _ tt (constant_if (is_word DOTS t.0) _ _ tt (literal_formed t.0 t.1))))
 
-constant_gives : {room : ℕ} {other : Move} (o : Option tree.Exp) → MaybeIsFormed o → GivesFormed simple room other → GivesFormed simple room (constant_move o other)
+constant_gives : {room : ℕ} {other : Move} (o : Option tree.Exp) → MaybeMeets all_formed o → GivesFormed simple room other → GivesFormed simple room (constant_move o other)
 constant_gives None h k = k
 constant_gives (Some e) h k = passes (ends h)
 
@@ -141,15 +125,15 @@ start_gives room line start.Prefix = only_reads prefix_stat tt (λ p q. q)
 
 -- statements of parts that may be missing
 
-block_formed : (ss : List tree.Stat) (es : Option (List tree.Exp)) (tokens line : ℕ) → StatsMeet all_formed (tree.stats ss) → ValuesAreFormed es → BlockIsFormed (block_of ss es tokens line)
+block_formed : (ss : List tree.Stat) (es : Option (List tree.Exp)) (tokens line : ℕ) → StatsMeet all_formed (tree.stats ss) → ValuesMeet all_formed es → BlockIsFormed (block_of ss es tokens line)
 block_formed ss None tokens line h k = h
 block_formed ss (Some es) tokens line h k = (h, k)
 
-if_formed : (line : ℕ) (as' : List (tree.Exp × tree.Block)) (b : Option tree.Block) → ArmsMeet all_formed (tree.arms as') → ElseIsFormed b → StatMeets all_formed (if_of line as' b)
+if_formed : (line : ℕ) (as' : List (tree.Exp × tree.Block)) (b : Option tree.Block) → ArmsMeet all_formed (tree.arms as') → ElseMeets all_formed b → StatMeets all_formed (if_of line as' b)
 if_formed line as' None h k = h
 if_formed line as' (Some b) h k = (h, k)
 
-for_formed : (line : ℕ) (x : Name) (a b : tree.Exp) (c : Option tree.Exp) (inner : tree.Block) → ExpMeets all_formed a → ExpMeets all_formed b → MaybeIsFormed c → BlockIsFormed inner
+for_formed : (line : ℕ) (x : Name) (a b : tree.Exp) (c : Option tree.Exp) (inner : tree.Block) → ExpMeets all_formed a → ExpMeets all_formed b → MaybeMeets all_formed c → BlockIsFormed inner
     → StatMeets all_formed (num_for_of line x a b c inner)
 for_formed line x a b None inner h k i j = (h, (k, j))
 for_formed line x a b (Some c) inner h k i j = (h, (k, (i, j)))
@@ -168,7 +152,7 @@ part_gives simple room r =
 part_gives table room r = on_a_line tt (λ line h k _. on_some_fields tt (λ fs h1 k1 c. ends c))
 part_gives (more_fields fs height) room r =
     picks (λ t l. either (is_word CLOSE_CURLY t.0) (passes (ends r))
-    (on_a_field tt (λ f h k c. only_reads (more_fields (fs ++ f ∷ []) (max height h)) (more_fields_formed fs f r c) (λ p q. q))))
+    (on_a_field tt (λ f h k c. only_reads (more_fields (fs ++ f ∷ []) (max height h)) (fields_more all_formed fs f r c) (λ p q. q))))
 part_gives separated_field room r = on_a_field tt (λ f h k c. picks (λ t l. either (is_separator t.0) (passes (ends c)) (either (is_word CLOSE_CURLY t.0) (ends c) refuses)))
 part_gives field room r = picks (λ t l. either (is_word OPEN_SQUARE t.0) (only_reads keyed tt (λ p q. q)) (only_reads item tt (λ p q. q)))
 part_gives keyed room r =
@@ -195,7 +179,7 @@ part_gives listed room r = picks (λ t l. either (is_word CLOSE_ROUND t.0) (pass
 part_gives explist room r = on_an_exp tt (λ e h k c. only_reads (more_exps (e ∷ []) h) (c, tt) (λ p q. q))
 part_gives (more_exps es height) room r =
     picks (λ t l. either (is_word COMMA t.0)
-    (passes (on_an_exp tt (λ e h k c. only_reads (more_exps (es ++ e ∷ []) (max height h)) (more_exps_formed es e r c) (λ p q. q)))) (ends r))
+    (passes (on_an_exp tt (λ e h k c. only_reads (more_exps (es ++ e ∷ []) (max height h)) (exps_more all_formed es e r c) (λ p q. q)))) (ends r))
 part_gives (body line own) room r =
     on_a_line tt (λ _ h k _. on_some_params tt (λ xs vararg h1 k1 _. on_a_line tt (λ _ h2 k2 _. on_a_block tt (λ b h3 k3 c. on_a_line tt (λ _ h4 k4 _. ends c)))))
 part_gives (params own) room r = picks (λ t l. either (is_word CLOSE_ROUND t.0) (ends tt) (only_reads (more_params own) tt (λ p q. q)))
@@ -205,7 +189,7 @@ part_gives (more_params xs) room r =
 part_gives block room r = on_some_items tt (λ ss es line h k c. ends (block_formed ss es k line c.0 c.1))
 part_gives (items ss height) room r =
     picks (λ t l. either (is_word RETURN t.0) (passes (on_some_exps tt (λ es h k c. ends (r, c)))) (either (ends_block t.0) (ends (r, tt))
-    (on_a_stat tt (λ s h k c. only_reads (items (ss ++ s ∷ []) (max height h)) (more_stats_formed ss s r c) (λ p q. q)))))
+    (on_a_stat tt (λ s h k c. only_reads (items (ss ++ s ∷ []) (max height h)) (stats_more all_formed ss s r c) (λ p q. q)))))
 part_gives returned room r =
     picks (λ t l. either (ends_block t.0) (ends tt) (either (is_word SEMICOLON t.0) (passes (ends tt))
     (on_some_exps tt (λ es h k c. picks (λ u m. either (is_word SEMICOLON u.0) (passes (ends c)) (ends c))))))
@@ -222,7 +206,7 @@ part_gives if_stat room r =
 part_gives arms room r = on_an_arm tt (λ e b h k c. only_reads (more_arms ((e, b) ∷ []) h) (c.0, (c.1, tt)) (λ p q. q))
 part_gives (more_arms as' height) room r =
     picks (λ t l. either (is_word ELSEIF t.0)
-    (passes (on_an_arm tt (λ e b h k c. only_reads (more_arms (as' ++ (e, b) ∷ []) (max height h)) (more_arms_formed as' e b r c.0 c.1) (λ p q. q)))) (ends r))
+    (passes (on_an_arm tt (λ e b h k c. only_reads (more_arms (as' ++ (e, b) ∷ []) (max height h)) (arms_more all_formed as' e b r c.0 c.1) (λ p q. q)))) (ends r))
 part_gives arm room r = on_an_exp tt (λ e h k c. on_a_line tt (λ _ h1 k1 _. on_a_block tt (λ b h2 k2 d. ends (c, d))))
 part_gives else_part room r = picks (λ t l. either (is_word ELSE t.0) (on_a_line tt (λ _ h k _. on_a_block tt (λ b h1 k1 c. ends c))) (ends tt))
 part_gives for_stat room r =
@@ -259,4 +243,4 @@ part_gives (assignment line first height) room r =
 part_gives (more_targets ts height) room r =
     picks (λ t l. either (is_word COMMA t.0)
     (passes (on_an_exp tt (λ e h k c. either_by (is_target e)
-    (λ is. only_reads (more_targets (ts ++ e ∷ []) (max height h)) (more_targets_formed ts e r.0 (target_is e is), more_exps_formed ts e r.1 c) (λ p q. q)) refuses))) (ends r))
+    (λ is. only_reads (more_targets (ts ++ e ∷ []) (max height h)) (more_targets_formed ts e r.0 (target_is e is), exps_more all_formed ts e r.1 c) (λ p q. q)) refuses))) (ends r))

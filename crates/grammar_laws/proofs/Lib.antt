@@ -1,3 +1,4 @@
+pub mod Asking
 mod FormKeeping
 pub mod Operands
 mod FormParts

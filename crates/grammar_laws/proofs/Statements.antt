@@ -10,11 +10,12 @@ use Rattle.token_cursor.specs.Words.{is_word}
 use Rattle.lua_parse.specs.Moves.{label_stat, goto_stat, do_stat, while_stat, repeat_stat, if_stat, for_stat, numeric, step, generic, more_names, function_stat, function_name, path, local_stat, local_function, local_names, more_declared, declared, values, explist, prefix_stat, assignment, more_targets}
 use Rattle.tree_terms.specs.Weight.{weight_of_block}
 use Rattle.tree_terms.specs.FunctionCount.{functions_in_block}
-use Rattle.grammar_laws.specs.Counted.{BlockIsCounted}
+use Rattle.grammar_laws.specs.Counted.{BlockIsCounted, all_counted}
 use Rattle.grammar_laws.proofs.Claims.{ArmsHold, ElseHolds, StepHolds, ExpHolds, StatHolds}
 use Rattle.grammar_laws.proofs.SizeKeeping.{picks, passes, refuses, ends, either, on_a_line, on_a_name, on_some_names, on_a_declared, on_some_declared, on_an_exp, on_maybe_exp, on_some_exps, on_a_target, on_some_arms, on_a_block, on_maybe_block, on_a_body, only_reads, more}
-use Rattle.grammar_laws.proofs.Lists.{exps_weigh, exps_have, exps_counted, names_count}
+use Rattle.grammar_laws.proofs.Lists.{exps_weigh, exps_have, names_count}
 use Rattle.grammar_laws.proofs.Words.{Kept}
+use Rattle.grammar_laws.proofs.Asking.{exps_more}
 
 pub label_stat_kept : Kept label_stat
 label_stat_kept room ready =
@@ -151,7 +152,7 @@ pub more_targets_kept : (ts : List tree.Exp) (height : ℕ) → Kept (more_targe
 more_targets_kept ts height room ready =
     picks (λ t. either (is_word COMMA t.0)
     (passes (on_an_exp tt (λ e h k j c. either (is_target e)
-    (only_reads (more_targets (ts ++ e ∷ []) (max height h)) (exps_counted ts e ready c.2) (λ p k' j' d.
+    (only_reads (more_targets (ts ++ e ∷ []) (max height h)) (exps_more all_counted ts e ready c.2) (λ p k' j' d.
     more p (omega (arith, c.0, exps_weigh ts e)) (omega (arith, c.1, exps_have ts e)) d))
     refuses)))
     (ends (omega arith, omega arith, ready)))

@@ -6,7 +6,7 @@ use Rattle.tree_core.specs.declared.name.Declared.{Declared}
 use Rattle.tree_core.specs.declared.operator.UnOp.{UnOp}
 use Rattle.tree_core.specs.Tree as tree
 use Rattle.tree_core.specs.Plain.{block_of, if_of, num_for_of}
-use Rattle.tree_terms.specs.Asked.{ExpMeets, ExpsMeet, FieldsMeet, FieldMeets, StatMeets, ArmsMeet, StatsMeet}
+use Rattle.tree_terms.specs.Asked.{ExpMeets, StatMeets, ArmsMeet, StatsMeet}
 use Rattle.tree_making.specs.Made.{above, joined}
 use Rattle.tree_making.specs.Form.{is_target, is_call, variable_of}
 use Rattle.tree_making.specs.declared.operator.Infix.{Infix}
@@ -21,13 +21,14 @@ use Rattle.token_cursor.specs.declared.start.Start.TheVariants as start
 use Rattle.token_cursor.specs.declared.word.TheConstants.{ELSE, ELSEIF, FUNCTION, RETURN, FALSE, NIL, TRUE, LESS, ASSIGN, OPEN_ROUND, CLOSE_ROUND, OPEN_CURLY, CLOSE_CURLY, OPEN_SQUARE, SEMICOLON, COLON, COMMA, DOT, DOTS}
 use Rattle.token_cursor.specs.Words.{Lexeme, is_word, is_string, name_of, string_of, ends_block, begins_suffix, is_separator, operator_of, unary_of, start_of}
 use Rattle.lua_parse.specs.Words.{literal, constant_of}
-use Rattle.lua_parse.specs.Moves.{Piece, a_line, a_name, some_names, some_params, a_declared, some_declared, an_exp, maybe_exp, some_exps, a_field, some_fields, a_target, an_arm, some_arms, some_items, a_stat, a_block, maybe_block, a_body, Part, chunk, word, opener, name, chain, behind, unary, simple, table, more_fields, separated_field, field, keyed, item, prefix, primary, paren, suffixes, suffix, dotted, indexed, method, call, method_arguments, arguments, listed, string_argument, explist, more_exps, body, params, more_params, block, items, returned, stat, label_stat, goto_stat, do_stat, while_stat, repeat_stat, if_stat, arms, more_arms, arm, else_part, do_block, for_stat, numeric, step, generic, more_names, function_stat, function_name, path, local_stat, local_function, local_names, more_declared, declared, values, prefix_stat, assignment, more_targets, Move}
+use Rattle.lua_parse.specs.Moves.{Piece, a_name, some_names, some_params, a_declared, some_declared, a_target, Part, chunk, word, opener, name, chain, behind, unary, simple, table, more_fields, separated_field, field, keyed, item, prefix, primary, paren, suffixes, suffix, dotted, indexed, method, call, method_arguments, arguments, listed, string_argument, explist, more_exps, body, params, more_params, block, items, returned, stat, label_stat, goto_stat, do_stat, while_stat, repeat_stat, if_stat, arms, more_arms, arm, else_part, do_block, for_stat, numeric, step, generic, more_names, function_stat, function_name, path, local_stat, local_function, local_names, more_declared, declared, values, prefix_stat, assignment, more_targets, Move}
 use Rattle.lua_parse.specs.Grammar.{expects, name_move, constant_move, operand, right_operand, operator_move, unary_move, string_move, item_move, stat_move, only}
 use Rattle.grammar_laws.proofs.Operands.{operand_has, right_has}
 use Rattle.code_core.specs.Writable.{signed_fits}
 use Rattle.code_checked.specs.Written.{TextFits, NamesFit}
-use Rattle.source_laws.proofs.Texts.{DeclaredTextsFit, BlockTextsFit, BodyTextsFit, all_texts}
+use Rattle.source_laws.proofs.Texts.{DeclaredTextsFit, BlockTextsFit, all_texts}
 use Rattle.grammar_laws.proofs.Walk.{Keeps, picks, passes, refuses, reads, ends, either, passes_if, only_reads, on_a_line, on_a_name, on_some_names, on_some_params, on_a_declared, on_some_declared, on_an_exp, on_maybe_exp, on_some_exps, on_a_field, on_some_fields, on_a_target, on_an_arm, on_some_arms, on_some_items, on_a_stat, on_a_block, on_maybe_block, on_a_body}
+use Rattle.grammar_laws.proofs.Asking.{MaybeMeets, ElseMeets, ValuesMeet, PieceMeets, FrontMeets, exps_more, fields_more, stats_more, arms_more}
 
 abbrev pub TokenFits : Token → Type 0
 TokenFits (token.Int n) = IsTrue (signed_fits 63 n)
@@ -42,66 +43,28 @@ abbrev pub MaybeText : Option (List ℕ) → Type 0
 MaybeText None = Unit {0}
 MaybeText (Some text) = TextFits text
 
-abbrev pub MaybeFits : Option tree.Exp → Type 0
-MaybeFits None = Unit {0}
-MaybeFits (Some e) = ExpMeets all_texts e
-
-abbrev pub ElseFits : Option tree.Block → Type 0
-ElseFits None = Unit {0}
-ElseFits (Some b) = BlockTextsFit b
-
-abbrev pub ValuesFit : Option (List tree.Exp) → Type 0
-ValuesFit None = Unit {0}
-ValuesFit (Some es) = ExpsMeet all_texts (tree.exps es)
-
 abbrev pub PieceFits : Piece → Type 0
-PieceFits (a_line line) = Unit {0}
 PieceFits (a_name x) = TextFits x.text
 PieceFits (some_names xs) = NamesFit xs
 PieceFits (some_params xs vararg) = NamesFit xs
 PieceFits (a_declared d) = TextFits d.name.text
 PieceFits (some_declared ds) = DeclaredTextsFit ds
-PieceFits (an_exp e) = ExpMeets all_texts e
-PieceFits (maybe_exp e) = MaybeFits e
-PieceFits (some_exps es) = ExpsMeet all_texts (tree.exps es)
-PieceFits (a_field f) = FieldMeets all_texts f
-PieceFits (some_fields fs) = FieldsMeet all_texts (tree.fields fs)
 PieceFits (a_target e own) = ExpMeets all_texts e × NamesFit own
-PieceFits (an_arm e b) = ExpMeets all_texts e × BlockTextsFit b
-PieceFits (some_arms as') = ArmsMeet all_texts (tree.arms as')
-PieceFits (some_items ss es line) = StatsMeet all_texts (tree.stats ss) × ValuesFit es
-PieceFits (a_stat s) = StatMeets all_texts s
-PieceFits (a_block b) = BlockTextsFit b
-PieceFits (maybe_block b) = ElseFits b
-PieceFits (a_body b) = BodyTextsFit b
+PieceFits p = PieceMeets all_texts p
 
 abbrev pub Fits : Part → ℕ → Piece → Type 0
 Fits part room p = PieceFits p
 
 -- what stands before a part
 abbrev pub FrontFits : Part → Type 0
-FrontFits (behind level left height) = ExpMeets all_texts left
-FrontFits (more_fields fs height) = FieldsMeet all_texts (tree.fields fs)
-FrontFits (suffixes left height) = ExpMeets all_texts left
-FrontFits (suffix left height) = ExpMeets all_texts left
-FrontFits (dotted w left height) = ExpMeets all_texts left
-FrontFits (indexed left height) = ExpMeets all_texts left
-FrontFits (method left height) = ExpMeets all_texts left
-FrontFits (call left height) = ExpMeets all_texts left
-FrontFits (more_exps es height) = ExpsMeet all_texts (tree.exps es)
 FrontFits (body line own) = NamesFit own
 FrontFits (params own) = NamesFit own
 FrontFits (more_params xs) = NamesFit xs
-FrontFits (items ss height) = StatsMeet all_texts (tree.stats ss)
-FrontFits (more_arms as' height) = ArmsMeet all_texts (tree.arms as')
 FrontFits (numeric line x) = TextFits x.text
 FrontFits (generic line x) = TextFits x.text
 FrontFits (more_names xs) = NamesFit xs
-FrontFits (path left height) = ExpMeets all_texts left
 FrontFits (more_declared ds) = DeclaredTextsFit ds
-FrontFits (assignment line first height) = ExpMeets all_texts first
-FrontFits (more_targets ts height) = ExpsMeet all_texts (tree.exps ts)
-FrontFits _ = Unit {0}
+FrontFits part = FrontMeets all_texts part
 
 abbrev pub StandsFit : Part → ℕ → Type 0
 StandsFit part room = FrontFits part
@@ -122,22 +85,6 @@ more_declared_fit : (ds : List Declared) (d : Declared) → DeclaredTextsFit ds 
 more_declared_fit [] d h k = (k, tt)
 more_declared_fit (c ∷ ds) d h k = (h.0, more_declared_fit ds d h.1 k)
 
-more_exps_fit : (es : List tree.Exp) (e : tree.Exp) → ExpsMeet all_texts (tree.exps es) → ExpMeets all_texts e → ExpsMeet all_texts (tree.exps (es ++ e ∷ []))
-more_exps_fit [] e h k = (k, tt)
-more_exps_fit (d ∷ es) e h k = (h.0, more_exps_fit es e h.1 k)
-
-more_fields_fit : (fs : List tree.Field) (f : tree.Field) → FieldsMeet all_texts (tree.fields fs) → FieldMeets all_texts f → FieldsMeet all_texts (tree.fields (fs ++ f ∷ []))
-more_fields_fit [] f h k = (k, tt)
-more_fields_fit (g ∷ fs) f h k = (h.0, more_fields_fit fs f h.1 k)
-
-more_stats_fit : (ss : List tree.Stat) (s : tree.Stat) → StatsMeet all_texts (tree.stats ss) → StatMeets all_texts s → StatsMeet all_texts (tree.stats (ss ++ s ∷ []))
-more_stats_fit [] s h k = (k, tt)
-more_stats_fit (r ∷ ss) s h k = (h.0, more_stats_fit ss s h.1 k)
-
-more_arms_fit : (as' : List (tree.Exp × tree.Block)) (e : tree.Exp) (b : tree.Block) → ArmsMeet all_texts (tree.arms as') → ExpMeets all_texts e → BlockTextsFit b → ArmsMeet all_texts (tree.arms (as' ++ (e, b) ∷ []))
-more_arms_fit [] e b h k l = (k, (l, tt))
-more_arms_fit (a ∷ as') e b h k l = (h.0, (h.1.0, more_arms_fit as' e b h.1.1 k l))
-
 -- what one token gives
 
 name_fits : (t : Token) → TokenFits t → MaybeText (name_of t)
@@ -148,19 +95,19 @@ string_fits : (t : Token) → TokenFits t → MaybeText (string_of t)
 string_fits (token.Str bytes) h = h
 string_fits _ h = tt
 
-constant_if : (b : Bool) (o p : Option tree.Exp) → MaybeFits o → MaybeFits p → MaybeFits (if b then o else p)
+constant_if : (b : Bool) (o p : Option tree.Exp) → MaybeMeets all_texts o → MaybeMeets all_texts p → MaybeMeets all_texts (if b then o else p)
 constant_if true o p h k = h
 constant_if false o p h k = k
 
-literal_fits : (t : Token) (line : ℕ) → TokenFits t → MaybeFits (literal t line)
+literal_fits : (t : Token) (line : ℕ) → TokenFits t → MaybeMeets all_texts (literal t line)
 literal_fits (token.Int n) line h = h
 literal_fits (token.Str bytes) line h = h
 literal_fits _ line h = tt
 
-constant_fits : (t : Lexeme) → TokenFits t.0 → MaybeFits (constant_of t)
+constant_fits : (t : Lexeme) → TokenFits t.0 → MaybeMeets all_texts (constant_of t)
 constant_fits t h = constant_if (is_word NIL t.0) _ _ tt (constant_if (is_word TRUE t.0) _ _ tt (constant_if (is_word FALSE t.0) _ _ tt (constant_if (is_word DOTS t.0) _ _ tt (literal_fits t.0 t.1 h))))
 
-constant_kept : {room : ℕ} {other : Move} (o : Option tree.Exp) → MaybeFits o → KeepsTexts simple room other → KeepsTexts simple room (constant_move o other)
+constant_kept : {room : ℕ} {other : Move} (o : Option tree.Exp) → MaybeMeets all_texts o → KeepsTexts simple room other → KeepsTexts simple room (constant_move o other)
 constant_kept None h k = k
 constant_kept (Some e) h k = passes (ends h)
 
@@ -214,15 +161,15 @@ start_kept room line start.Prefix = only_part prefix_stat tt
 
 -- statements of parts that may be missing
 
-block_fits : (ss : List tree.Stat) (es : Option (List tree.Exp)) (tokens line : ℕ) → StatsMeet all_texts (tree.stats ss) → ValuesFit es → BlockTextsFit (block_of ss es tokens line)
+block_fits : (ss : List tree.Stat) (es : Option (List tree.Exp)) (tokens line : ℕ) → StatsMeet all_texts (tree.stats ss) → ValuesMeet all_texts es → BlockTextsFit (block_of ss es tokens line)
 block_fits ss None tokens line h k = h
 block_fits ss (Some es) tokens line h k = (h, k)
 
-if_fits : (line : ℕ) (as' : List (tree.Exp × tree.Block)) (b : Option tree.Block) → ArmsMeet all_texts (tree.arms as') → ElseFits b → StatMeets all_texts (if_of line as' b)
+if_fits : (line : ℕ) (as' : List (tree.Exp × tree.Block)) (b : Option tree.Block) → ArmsMeet all_texts (tree.arms as') → ElseMeets all_texts b → StatMeets all_texts (if_of line as' b)
 if_fits line as' None h k = h
 if_fits line as' (Some b) h k = (h, k)
 
-for_fits : (line : ℕ) (x : Name) (a b : tree.Exp) (c : Option tree.Exp) (inner : tree.Block) → TextFits x.text → ExpMeets all_texts a → ExpMeets all_texts b → MaybeFits c → BlockTextsFit inner → StatMeets all_texts (num_for_of line x a b c inner)
+for_fits : (line : ℕ) (x : Name) (a b : tree.Exp) (c : Option tree.Exp) (inner : tree.Block) → TextFits x.text → ExpMeets all_texts a → ExpMeets all_texts b → MaybeMeets all_texts c → BlockTextsFit inner → StatMeets all_texts (num_for_of line x a b c inner)
 for_fits line x a b None inner m h k i j = (m, (h, (k, j)))
 for_fits line x a b (Some c) inner m h k i j = (m, (h, (k, (i, j))))
 
@@ -239,7 +186,7 @@ part_fits simple room r =
     (either (is_word OPEN_CURLY t.0) (only_part table tt) (only_part prefix tt))))
 part_fits table room r = on_a_line tt (λ line h k _. on_some_fields tt (λ fs h' k' c. ends c))
 part_fits (more_fields fs height) room r =
-    picks (λ t l. either (is_word CLOSE_CURLY t.0) (passes (ends r)) (on_a_field tt (λ f h k c. only_part (more_fields (fs ++ f ∷ []) (max height h)) (more_fields_fit fs f r c))))
+    picks (λ t l. either (is_word CLOSE_CURLY t.0) (passes (ends r)) (on_a_field tt (λ f h k c. only_part (more_fields (fs ++ f ∷ []) (max height h)) (fields_more all_texts fs f r c))))
 part_fits separated_field room r = on_a_field tt (λ f h k c. picks (λ t l. either (is_separator t.0) (passes (ends c)) (either (is_word CLOSE_CURLY t.0) (ends c) refuses)))
 part_fits field room r = picks (λ t l. either (is_word OPEN_SQUARE t.0) (only_part keyed tt) (only_part item tt))
 part_fits keyed room r =
@@ -264,7 +211,7 @@ part_fits string_argument room r = picks (λ t l. string_kept room t.1 (string_o
 part_fits listed room r = picks (λ t l. either (is_word CLOSE_ROUND t.0) (passes (ends tt)) (on_some_exps tt (λ es h k c. on_a_line tt (λ _ h1 k1 _. ends c))))
 part_fits explist room r = on_an_exp tt (λ e h k c. only_part (more_exps (e ∷ []) h) (c, tt))
 part_fits (more_exps es height) room r =
-    picks (λ t l. either (is_word COMMA t.0) (passes (on_an_exp tt (λ e h k c. only_part (more_exps (es ++ e ∷ []) (max height h)) (more_exps_fit es e r c)))) (ends r))
+    picks (λ t l. either (is_word COMMA t.0) (passes (on_an_exp tt (λ e h k c. only_part (more_exps (es ++ e ∷ []) (max height h)) (exps_more all_texts es e r c)))) (ends r))
 part_fits (body line own) room r =
     on_a_line tt (λ _ h k _. on_some_params r (λ xs vararg h1 k1 c. on_a_line tt (λ _ h2 k2 _. on_a_block tt (λ b h3 k3 d. on_a_line tt (λ _ h4 k4 _. ends (c, (tt, d)))))))
 part_fits (params own) room r = picks (λ t l. either (is_word CLOSE_ROUND t.0) (ends r) (only_part (more_params own) r))
@@ -274,7 +221,7 @@ part_fits (more_params xs) room r =
 part_fits block room r = on_some_items tt (λ ss es line h k c. ends (block_fits ss es k line c.0 c.1))
 part_fits (items ss height) room r =
     picks (λ t l. either (is_word RETURN t.0) (passes (on_some_exps tt (λ es h k c. ends (r, c)))) (either (ends_block t.0) (ends (r, tt))
-    (on_a_stat tt (λ s h k c. only_part (items (ss ++ s ∷ []) (max height h)) (more_stats_fit ss s r c)))))
+    (on_a_stat tt (λ s h k c. only_part (items (ss ++ s ∷ []) (max height h)) (stats_more all_texts ss s r c)))))
 part_fits returned room r =
     picks (λ t l. either (ends_block t.0) (ends tt) (either (is_word SEMICOLON t.0) (passes (ends tt))
     (on_some_exps tt (λ es h k c. picks (λ u m. either (is_word SEMICOLON u.0) (passes (ends c)) (ends c))))))
@@ -290,7 +237,7 @@ part_fits if_stat room r =
     on_a_line tt (λ line h k _. on_some_arms tt (λ as' h1 k1 c. on_maybe_block tt (λ b h2 k2 d. on_a_line tt (λ _ h3 k3 _. ends (if_fits line as' b c d)))))
 part_fits arms room r = on_an_arm tt (λ e b h k c. only_part (more_arms ((e, b) ∷ []) h) (c.0, (c.1, tt)))
 part_fits (more_arms as' height) room r =
-    picks (λ t l. either (is_word ELSEIF t.0) (passes (on_an_arm tt (λ e b h k c. only_part (more_arms (as' ++ (e, b) ∷ []) (max height h)) (more_arms_fit as' e b r c.0 c.1)))) (ends r))
+    picks (λ t l. either (is_word ELSEIF t.0) (passes (on_an_arm tt (λ e b h k c. only_part (more_arms (as' ++ (e, b) ∷ []) (max height h)) (arms_more all_texts as' e b r c.0 c.1)))) (ends r))
 part_fits arm room r = on_an_exp tt (λ e h k c. on_a_line tt (λ _ h1 k1 _. on_a_block tt (λ b h2 k2 d. ends (c, d))))
 part_fits else_part room r = picks (λ t l. either (is_word ELSE t.0) (on_a_line tt (λ _ h k _. on_a_block tt (λ b h1 k1 c. ends c))) (ends tt))
 part_fits for_stat room r =
@@ -322,4 +269,4 @@ part_fits (assignment line first height) room r =
     on_some_exps (r, tt) (λ ts h k c. on_a_line tt (λ _ h1 k1 _. on_some_exps tt (λ es h2 k2 d. ends (c, d))))
 part_fits (more_targets ts height) room r =
     picks (λ t l. either (is_word COMMA t.0)
-    (passes (on_an_exp tt (λ e h k c. either (is_target e) (only_part (more_targets (ts ++ e ∷ []) (max height h)) (more_exps_fit ts e r c)) refuses))) (ends r))
+    (passes (on_an_exp tt (λ e h k c. either (is_target e) (only_part (more_targets (ts ++ e ∷ []) (max height h)) (exps_more all_texts ts e r c)) refuses))) (ends r))
