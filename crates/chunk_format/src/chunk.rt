@@ -14,7 +14,8 @@ use crate::fault::ChunkFault;
 use crate::function::function;
 use crate::input::Input;
 use code_core::Proto;
-use std::alloc::{AllocError, Global};
+use int_core::Allocated;
+use std::alloc::Global;
 
 /// The first four bytes of a chunk.
 const SIGNATURE: [u8; 4] = [0x1b, 0x4c, 0x75, 0x61];
@@ -60,7 +61,7 @@ pub fn read_function(alloc: Global, bytes: &[u8]) -> Result<(Proto, usize), Chun
 }
 
 /// Writes a chunk (`ldump.c` of Lua 5.4), without its source, lines and names where it is stripped.
-pub fn write_chunk(alloc: Global, proto: &Proto, strip: bool) -> Result<Vec<u8>, AllocError>
+pub fn write_chunk(alloc: Global, proto: &Proto, strip: bool) -> Allocated<Vec<u8>>
     requires { Writable proto.now }
     ensures spelling { IfOk result (λ bytes. bytes.items ≡ spelled.chunk (kept strip proto.now)) }
     ensures in_grammar { IfOk result (λ bytes. ChunkOf (kept strip proto.now) bytes.items) }
@@ -72,7 +73,7 @@ pub fn write_chunk(alloc: Global, proto: &Proto, strip: bool) -> Result<Vec<u8>,
 }
 
 /// Writes a function as in a chunk, without a header.
-pub fn write_function(alloc: Global, proto: &Proto) -> Result<Vec<u8>, AllocError>
+pub fn write_function(alloc: Global, proto: &Proto) -> Allocated<Vec<u8>>
     requires { Writable proto.now }
     ensures spelling { IfOk result (λ bytes. bytes.items ≡ spelled.function None proto.now) }
     ensures in_grammar { IfOk result (λ bytes. WholeOf proto.now bytes.items) }
@@ -127,7 +128,7 @@ fn read_exactly(input: &mut Input, text: &[u8], kind: u8) -> Result<(), ChunkFau
 }
 
 /// Writes a header, with the number of main's upvalues at its end.
-fn write_header(out: &mut Vec<u8>, main: &Proto) -> Result<(), AllocError>
+fn write_header(out: &mut Vec<u8>, main: &Proto) -> Allocated<()>
     requires { Writable main.now }
     ensures { OnOk result (out.new.items ≡ out.old.items ++ spelled.header main.now) }
 {

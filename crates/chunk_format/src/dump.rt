@@ -6,8 +6,7 @@ ghost use Rattle.chunk_format.specs.Spelling as spelled;
 use crate::item::write_list;
 use crate::output::{write_name, write_number};
 use code_core::Proto;
-use int_core::Bytes;
-use std::alloc::AllocError;
+use int_core::{Allocated, Bytes};
 
 /// Whether both names are there and the same.
 fn is_same_name(a: &Option<Bytes>, b: &Option<Bytes>) -> bool
@@ -25,7 +24,7 @@ fn write_source(
     parent: &Option<Bytes>,
     own: &Option<Bytes>,
     strip: bool,
-) -> Result<(), AllocError>
+) -> Allocated<()>
     ensures { OnOk result (out.new.items ≡ out.old.items ++ spelled.source parent.now (if strip then None else own.now)) }
 {
     if strip {
@@ -44,7 +43,7 @@ fn write_head(
     parent: &Option<Bytes>,
     proto: &Proto,
     strip: bool,
-) -> Result<(), AllocError>
+) -> Allocated<()>
     ensures { OnOk result (out.new.items ≡ out.old.items ++ spelled.head parent.now (spelled.kept_parts strip proto.now.own)) }
 {
     write_source(out, parent, &proto.source, strip)?;
@@ -57,7 +56,7 @@ fn write_head(
 }
 
 /// Writes the lists in front of the inner functions.
-fn write_lists(out: &mut Vec<u8>, proto: &Proto) -> Result<(), AllocError>
+fn write_lists(out: &mut Vec<u8>, proto: &Proto) -> Allocated<()>
     ensures { OnOk result (out.new.items ≡ out.old.items ++ spelled.lists proto.now.own) }
 {
     write_list(out, &proto.code)?;
@@ -66,7 +65,7 @@ fn write_lists(out: &mut Vec<u8>, proto: &Proto) -> Result<(), AllocError>
 }
 
 /// Writes the lists behind the inner functions.
-fn write_details(out: &mut Vec<u8>, proto: &Proto, strip: bool) -> Result<(), AllocError>
+fn write_details(out: &mut Vec<u8>, proto: &Proto, strip: bool) -> Allocated<()>
     ensures { OnOk result (out.new.items ≡ out.old.items ++ spelled.details (spelled.kept_parts strip proto.now.own)) }
 {
     if strip {
@@ -83,12 +82,7 @@ fn write_details(out: &mut Vec<u8>, proto: &Proto, strip: bool) -> Result<(), Al
 
 /// Writes a function inside one whose source is the parent's.
 #[cycle(dump)]
-pub fn write(
-    out: &mut Vec<u8>,
-    parent: &Option<Bytes>,
-    proto: &Proto,
-    strip: bool,
-) -> Result<(), AllocError>
+pub fn write(out: &mut Vec<u8>, parent: &Option<Bytes>, proto: &Proto, strip: bool) -> Allocated<()>
     ensures { OnOk result (out.new.items ≡ out.old.items ++ spelled.function parent.now (spelled.kept strip proto.now)) }
 {
     write_head(out, parent, proto, strip)?;
@@ -100,7 +94,7 @@ pub fn write(
 /// Writes the functions that are defined in another: their number, then each of them.
 #[cycle(dump)]
 #[tactic(auto, using(crate::proofs::Kept::length_kept))]
-fn write_inner(out: &mut Vec<u8>, proto: &Proto, strip: bool) -> Result<(), AllocError>
+fn write_inner(out: &mut Vec<u8>, proto: &Proto, strip: bool) -> Allocated<()>
     ensures { OnOk result (out.new.items ≡ out.old.items ++ spelled.inner (spelled.kept strip proto.now)) }
 {
     write_number(out, proto.protos.len())?;
@@ -117,7 +111,7 @@ fn write_all(
     parent: &Option<Bytes>,
     protos: &[Proto],
     strip: bool,
-) -> Result<(), AllocError>
+) -> Allocated<()>
     ensures { OnOk result (out.new.items ≡ out.old.items ++ spelled.functions parent.now (spelled.all_kept strip (prototypes protos.now))) }
 {
     for proto in protos {

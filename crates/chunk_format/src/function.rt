@@ -7,8 +7,8 @@ use crate::fault::ChunkFault;
 use crate::input::Input;
 use crate::item::list;
 use code_core::{AbsLine, Const, Instruction, LocVar, Proto, UpDesc};
-use int_core::Bytes;
-use std::alloc::{AllocError, Global};
+use int_core::{Allocated, Bytes};
+use std::alloc::Global;
 
 /// What stands in front of a function's lists.
 #[derive(Drop)]
@@ -39,7 +39,7 @@ pub struct Details {
 }
 
 /// A copy of a name.
-fn copy(alloc: Global, name: &Option<Bytes>) -> Result<Option<Bytes>, AllocError>
+fn copy(alloc: Global, name: &Option<Bytes>) -> Allocated<Option<Bytes>>
     ensures { IfOk result (λ copy. copy ≡ name.now) }
 {
     match name {

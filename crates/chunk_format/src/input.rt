@@ -4,8 +4,8 @@ ghost use Rattle.chunk_format.specs.Reading.{Says, read_byte, read_number, read_
 
 use crate::fault::ChunkFault;
 use byteorder::{ByteOrder, LittleEndian};
-use int_core::Bytes;
-use std::alloc::{AllocError, Global};
+use int_core::{Allocated, Bytes};
+use std::alloc::Global;
 use std::marker::Model;
 
 /// How many bytes a string can have.
@@ -120,7 +120,7 @@ impl<'a> Input<'a> {
     }
 
     /// The next bytes as a vector of their own.
-    pub fn take(&mut self, alloc: Global, len: usize) -> Result<Vec<u8>, AllocError>
+    pub fn take(&mut self, alloc: Global, len: usize) -> Allocated<Vec<u8>>
         requires { len ≤ length self.old }
         ensures { IfOk result (λ text. (text.items ≡ take len self.old) × (self.new ≡ drop len self.old)) }
     {

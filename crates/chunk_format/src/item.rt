@@ -8,8 +8,8 @@ use crate::fault::ChunkFault;
 use crate::input::Input;
 use crate::output::{write_integer, write_name, write_number, write_text, write_word};
 use code_core::{AbsLine, Const, Instruction, LocVar, UpDesc};
-use int_core::Bytes;
-use std::alloc::{AllocError, Global};
+use int_core::{Allocated, Bytes};
+use std::alloc::Global;
 
 /// An entry of a list in a chunk.
 pub trait Item: Sized + Drop {
@@ -24,7 +24,7 @@ pub trait Item: Sized + Drop {
     ghost spelled: { Self → List ℕ };
 
     /// Writes one.
-    fn write(&self, out: &mut Vec<u8>) -> Result<(), AllocError>
+    fn write(&self, out: &mut Vec<u8>) -> Allocated<()>
         ensures writes { OnOk result (out.new.items ≡ out.old.items ++ spelled self.now) };
 }
 
@@ -38,7 +38,7 @@ impl Item for Instruction {
 
     ghost spelled = { spelled.instruction };
 
-    fn write(&self, out: &mut Vec<u8>) -> Result<(), AllocError> {
+    fn write(&self, out: &mut Vec<u8>) -> Allocated<()> {
         write_word(out, self.0)
     }
 }
@@ -53,7 +53,7 @@ impl Item for Const {
 
     ghost spelled = { spelled.constant };
 
-    fn write(&self, out: &mut Vec<u8>) -> Result<(), AllocError> {
+    fn write(&self, out: &mut Vec<u8>) -> Allocated<()> {
         match self {
             Const::Nil => out.push(0)?,
             Const::False => out.push(1)?,
@@ -115,7 +115,7 @@ impl Item for UpDesc {
 
     ghost spelled = { spelled.upvalue };
 
-    fn write(&self, out: &mut Vec<u8>) -> Result<(), AllocError> {
+    fn write(&self, out: &mut Vec<u8>) -> Allocated<()> {
         out.push(u8::from(self.in_stack))?;
         out.push(self.index)?;
         out.push(self.kind)?;
@@ -133,7 +133,7 @@ impl Item for i8 {
 
     ghost spelled = { spelled.change };
 
-    fn write(&self, out: &mut Vec<u8>) -> Result<(), AllocError> {
+    fn write(&self, out: &mut Vec<u8>) -> Allocated<()> {
         out.push(self.cast_unsigned())?;
         Ok(())
     }
@@ -150,7 +150,7 @@ impl Item for AbsLine {
 
     ghost spelled = { spelled.abs_line };
 
-    fn write(&self, out: &mut Vec<u8>) -> Result<(), AllocError> {
+    fn write(&self, out: &mut Vec<u8>) -> Allocated<()> {
         write_number(out, self.pc as usize)?;
         write_number(out, self.line as usize)
     }
@@ -168,7 +168,7 @@ impl Item for LocVar {
 
     ghost spelled = { spelled.local_variable };
 
-    fn write(&self, out: &mut Vec<u8>) -> Result<(), AllocError> {
+    fn write(&self, out: &mut Vec<u8>) -> Allocated<()> {
         write_name(out, &self.name)?;
         write_number(out, self.start as usize)?;
         write_number(out, self.end as usize)
@@ -184,7 +184,7 @@ impl Item for Option<Bytes> {
 
     ghost spelled = { spelled.name };
 
-    fn write(&self, out: &mut Vec<u8>) -> Result<(), AllocError> {
+    fn write(&self, out: &mut Vec<u8>) -> Allocated<()> {
         write_name(out, self)
     }
 }
@@ -202,7 +202,7 @@ pub fn list<T: Item>(alloc: Global, input: &mut Input) -> Result<Vec<T>, ChunkFa
 }
 
 /// Writes a list: its length, then its entries.
-pub fn write_list<T: Item>(out: &mut Vec<u8>, items: &[T]) -> Result<(), AllocError>
+pub fn write_list<T: Item>(out: &mut Vec<u8>, items: &[T]) -> Allocated<()>
     ensures { OnOk result (out.new.items ≡ out.old.items ++ spelled_list T.spelled items.now) }
 {
     write_number(out, items.len())?;

@@ -5,11 +5,10 @@ ghost use Rattle.byteorder.specs.Endian.{little_bytes};
 ghost use Rattle.chunk_format.specs.Spelling.{group, number, name};
 
 use byteorder::{ByteOrder, LittleEndian};
-use int_core::Bytes;
-use std::alloc::AllocError;
+use int_core::{Allocated, Bytes};
 
 /// Writes a group of a number, unless it and all groups above it are zero.
-fn write_group(out: &mut Vec<u8>, low: u32, n: usize) -> Result<(), AllocError>
+fn write_group(out: &mut Vec<u8>, low: u32, n: usize) -> Allocated<()>
     requires { low < 64 }
     ensures { OnOk result (out.new.items ≡ out.old.items ++ group low n) }
 {
@@ -21,7 +20,7 @@ fn write_group(out: &mut Vec<u8>, low: u32, n: usize) -> Result<(), AllocError>
 }
 
 /// Writes a number by groups of seven bits, the last of which has its high bit set.
-pub fn write_number(out: &mut Vec<u8>, n: usize) -> Result<(), AllocError>
+pub fn write_number(out: &mut Vec<u8>, n: usize) -> Allocated<()>
     ensures { OnOk result (out.new.items ≡ out.old.items ++ number n) }
 {
     write_group(out, 28, n)?;
@@ -33,7 +32,7 @@ pub fn write_number(out: &mut Vec<u8>, n: usize) -> Result<(), AllocError>
 }
 
 /// Writes a string, or none.
-pub fn write_name(out: &mut Vec<u8>, text: &Option<Bytes>) -> Result<(), AllocError>
+pub fn write_name(out: &mut Vec<u8>, text: &Option<Bytes>) -> Allocated<()>
     ensures { OnOk result (out.new.items ≡ out.old.items ++ name text.now) }
 {
     match text {
@@ -43,7 +42,7 @@ pub fn write_name(out: &mut Vec<u8>, text: &Option<Bytes>) -> Result<(), AllocEr
 }
 
 /// Writes a string.
-pub fn write_text(out: &mut Vec<u8>, text: &Bytes) -> Result<(), AllocError>
+pub fn write_text(out: &mut Vec<u8>, text: &Bytes) -> Allocated<()>
     ensures { OnOk result (out.new.items ≡ out.old.items ++ name (Some text.now)) }
 {
     let bytes = text.as_slice();
@@ -53,7 +52,7 @@ pub fn write_text(out: &mut Vec<u8>, text: &Bytes) -> Result<(), AllocError>
 }
 
 /// Writes a number of 32 bits.
-pub fn write_word(out: &mut Vec<u8>, word: u32) -> Result<(), AllocError>
+pub fn write_word(out: &mut Vec<u8>, word: u32) -> Allocated<()>
     ensures { OnOk result (out.new.items ≡ out.old.items ++ little_bytes 4 word) }
 {
     let mut bytes = [0; 4];
@@ -63,7 +62,7 @@ pub fn write_word(out: &mut Vec<u8>, word: u32) -> Result<(), AllocError>
 }
 
 /// Writes an integer of 64 bits.
-pub fn write_integer(out: &mut Vec<u8>, n: i64) -> Result<(), AllocError>
+pub fn write_integer(out: &mut Vec<u8>, n: i64) -> Allocated<()>
     ensures { OnOk result (out.new.items ≡ out.old.items ++ little_bytes 8 (cast_unsigned w64 n)) }
 {
     let mut bytes = [0; 8];

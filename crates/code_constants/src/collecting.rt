@@ -6,12 +6,13 @@ ghost use Rattle.code_of.specs.ConstantOperands.{global_constant, target_constan
 ghost use Rattle.code_of.specs.Constants.{with_any, of_name, of_exp, of_exps, of_fields, of_field};
 
 use crate::constants::{Constants, is_small};
-use std::alloc::{AllocError, Global};
+use int_core::Allocated;
+use std::alloc::Global;
 use tree_core::{Exp, ExpNode, Field, Name, Place};
 
 impl Constants {
     /// Adds the constant that a variable's name takes.
-    fn add_name(&mut self, alloc: Global, name: &Name) -> Result<(), AllocError>
+    fn add_name(&mut self, alloc: Global, name: &Name) -> Allocated<()>
         ensures { OnOk result (self.new ≡ of_name name.now.place name.now.text self.old) }
     {
         match name.place {
@@ -23,7 +24,7 @@ impl Constants {
     /// Adds the constants of an expression.
     #[cycle(collecting)]
     #[tactic(auto, using(tree_core::proofs::Rows::exps_of, tree_core::proofs::Rows::fields_of))]
-    pub fn add_exp(&mut self, alloc: Global, exp: &Exp) -> Result<(), AllocError>
+    pub fn add_exp(&mut self, alloc: Global, exp: &Exp) -> Allocated<()>
         ensures { OnOk result (self.new ≡ of_exp (plain_exp exp.now) self.old) }
     {
         match &exp.node {
@@ -62,7 +63,7 @@ impl Constants {
 
     /// Adds the constants of a list of expressions.
     #[cycle(collecting)]
-    pub fn add_exps(&mut self, alloc: Global, list: &Vec<Exp>) -> Result<(), AllocError>
+    pub fn add_exps(&mut self, alloc: Global, list: &Vec<Exp>) -> Allocated<()>
         ensures { OnOk result (self.new ≡ of_exps (exps (plain_exps list.now.items)) self.old) }
     {
         for exp in list.iter() {
@@ -73,7 +74,7 @@ impl Constants {
 
     /// Adds the constants of a constructor's fields.
     #[cycle(collecting)]
-    fn add_fields(&mut self, alloc: Global, list: &Vec<Field>) -> Result<(), AllocError>
+    fn add_fields(&mut self, alloc: Global, list: &Vec<Field>) -> Allocated<()>
         ensures { OnOk result (self.new ≡ of_fields (fields (map plain_field list.now.items)) self.old) }
     {
         for field in list.iter() {
@@ -84,7 +85,7 @@ impl Constants {
 
     /// Adds the constants of a field.
     #[cycle(collecting)]
-    fn add_field(&mut self, alloc: Global, field: &Field) -> Result<(), AllocError>
+    fn add_field(&mut self, alloc: Global, field: &Field) -> Allocated<()>
         ensures { OnOk result (self.new ≡ of_field (plain_field field.now) self.old) }
     {
         match field {
@@ -97,7 +98,7 @@ impl Constants {
         }
     }
     /// Adds a constant that is stored in a global name.
-    fn add_global(&mut self, alloc: Global, name: &Name, value: &Exp) -> Result<(), AllocError>
+    fn add_global(&mut self, alloc: Global, name: &Name, value: &Exp) -> Allocated<()>
         ensures { OnOk result (self.new ≡ with_any (global_constant name.now.place (plain_exp value.now)) self.old) }
     {
         match name.place {
@@ -107,7 +108,7 @@ impl Constants {
     }
 
     /// Adds a constant that is stored in a target, where its store may name it.
-    fn add_target(&mut self, alloc: Global, target: &Exp, value: &Exp) -> Result<(), AllocError>
+    fn add_target(&mut self, alloc: Global, target: &Exp, value: &Exp) -> Allocated<()>
         ensures { OnOk result (self.new ≡ with_any (target_constant (plain_exp target.now) (plain_exp value.now)) self.old) }
     {
         match &target.node {
@@ -123,7 +124,7 @@ impl Constants {
         alloc: Global,
         targets: &Vec<Exp>,
         values: &Vec<Exp>,
-    ) -> Result<(), AllocError>
+    ) -> Allocated<()>
         ensures { OnOk result (self.new ≡ with_any (stored_constant (exps (plain_exps targets.now.items)) (exps (plain_exps values.now.items))) self.old) }
     {
         if targets.len() != 1 {

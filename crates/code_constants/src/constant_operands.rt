@@ -7,18 +7,14 @@ ghost use Rattle.code_of.specs.Operations.{short_of, constant_in};
 
 use crate::constants::Constants;
 use crate::numerals::operand_numeral;
-use std::alloc::{AllocError, Global};
+use int_core::Allocated;
+use std::alloc::Global;
 use tree_core::{BinOp, Exp, ExpNode};
 
 impl Constants {
     /// Adds the second operand of an operator, where its instruction may hold it as a constant.
     #[tactic(auto, using(crate::proofs::Operands::numeral_adds))]
-    pub(crate) fn add_operand(
-        &mut self,
-        alloc: Global,
-        op: BinOp,
-        exp: &Exp,
-    ) -> Result<(), AllocError>
+    pub(crate) fn add_operand(&mut self, alloc: Global, op: BinOp, exp: &Exp) -> Allocated<()>
         ensures { OnOk result (self.new ≡ with_any (constant_of op (plain_exp exp.now)) self.old) }
     {
         if operand_numeral(op, exp).is_some() {
@@ -28,7 +24,7 @@ impl Constants {
     }
 
     /// Adds a literal that is the operand of an operator, where one of its instructions takes such a constant.
-    fn add_literal_of(&mut self, alloc: Global, op: BinOp, exp: &Exp) -> Result<(), AllocError>
+    fn add_literal_of(&mut self, alloc: Global, op: BinOp, exp: &Exp) -> Allocated<()>
         ensures { OnOk result (self.new ≡ with_any (constant_by op (plain_exp exp.now)) self.old) }
     {
         match op {
@@ -46,7 +42,7 @@ impl Constants {
     }
 
     /// Adds an integer that is written out.
-    fn add_numeral(&mut self, exp: &Exp) -> Result<(), AllocError>
+    fn add_numeral(&mut self, exp: &Exp) -> Allocated<()>
         ensures { OnOk result (self.new ≡ with_any (integer_constant (plain_exp exp.now)) self.old) }
     {
         match &exp.node {
@@ -56,7 +52,7 @@ impl Constants {
     }
 
     /// Adds a constant that is written out.
-    pub(crate) fn add_literal(&mut self, alloc: Global, exp: &Exp) -> Result<(), AllocError>
+    pub(crate) fn add_literal(&mut self, alloc: Global, exp: &Exp) -> Allocated<()>
         ensures { OnOk result (self.new ≡ with_any (any_constant (plain_exp exp.now)) self.old) }
     {
         match &exp.node {

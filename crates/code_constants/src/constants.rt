@@ -6,8 +6,8 @@ ghost use Rattle.code_of.specs.Stores.{short_number};
 
 use crate::numerals::short;
 use code_core::Const;
-use int_core::Bytes;
-use std::alloc::{AllocError, Global};
+use int_core::{Allocated, Bytes};
+use std::alloc::Global;
 use std::collections::HashMap;
 use std::marker::Model;
 
@@ -73,7 +73,7 @@ impl Constants {
 
     /// Adds a string, where it is not there yet.
     #[tactic(auto, using(crate::proofs::Numbers::known, crate::proofs::Numbers::unknown))]
-    pub fn add_text(&mut self, alloc: Global, text: &Bytes) -> Result<(), AllocError>
+    pub fn add_text(&mut self, alloc: Global, text: &Bytes) -> Allocated<()>
         ensures { OnOk result (self.new ≡ with_constant (Str text.now) self.old) }
     {
         let number = self.list.len();
@@ -90,7 +90,7 @@ impl Constants {
 
     /// Adds an integer, where it is not there yet.
     #[tactic(auto, using(crate::proofs::Numbers::known, crate::proofs::Numbers::unknown))]
-    pub(crate) fn add_integer(&mut self, integer: i64) -> Result<(), AllocError>
+    pub(crate) fn add_integer(&mut self, integer: i64) -> Allocated<()>
         ensures { OnOk result (self.new ≡ with_constant (Int integer) self.old) }
     {
         let number = self.list.len();
@@ -105,7 +105,7 @@ impl Constants {
 
     /// Adds nil, where it is not there yet.
     #[tactic(auto, using(crate::proofs::Numbers::known, crate::proofs::Numbers::unknown))]
-    pub(crate) fn add_nil(&mut self) -> Result<(), AllocError>
+    pub(crate) fn add_nil(&mut self) -> Allocated<()>
         ensures { OnOk result (self.new ≡ with_constant Nil self.old) }
     {
         let number = self.list.len();
@@ -119,7 +119,7 @@ impl Constants {
 
     /// Adds false, where it is not there yet.
     #[tactic(auto, using(crate::proofs::Numbers::known, crate::proofs::Numbers::unknown))]
-    pub(crate) fn add_false(&mut self) -> Result<(), AllocError>
+    pub(crate) fn add_false(&mut self) -> Allocated<()>
         ensures { OnOk result (self.new ≡ with_constant False self.old) }
     {
         let number = self.list.len();
@@ -133,7 +133,7 @@ impl Constants {
 
     /// Adds true, where it is not there yet.
     #[tactic(auto, using(crate::proofs::Numbers::known, crate::proofs::Numbers::unknown))]
-    pub(crate) fn add_true(&mut self) -> Result<(), AllocError>
+    pub(crate) fn add_true(&mut self) -> Allocated<()>
         ensures { OnOk result (self.new ≡ with_constant True self.old) }
     {
         let number = self.list.len();

@@ -13,7 +13,7 @@ use crate::emitter::Emitter;
 use crate::operands::{Operands, Second};
 use crate::operators::{field_of, number_opcode};
 use code_core::Opcode;
-use std::alloc::AllocError;
+use int_core::Allocated;
 use tree_core::BinOp;
 
 /// How a comparison is made.
@@ -94,7 +94,7 @@ impl Emitter {
         operands: Operands,
         k: bool,
         line: u32,
-    ) -> Result<Vec<usize>, AllocError>
+    ) -> Allocated<Vec<usize>>
         ensures { IfOk result (λ places. Opened self.old self.new (λ ahead. done_code operands.second operands.first (constant_test k ahead line) (registers_test comparison.now k ahead line) (number_test comparison.now k ahead line)) 0 places.items) }
     {
         let first = operands.first;
@@ -114,7 +114,7 @@ impl Emitter {
         number: usize,
         k: bool,
         line: u32,
-    ) -> Result<Vec<usize>, AllocError>
+    ) -> Allocated<Vec<usize>>
         ensures { IfOk result (λ places. Opened self.old self.new (λ ahead. constant_test k ahead line first number) 0 places.items) }
     {
         let away = self.test(Opcode::EqK, first, number, k, line)?;
@@ -129,7 +129,7 @@ impl Emitter {
         number: usize,
         k: bool,
         line: u32,
-    ) -> Result<Vec<usize>, AllocError>
+    ) -> Allocated<Vec<usize>>
         ensures { IfOk result (λ places. Opened self.old self.new (λ ahead. number_test comparison.now k ahead line first number) 0 places.items) }
     {
         let field = field_of(number)?;
@@ -146,7 +146,7 @@ impl Emitter {
         second: usize,
         k: bool,
         line: u32,
-    ) -> Result<Vec<usize>, AllocError>
+    ) -> Allocated<Vec<usize>>
         ensures { IfOk result (λ places. Opened self.old self.new (λ ahead. registers_test comparison.now k ahead line first second) 0 places.items) }
     {
         let x = pick(comparison.swapped, first, second);
@@ -156,7 +156,7 @@ impl Emitter {
     }
 
     /// Writes the condition that is always true: no code, or a jump alone.
-    pub fn always(&mut self, wanted: bool, line: u32) -> Result<Vec<usize>, AllocError>
+    pub fn always(&mut self, wanted: bool, line: u32) -> Allocated<Vec<usize>>
         ensures { IfOk result (λ places. Opened self.old self.new (λ ahead. cond wanted [] (jump_over ahead line ∷ [])) 0 places.items) }
     {
         if wanted {
@@ -174,7 +174,7 @@ impl Emitter {
         y: usize,
         k: bool,
         line: u32,
-    ) -> Result<Vec<usize>, AllocError>
+    ) -> Allocated<Vec<usize>>
         ensures { IfOk result (λ places. Opened self.old self.new (λ ahead. jump_if op x y k ahead line) 0 places.items) }
     {
         self.put_flagged(op, x, y, 0, k, line)?;
@@ -183,7 +183,7 @@ impl Emitter {
     }
 
     /// Writes a jump that leads away, and answers its place.
-    fn jump_away(&mut self, line: u32) -> Result<Vec<usize>, AllocError>
+    fn jump_away(&mut self, line: u32) -> Allocated<Vec<usize>>
         ensures jump { OnOk result (self.new ≡ listed self.old (jump_over 0 line ∷ [])) }
         ensures place { IfOk result (λ away. away.items ≡ length self.old.steps ∷ []) }
     {
@@ -194,12 +194,7 @@ impl Emitter {
     }
 
     /// Writes the load of a truth and a jump that leads away.
-    pub fn load_truth(
-        &mut self,
-        k: bool,
-        target: usize,
-        line: u32,
-    ) -> Result<Vec<usize>, AllocError>
+    pub fn load_truth(&mut self, k: bool, target: usize, line: u32) -> Allocated<Vec<usize>>
         ensures { IfOk result (λ places. Opened self.old self.new (λ ahead. load_truth k ahead target line) 0 places.items) }
     {
         self.put_abc(truth_opcode(k), target, 0, 0, line)?;

@@ -10,6 +10,7 @@ ghost use Rattle.code_emitter.specs.Leading.{no_step, led_on};
 use crate::word::{word_abc, word_abx, word_ax};
 use code_constants::Constants;
 use code_core::{Instruction, Opcode};
+use int_core::Allocated;
 use std::alloc::{AllocError, Global};
 use std::marker::Model;
 
@@ -50,7 +51,7 @@ pub struct Emitted {
 }
 
 /// The number behind another. For as many things as `usize` counts there is no memory.
-pub fn next(number: usize) -> Result<usize, AllocError>
+pub fn next(number: usize) -> Allocated<usize>
     ensures { IfOk result (λ n. n ≡ number + 1) }
 {
     number.checked_add(1).ok_or(AllocError)
@@ -109,7 +110,7 @@ impl Emitter {
     }
 
     /// Puts an instruction last.
-    fn put(&mut self, instruction: Instruction, line: u32) -> Result<(), AllocError>
+    fn put(&mut self, instruction: Instruction, line: u32) -> Allocated<()>
         ensures { OnOk result (self.new ≡ put self.old (record { instruction = instruction; line = line })) }
     {
         self.steps.push(Step { instruction, line })?;
@@ -117,7 +118,7 @@ impl Emitter {
     }
 
     /// Puts a step last.
-    pub fn put_step(&mut self, step: Step) -> Result<(), AllocError>
+    pub fn put_step(&mut self, step: Step) -> Allocated<()>
         ensures { OnOk result (self.new ≡ put self.old step) }
     {
         self.steps.push(step)?;
@@ -125,14 +126,7 @@ impl Emitter {
     }
 
     /// Puts an instruction with three fields last.
-    pub fn put_abc(
-        &mut self,
-        op: Opcode,
-        a: usize,
-        b: usize,
-        c: usize,
-        line: u32,
-    ) -> Result<(), AllocError>
+    pub fn put_abc(&mut self, op: Opcode, a: usize, b: usize, c: usize, line: u32) -> Allocated<()>
         ensures { OnOk result (self.new ≡ listed self.old (with_abc op a b c line ∷ [])) }
     {
         self.put(word_abc(op, a, b, c, false), line)
@@ -147,35 +141,35 @@ impl Emitter {
         c: usize,
         k: bool,
         line: u32,
-    ) -> Result<(), AllocError>
+    ) -> Allocated<()>
         ensures { OnOk result (self.new ≡ listed self.old ((abc op a b c k, line) ∷ [])) }
     {
         self.put(word_abc(op, a, b, c, k), line)
     }
 
     /// Puts an instruction with a field Bx last.
-    pub fn put_abx(&mut self, op: Opcode, a: usize, bx: usize, line: u32) -> Result<(), AllocError>
+    pub fn put_abx(&mut self, op: Opcode, a: usize, bx: usize, line: u32) -> Allocated<()>
         ensures { OnOk result (self.new ≡ listed self.old (with_abx op a bx line ∷ [])) }
     {
         self.put(word_abx(op, a, bx), line)
     }
 
     /// Puts an instruction with a field Ax last.
-    pub fn put_ax(&mut self, op: Opcode, ax: usize, line: u32) -> Result<(), AllocError>
+    pub fn put_ax(&mut self, op: Opcode, ax: usize, line: u32) -> Allocated<()>
         ensures { OnOk result (self.new ≡ listed self.old ((op_ax op ax, line) ∷ [])) }
     {
         self.put(word_ax(op, ax), line)
     }
 
     /// Puts a jump over some instructions behind it last.
-    pub fn put_jump_over(&mut self, places: u32, line: u32) -> Result<(), AllocError>
+    pub fn put_jump_over(&mut self, places: u32, line: u32) -> Allocated<()>
         ensures { OnOk result (self.new ≡ listed self.old (jump_over places line ∷ [])) }
     {
         self.put_ax(Opcode::Jmp, 16777215 + places as usize, line)
     }
 
     /// Puts a jump last whose end is not known yet, and answers its place.
-    pub fn put_open_jump(&mut self, line: u32) -> Result<usize, AllocError>
+    pub fn put_open_jump(&mut self, line: u32) -> Allocated<usize>
         ensures jump { OnOk result (self.new ≡ listed self.old (jump_over 0 line ∷ [])) }
         ensures place { IfOk result (λ place. place ≡ length self.old.steps) }
     {
@@ -202,7 +196,7 @@ impl Emitter {
     }
 
     /// Puts a jump back to an earlier place last.
-    pub fn put_jump_back(&mut self, to: usize, line: u32) -> Result<(), AllocError>
+    pub fn put_jump_back(&mut self, to: usize, line: u32) -> Allocated<()>
         ensures { OnOk result (self.new ≡ listed self.old (jump_back (length self.old.steps + 1 - to) line ∷ [])) }
     {
         let places = (self.steps.len() + 1).saturating_sub(to);
@@ -233,7 +227,7 @@ impl Emitter {
     }
 
     /// Puts a jump to some place at another.
-    pub fn set_jump(&mut self, place: usize, to: usize, line: u32) -> Result<(), AllocError>
+    pub fn set_jump(&mut self, place: usize, to: usize, line: u32) -> Allocated<()>
         ensures { OnOk result (self.new ≡ replaced self.old place (jump_to place to line)) }
     {
         let behind = next(place)?;
@@ -258,7 +252,7 @@ impl Emitter {
     }
 
     /// Lets the jump at a place lead to another one further on.
-    fn lead_one(&mut self, place: usize, to: usize) -> Result<(), AllocError>
+    fn lead_one(&mut self, place: usize, to: usize) -> Allocated<()>
         ensures { OnOk result (self.new ≡ led_on self.old (place ∷ []) to) }
     {
         let line = self.line_at(place);
@@ -269,7 +263,7 @@ impl Emitter {
     }
 
     /// Lets the jumps at some places lead to another one further on.
-    pub fn lead(&mut self, places: &Vec<usize>, to: usize) -> Result<(), AllocError>
+    pub fn lead(&mut self, places: &Vec<usize>, to: usize) -> Allocated<()>
         ensures { OnOk result (self.new ≡ led_on self.old places.now.items to) }
     {
         for place in places.iter() {
@@ -279,7 +273,7 @@ impl Emitter {
     }
 
     /// Puts the making of the next inner function last.
-    pub fn put_closure(&mut self, target: usize, line: u32) -> Result<(), AllocError>
+    pub fn put_closure(&mut self, target: usize, line: u32) -> Allocated<()>
         ensures { OnOk result (self.new ≡ followed self.old (with_abx Closure target self.old.made line ∷ []) 1) }
     {
         let number = self.made;

@@ -5,16 +5,11 @@ ghost use Rattle.code_emitter.specs.Listing.{listed};
 
 use crate::emitter::Emitter;
 use code_core::Opcode;
-use std::alloc::AllocError;
+use int_core::Allocated;
 
 impl Emitter {
     /// Sets the registers of values that are wanted and not there to nil.
-    pub fn nils(
-        &mut self,
-        wanted: Option<usize>,
-        target: usize,
-        line: u32,
-    ) -> Result<(), AllocError>
+    pub fn nils(&mut self, wanted: Option<usize>, target: usize, line: u32) -> Allocated<()>
         ensures { OnOk result (self.new ≡ listed self.old (nils_code wanted target line)) }
     {
         match wanted {
@@ -30,7 +25,7 @@ impl Emitter {
         count: usize,
         items: usize,
         line: u32,
-    ) -> Result<(), AllocError>
+    ) -> Allocated<()>
         ensures { OnOk result (self.new ≡ listed self.old (set_list target count items line)) }
     {
         if items < 256 {

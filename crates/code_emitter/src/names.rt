@@ -8,13 +8,12 @@ ghost use Rattle.code_emitter.specs.Listing.{listed};
 use crate::emitter::{Emitter, next};
 use code_constants::is_small;
 use code_core::Opcode;
-use int_core::Bytes;
-use std::alloc::AllocError;
+use int_core::{Allocated, Bytes};
 use tree_core::{Name, Place};
 
 impl Emitter {
     /// Loads the constant of a number.
-    fn load_numbered(&mut self, number: usize, target: usize, line: u32) -> Result<(), AllocError>
+    fn load_numbered(&mut self, number: usize, target: usize, line: u32) -> Allocated<()>
         ensures { OnOk result (self.new ≡ listed self.old (loads_numbered number target line)) }
     {
         if number < 131072 {
@@ -25,7 +24,7 @@ impl Emitter {
     }
 
     /// Loads a string.
-    pub fn load_text(&mut self, text: &Bytes, target: usize, line: u32) -> Result<(), AllocError>
+    pub fn load_text(&mut self, text: &Bytes, target: usize, line: u32) -> Allocated<()>
         ensures { OnOk result (self.new ≡ listed self.old (loads self.old.constants (Str text.now) target line)) }
     {
         let number = self.constants().number_of_text(text);
@@ -33,7 +32,7 @@ impl Emitter {
     }
 
     /// Loads an integer, which is no constant where LOADI holds it.
-    pub fn load_integer(&mut self, integer: i64, target: usize, line: u32) -> Result<(), AllocError>
+    pub fn load_integer(&mut self, integer: i64, target: usize, line: u32) -> Allocated<()>
         ensures { OnOk result (self.new ≡ listed self.old (loads_integer self.old.constants integer target line)) }
     {
         if is_small(integer) {
@@ -50,7 +49,7 @@ impl Emitter {
         object: usize,
         target: usize,
         line: u32,
-    ) -> Result<(), AllocError>
+    ) -> Allocated<()>
         ensures { OnOk result (self.new ≡ listed self.old (self_code self.old.constants text.now object target line)) }
     {
         let number = self.constants().number_of_text(text);
@@ -63,13 +62,7 @@ impl Emitter {
     }
 
     /// Reads a variable, whose value goes to one register, where the registers from another one on are free.
-    pub fn read_name(
-        &mut self,
-        name: &Name,
-        target: usize,
-        free: usize,
-        line: u32,
-    ) -> Result<(), AllocError>
+    pub fn read_name(&mut self, name: &Name, target: usize, free: usize, line: u32) -> Allocated<()>
         ensures { OnOk result (self.new ≡ listed self.old (name_into self.old.constants name.now.place name.now.text target free line)) }
     {
         match name.place {
@@ -105,7 +98,7 @@ impl Emitter {
         target: usize,
         free: usize,
         line: u32,
-    ) -> Result<(), AllocError>
+    ) -> Allocated<()>
         ensures { OnOk result (self.new ≡ listed self.old (local_global_code (number_in self.old.constants (Str text.now)) environment (loads self.old.constants (Str text.now) free line) target free line)) }
     {
         let number = self.constants().number_of_text(text);
@@ -124,7 +117,7 @@ impl Emitter {
         target: usize,
         free: usize,
         line: u32,
-    ) -> Result<(), AllocError>
+    ) -> Allocated<()>
         ensures { OnOk result (self.new ≡ listed self.old (global_code (number_in self.old.constants (Str text.now)) upvalue (loads self.old.constants (Str text.now) (free + 1) line) target free line)) }
     {
         let number = self.constants().number_of_text(text);

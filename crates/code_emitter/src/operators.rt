@@ -10,6 +10,7 @@ ghost use Rattle.code_emitter.specs.Operands.{done_code};
 use crate::emitter::Emitter;
 use crate::operands::{Operands, Second};
 use code_core::Opcode;
+use int_core::Allocated;
 use std::alloc::AllocError;
 use tree_core::{BinOp, UnOp};
 
@@ -26,7 +27,7 @@ fn prefix_opcode(op: UnOp) -> Opcode
 }
 
 /// The field of a numeral, which is 127 more.
-pub(crate) fn field_of(number: usize) -> Result<usize, AllocError>
+pub(crate) fn field_of(number: usize) -> Allocated<usize>
     ensures { IfOk result (λ field. field ≡ number + 127) }
 {
     number.checked_add(127).ok_or(AllocError)
@@ -47,13 +48,7 @@ pub(crate) fn number_opcode(op: BinOp) -> Opcode
 
 impl Emitter {
     /// Does a prefix operator to the value of a register.
-    pub fn prefix(
-        &mut self,
-        op: UnOp,
-        operand: usize,
-        target: usize,
-        line: u32,
-    ) -> Result<(), AllocError>
+    pub fn prefix(&mut self, op: UnOp, operand: usize, target: usize, line: u32) -> Allocated<()>
         ensures { OnOk result (self.new ≡ listed self.old (prefix_code op operand target line)) }
     {
         self.put_abc(prefix_opcode(op), target, operand, 0, line)
@@ -66,7 +61,7 @@ impl Emitter {
         operands: Operands,
         target: usize,
         line: u32,
-    ) -> Result<(), AllocError>
+    ) -> Allocated<()>
         ensures { OnOk result (self.new ≡ listed self.old (done_code operands.second operands.first (λ x n. constant_code op x n target line) (λ x y. operator_code op x y target line) (λ x n. number_code op x n target line))) }
     {
         match operands.second {
@@ -81,12 +76,7 @@ impl Emitter {
     }
 
     /// Reads a field, whose object and key stand somewhere.
-    pub fn read_field(
-        &mut self,
-        operands: Operands,
-        target: usize,
-        line: u32,
-    ) -> Result<(), AllocError>
+    pub fn read_field(&mut self, operands: Operands, target: usize, line: u32) -> Allocated<()>
         ensures { OnOk result (self.new ≡ listed self.old (done_code operands.second operands.first (λ x n. with_abc GetField target x n line ∷ []) (λ x y. with_abc GetTable target x y line ∷ []) (λ x n. with_abc GetI target x n line ∷ []))) }
     {
         match operands.second {
@@ -103,14 +93,7 @@ impl Emitter {
     }
 
     /// Does an operator to the values of two registers. Those of `..` follow each other from the target on.
-    fn operator(
-        &mut self,
-        op: BinOp,
-        x: usize,
-        y: usize,
-        target: usize,
-        line: u32,
-    ) -> Result<(), AllocError>
+    fn operator(&mut self, op: BinOp, x: usize, y: usize, target: usize, line: u32) -> Allocated<()>
         ensures { OnOk result (self.new ≡ listed self.old (operator_code op x y target line)) }
     {
         match op {
@@ -143,7 +126,7 @@ impl Emitter {
         y: usize,
         target: usize,
         line: u32,
-    ) -> Result<(), AllocError>
+    ) -> Allocated<()>
         ensures { OnOk result (self.new ≡ listed self.old (arithmetic_code op event x y target line)) }
     {
         self.put_abc(op, target, x, y, line)?;
@@ -158,7 +141,7 @@ impl Emitter {
         number: usize,
         target: usize,
         line: u32,
-    ) -> Result<(), AllocError>
+    ) -> Allocated<()>
         ensures { OnOk result (self.new ≡ listed self.old (number_code op x number target line)) }
     {
         let raised = field_of(number)?;
@@ -186,7 +169,7 @@ impl Emitter {
         number: usize,
         target: usize,
         line: u32,
-    ) -> Result<(), AllocError>
+    ) -> Allocated<()>
         ensures { OnOk result (self.new ≡ listed self.old (constant_code op x number target line)) }
     {
         match op {
@@ -213,7 +196,7 @@ impl Emitter {
         number: usize,
         target: usize,
         line: u32,
-    ) -> Result<(), AllocError>
+    ) -> Allocated<()>
         ensures { OnOk result (self.new ≡ listed self.old (constant_arithmetic op event x number target line)) }
     {
         self.put_abc(op, target, x, number, line)?;
@@ -230,7 +213,7 @@ impl Emitter {
         number: usize,
         target: usize,
         line: u32,
-    ) -> Result<(), AllocError>
+    ) -> Allocated<()>
         ensures { OnOk result (self.new ≡ listed self.old (sum_code op field event x number target line)) }
     {
         let operand = field_of(number)?;
@@ -247,7 +230,7 @@ impl Emitter {
         k: bool,
         target: usize,
         line: u32,
-    ) -> Result<(), AllocError>
+    ) -> Allocated<()>
         ensures { OnOk result (self.new ≡ listed self.old (truth_code op x y k target line)) }
     {
         self.put_flagged(op, x, y, 0, k, line)?;

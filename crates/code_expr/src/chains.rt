@@ -9,7 +9,7 @@ ghost use Rattle.code_emitter.specs.Listing.{followed};
 use crate::expressions::expression;
 use code_core::Opcode;
 use code_emitter::{Emitter, next};
-use std::alloc::AllocError;
+use int_core::Allocated;
 use tree_core::{BinOp, Exp, ExpNode};
 
 /// Whether an operator is `..`.
@@ -34,7 +34,7 @@ pub(crate) fn join(
     right: &Exp,
     target: usize,
     line: u32,
-) -> Result<(), AllocError>
+) -> Allocated<()>
     ensures { OnOk result (emitter.new ≡ followed emitter.old (chain_code line (plain_exp right.now) (exp_code emitter.old.constants (plain_exp left.now) target emitter.old.made 2) (exp_code emitter.old.constants (plain_exp right.now) (target + 1) (emitter.old.made + made_by (plain_exp left.now)) 2) target) (made_by (plain_exp left.now) + made_by (plain_exp right.now))) }
 {
     let count = link(emitter, left, right, target, line)?;
@@ -50,7 +50,7 @@ fn link(
     right: &Exp,
     target: usize,
     line: u32,
-) -> Result<usize, AllocError>
+) -> Allocated<usize>
     ensures code { OnOk result (emitter.new ≡ followed emitter.old (exp_code emitter.old.constants (plain_exp left.now) target emitter.old.made 2 ++ unjoined (continues line (plain_exp right.now)) (exp_code emitter.old.constants (plain_exp right.now) (target + 1) (emitter.old.made + made_by (plain_exp left.now)) 2)) (made_by (plain_exp left.now) + made_by (plain_exp right.now))) }
     ensures count { IfOk result (λ n. n ≡ suc (links line (plain_exp right.now))) }
 {
@@ -63,12 +63,7 @@ fn link(
 
 /// Writes the right operand of a `..`, which goes on with the chain on its line or ends it.
 #[cycle(expressions)]
-fn link_right(
-    emitter: &mut Emitter,
-    exp: &Exp,
-    target: usize,
-    line: u32,
-) -> Result<usize, AllocError>
+fn link_right(emitter: &mut Emitter, exp: &Exp, target: usize, line: u32) -> Allocated<usize>
     ensures code { OnOk result (emitter.new ≡ followed emitter.old (unjoined (continues line (plain_exp exp.now)) (exp_code emitter.old.constants (plain_exp exp.now) target emitter.old.made 2)) (made_by (plain_exp exp.now))) }
     ensures count { IfOk result (λ n. n ≡ links line (plain_exp exp.now)) }
 {
@@ -100,7 +95,7 @@ fn link_right(
 
 /// Writes the last operand of a chain.
 #[cycle(expressions)]
-fn last_link(emitter: &mut Emitter, exp: &Exp, target: usize) -> Result<usize, AllocError>
+fn last_link(emitter: &mut Emitter, exp: &Exp, target: usize) -> Allocated<usize>
     ensures code { OnOk result (emitter.new ≡ followed emitter.old (exp_code emitter.old.constants (plain_exp exp.now) target emitter.old.made 2) (made_by (plain_exp exp.now))) }
     ensures count { IfOk result (λ n. n ≡ 1) }
 {

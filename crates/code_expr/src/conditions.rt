@@ -9,7 +9,7 @@ ghost use Rattle.code_expr.specs.Testing.{compared_code, either_test, Tests};
 use crate::expressions::{operand, operands};
 use code_core::Opcode;
 use code_emitter::{Comparison, Emitter, comparing, flag};
-use std::alloc::AllocError;
+use int_core::Allocated;
 use tree_core::{Exp, ExpNode, UnOp};
 
 /// Writes a condition. Code goes on behind it where its truth is the wanted one, and else leads
@@ -21,7 +21,7 @@ pub fn condition(
     exp: &Exp,
     wanted: bool,
     free: usize,
-) -> Result<Vec<usize>, AllocError>
+) -> Allocated<Vec<usize>>
     ensures { IfOk result (λ places. Tests emitter.old emitter.new (plain_exp exp.now) wanted free places.items) }
 {
     match &exp.node {
@@ -62,7 +62,7 @@ fn either_of(
     second: &Exp,
     wanted: bool,
     free: usize,
-) -> Result<Vec<usize>, AllocError>
+) -> Allocated<Vec<usize>>
     ensures { IfOk result (λ places. Opened emitter.old emitter.new (λ ahead. either_test emitter.old.constants decides (plain_exp first.now) (plain_exp second.now) wanted ahead free emitter.old.made) (made_by (plain_exp first.now) + made_by (plain_exp second.now)) places.items) }
 {
     let mut decided = condition(emitter, first, !decides, free)?;
@@ -86,7 +86,7 @@ fn compare(
     wanted: bool,
     free: usize,
     line: u32,
-) -> Result<Vec<usize>, AllocError>
+) -> Allocated<Vec<usize>>
     ensures { IfOk result (λ places. Opened emitter.old emitter.new (λ ahead. compared_code emitter.old.constants comparison.now (plain_exp left.now) (plain_exp right.now) wanted ahead free emitter.old.made line) (made_by (plain_exp left.now) + made_by (plain_exp right.now)) places.items) }
 {
     let stays = emitter.standing(comparison.op, right);
@@ -98,12 +98,7 @@ fn compare(
 
 /// Writes an expression whose value is tested, and the jump where its truth is not the wanted one.
 #[cycle(expressions)]
-fn by_value(
-    emitter: &mut Emitter,
-    exp: &Exp,
-    wanted: bool,
-    free: usize,
-) -> Result<Vec<usize>, AllocError>
+fn by_value(emitter: &mut Emitter, exp: &Exp, wanted: bool, free: usize) -> Allocated<Vec<usize>>
     ensures { IfOk result (λ places. Opened emitter.old emitter.new (λ ahead. value_test emitter.old.constants (plain_exp exp.now) wanted ahead free emitter.old.made) (made_by (plain_exp exp.now)) places.items) }
 {
     let register = operand(emitter, exp, free)?;

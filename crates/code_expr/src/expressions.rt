@@ -19,19 +19,14 @@ use crate::quiet::is_quiet;
 use crate::stores::{key_seat, name_in, put_value, value_seat, write_key, write_value};
 use code_core::Opcode;
 use code_emitter::{Emitter, Operands, Second, key_staying, local_of, next};
-use std::alloc::AllocError;
+use int_core::Allocated;
 use tree_core::{BinOp, Exp, ExpNode, Field, Name, UnOp};
 
 /// Writes an expression, whose value goes to a register. `results` is the field C of a call
 /// or `...`: one more than the number of values that are wanted, or 0 for all.
 #[cycle(expressions)]
 #[tactic(auto, using(code_emitter::proofs::Joining::none_made, tree_core::proofs::Rows::exps_of, tree_core::proofs::Rows::fields_of, crate::proofs::Rows::body_line))]
-pub fn expression(
-    emitter: &mut Emitter,
-    exp: &Exp,
-    target: usize,
-    results: usize,
-) -> Result<(), AllocError>
+pub fn expression(emitter: &mut Emitter, exp: &Exp, target: usize, results: usize) -> Allocated<()>
     ensures { OnOk result (emitter.new ≡ followed emitter.old (exp_code emitter.old.constants (plain_exp exp.now) target emitter.old.made results) (made_by (plain_exp exp.now))) }
 {
     let line = exp.line;
@@ -67,7 +62,7 @@ pub(crate) fn unary(
     target: usize,
     free: usize,
     line: u32,
-) -> Result<(), AllocError>
+) -> Allocated<()>
     ensures { OnOk result (emitter.new ≡ followed emitter.old (direct_code emitter.old.constants (Unary line op (plain_exp inner.now)) target free emitter.old.made) (made_by (Unary line op (plain_exp inner.now)))) }
 {
     let register = operand(emitter, inner, free)?;
@@ -84,7 +79,7 @@ fn binary(
     right: &Exp,
     target: usize,
     line: u32,
-) -> Result<(), AllocError>
+) -> Allocated<()>
     ensures { OnOk result (emitter.new ≡ followed emitter.old (exp_code emitter.old.constants (Binary line op (plain_exp left.now) (plain_exp right.now)) target emitter.old.made 2) (made_by (Binary line op (plain_exp left.now) (plain_exp right.now)))) }
 {
     if joins(op) {
@@ -104,7 +99,7 @@ pub(crate) fn operands(
     left: &Exp,
     right: &Exp,
     target: usize,
-) -> Result<Operands, AllocError>
+) -> Allocated<Operands>
     ensures code { OnOk result (emitter.new ≡ followed emitter.old (stays_code stays (local_of (plain_exp left.now)) (exp_code emitter.old.constants (plain_exp left.now) target emitter.old.made 2) (exp_code emitter.old.constants (plain_exp right.now) (target + 1) (emitter.old.made + made_by (plain_exp left.now)) 2)) (stays_made stays (made_by (plain_exp left.now)) (made_by (plain_exp right.now)))) }
     ensures places { IfOk result (λ operands. operands ≡ stays_at stays (local_of (plain_exp left.now)) target) }
 {
@@ -116,12 +111,7 @@ pub(crate) fn operands(
 
 /// Writes the first operand beside a second one that stays where it is.
 #[cycle(expressions)]
-fn beside(
-    emitter: &mut Emitter,
-    left: &Exp,
-    second: Second,
-    target: usize,
-) -> Result<Operands, AllocError>
+fn beside(emitter: &mut Emitter, left: &Exp, second: Second, target: usize) -> Allocated<Operands>
     ensures code { OnOk result (emitter.new ≡ followed emitter.old (unless (local_of (plain_exp left.now)) (exp_code emitter.old.constants (plain_exp left.now) target emitter.old.made 2)) (made_by (plain_exp left.now))) }
     ensures places { IfOk result (λ operands. operands ≡ record { first = seat (local_of (plain_exp left.now)) target; second = second }) }
 {
@@ -131,12 +121,7 @@ fn beside(
 
 /// Writes both operands into registers.
 #[cycle(expressions)]
-fn both(
-    emitter: &mut Emitter,
-    left: &Exp,
-    right: &Exp,
-    target: usize,
-) -> Result<Operands, AllocError>
+fn both(emitter: &mut Emitter, left: &Exp, right: &Exp, target: usize) -> Allocated<Operands>
     ensures code { OnOk result (emitter.new ≡ followed emitter.old (exp_code emitter.old.constants (plain_exp left.now) target emitter.old.made 2 ++ exp_code emitter.old.constants (plain_exp right.now) (target + 1) (emitter.old.made + made_by (plain_exp left.now)) 2) (made_by (plain_exp left.now) + made_by (plain_exp right.now))) }
     ensures places { IfOk result (λ operands. operands ≡ record { first = target; second = Register (target + 1) }) }
 {
@@ -151,7 +136,7 @@ fn both(
 
 /// Writes an operand, if it does not stay in its own register, and answers the register in which it stands.
 #[cycle(expressions)]
-pub fn operand(emitter: &mut Emitter, exp: &Exp, target: usize) -> Result<usize, AllocError>
+pub fn operand(emitter: &mut Emitter, exp: &Exp, target: usize) -> Allocated<usize>
     ensures code { OnOk result (emitter.new ≡ followed emitter.old (unless (local_of (plain_exp exp.now)) (exp_code emitter.old.constants (plain_exp exp.now) target emitter.old.made 2)) (made_by (plain_exp exp.now))) }
     ensures place { IfOk result (λ register. register ≡ seat (local_of (plain_exp exp.now)) target) }
 {
@@ -171,7 +156,7 @@ pub(crate) fn index(
     target: usize,
     free: usize,
     line: u32,
-) -> Result<(), AllocError>
+) -> Allocated<()>
     ensures { OnOk result (emitter.new ≡ followed emitter.old (direct_code emitter.old.constants (Index line (plain_exp object.now) (plain_exp key.now)) target free emitter.old.made) (made_by (Index line (plain_exp object.now) (plain_exp key.now)))) }
 {
     match name_in(emitter, key) {
@@ -194,7 +179,7 @@ fn either(
     first: &Exp,
     second: &Exp,
     target: usize,
-) -> Result<(), AllocError>
+) -> Allocated<()>
     ensures { OnOk result (emitter.new ≡ followed emitter.old (either_value emitter.old.constants decides (plain_exp first.now) (plain_exp second.now) target emitter.old.made) (made_by (plain_exp first.now) + made_by (plain_exp second.now))) }
 {
     let decided = keep(emitter, first, decides, target)?;
@@ -213,7 +198,7 @@ fn call(
     target: usize,
     results: usize,
     line: u32,
-) -> Result<(), AllocError>
+) -> Allocated<()>
     ensures { OnOk result (emitter.new ≡ followed emitter.old (exp_code emitter.old.constants (Call line (plain_exp called.now) (exps (plain_exps arguments.now.items))) target emitter.old.made results) (made_by (Call line (plain_exp called.now) (exps (plain_exps arguments.now.items))))) }
 {
     expression(emitter, called, target, 2)?;
@@ -238,7 +223,7 @@ fn method(
     target: usize,
     results: usize,
     line: u32,
-) -> Result<(), AllocError>
+) -> Allocated<()>
     ensures { OnOk result (emitter.new ≡ followed emitter.old (exp_code emitter.old.constants (Method line (plain_exp object.now) name.now (exps (plain_exps arguments.now.items))) target emitter.old.made results) (made_by (Method line (plain_exp object.now) name.now (exps (plain_exps arguments.now.items))))) }
 {
     let above = next(target)?;
@@ -264,7 +249,7 @@ pub fn list(
     wanted: Option<usize>,
     target: usize,
     line: u32,
-) -> Result<(), AllocError>
+) -> Allocated<()>
     ensures { OnOk result (emitter.new ≡ followed emitter.old (exps_code emitter.old.constants (exps (plain_exps list.now.items)) wanted target emitter.old.made line) (made_in (exps (plain_exps list.now.items)))) }
 {
     let mut wanted = wanted;
@@ -283,12 +268,7 @@ pub fn list(
 
 /// Writes a table constructor.
 #[cycle(expressions)]
-fn table(
-    emitter: &mut Emitter,
-    list: &Vec<Field>,
-    target: usize,
-    line: u32,
-) -> Result<(), AllocError>
+fn table(emitter: &mut Emitter, list: &Vec<Field>, target: usize, line: u32) -> Allocated<()>
     ensures { OnOk result (emitter.new ≡ followed emitter.old (exp_code emitter.old.constants (Table line (fields (map plain_field list.now.items))) target emitter.old.made 2) (made_in_fields (fields (map plain_field list.now.items)))) }
 {
     emitter.put_abc(Opcode::NewTable, target, 0, 0, line)?;
@@ -315,7 +295,7 @@ fn table_field(
     items: Items,
     target: usize,
     table_line: u32,
-) -> Result<Items, AllocError>
+) -> Allocated<Items>
     ensures code { OnOk result (emitter.new ≡ followed emitter.old (field_code emitter.old.constants (plain_field field.now) (nat_eq left 0) items target emitter.old.made table_line) (made_by_field (plain_field field.now))) }
     ensures items { IfOk result (λ n. n ≡ items_behind (plain_field field.now) items) }
 {
@@ -344,7 +324,7 @@ fn keyed(
     target: usize,
     line: u32,
     table_line: u32,
-) -> Result<Items, AllocError>
+) -> Allocated<Items>
     ensures code { OnOk result (emitter.new ≡ followed emitter.old (waiting_code items.stored items.waiting target table_line ++ keyed_code emitter.old.constants (plain_exp key.now) (plain_exp value.now) target emitter.old.made line) (made_by (plain_exp key.now) + made_by (plain_exp value.now))) }
     ensures items { IfOk result (λ n. n ≡ so_many (items.stored + items.waiting) 0) }
 {

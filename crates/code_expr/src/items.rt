@@ -9,6 +9,7 @@ ghost use Rattle.code_expr.specs.Parts.{so_many, held_code, alone_code, item_beh
 use crate::expressions::expression;
 use crate::lists::{item_field, stored_field};
 use code_emitter::{Emitter, next};
+use int_core::Allocated;
 use std::alloc::AllocError;
 use tree_core::{Exp, ExpNode, Name, Place, UnOp};
 
@@ -22,7 +23,7 @@ pub(crate) struct Items {
 }
 
 /// The sum of two numbers. For as many things as `usize` counts there is no memory.
-pub(crate) fn plus(first: usize, second: usize) -> Result<usize, AllocError>
+pub(crate) fn plus(first: usize, second: usize) -> Allocated<usize>
     ensures { IfOk result (λ n. n ≡ first + second) }
 {
     first.checked_add(second).ok_or(AllocError)
@@ -76,7 +77,7 @@ pub(crate) fn store_items(
     waiting: usize,
     target: usize,
     line: u32,
-) -> Result<(), AllocError>
+) -> Allocated<()>
     ensures { OnOk result (emitter.new ≡ listed emitter.old (waiting_code stored waiting target line)) }
 {
     if waiting == 0 {
@@ -93,7 +94,7 @@ fn store_full(
     waiting: usize,
     target: usize,
     line: u32,
-) -> Result<Items, AllocError>
+) -> Allocated<Items>
     ensures code { OnOk result (emitter.new ≡ listed emitter.old (cond (is_full (stored + waiting)) (set_list target waiting stored line) [])) }
     ensures items { IfOk result (λ n. n ≡ cond (is_full (stored + waiting)) (so_many (stored + waiting) 0) (so_many stored waiting)) }
 {
@@ -117,7 +118,7 @@ pub(crate) fn item(
     items: Items,
     target: usize,
     line: u32,
-) -> Result<Items, AllocError>
+) -> Allocated<Items>
     ensures code { OnOk result (emitter.new ≡ followed emitter.old (one_item emitter.old.constants (plain_exp value.now) whole items target emitter.old.made line) (made_by (plain_exp value.now))) }
     ensures items { IfOk result (λ n. n ≡ item_behind (waits (plain_exp value.now)) items) }
 {
@@ -135,7 +136,7 @@ fn waiting_item(
     items: Items,
     target: usize,
     line: u32,
-) -> Result<Items, AllocError>
+) -> Allocated<Items>
     ensures code { OnOk result (emitter.new ≡ followed emitter.old (held_code (is_full (items.stored + items.waiting + 1)) (exp_code emitter.old.constants (plain_exp value.now) (target + 1 + items.waiting) emitter.old.made 2) items.stored items.waiting target line) (made_by (plain_exp value.now))) }
     ensures items { IfOk result (λ n. n ≡ item_behind true items) }
 {
@@ -156,7 +157,7 @@ fn lone_item(
     items: Items,
     target: usize,
     line: u32,
-) -> Result<Items, AllocError>
+) -> Allocated<Items>
     ensures code { OnOk result (emitter.new ≡ followed emitter.old (alone_code (exp_code emitter.old.constants (plain_exp value.now) (target + 1) emitter.old.made (cond whole 0 2)) items.stored items.waiting (cond whole 0 1) target line) (made_by (plain_exp value.now))) }
     ensures items { IfOk result (λ n. n ≡ item_behind false items) }
 {

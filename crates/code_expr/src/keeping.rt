@@ -10,7 +10,7 @@ use crate::conditions::condition;
 use crate::expressions::expression;
 use code_core::Opcode;
 use code_emitter::{Emitter, local_of};
-use std::alloc::AllocError;
+use int_core::Allocated;
 use tree_core::{BinOp, Exp, ExpNode, UnOp};
 
 /// Writes a first operand. Where its truth is `k`, its value is in the register then and the code leads
@@ -22,7 +22,7 @@ pub(crate) fn keep(
     exp: &Exp,
     k: bool,
     target: usize,
-) -> Result<Vec<usize>, AllocError>
+) -> Allocated<Vec<usize>>
     ensures { IfOk result (λ places. Keeps emitter.old emitter.new (plain_exp exp.now) k target places.items) }
 {
     if is_truth(exp) {
@@ -59,7 +59,7 @@ fn keep_either(
     second: &Exp,
     k: bool,
     target: usize,
-) -> Result<Vec<usize>, AllocError>
+) -> Allocated<Vec<usize>>
     ensures { IfOk result (λ places. Opened emitter.old emitter.new (λ ahead. either_keep emitter.old.constants decides (plain_exp first.now) (plain_exp second.now) k ahead target emitter.old.made) (made_by (plain_exp first.now) + made_by (plain_exp second.now)) places.items) }
 {
     if decides == k {
@@ -80,7 +80,7 @@ fn keep_both(
     second: &Exp,
     k: bool,
     target: usize,
-) -> Result<Vec<usize>, AllocError>
+) -> Allocated<Vec<usize>>
     ensures { IfOk result (λ places. Opened emitter.old emitter.new (λ ahead. either_keep emitter.old.constants k (plain_exp first.now) (plain_exp second.now) k ahead target emitter.old.made) (made_by (plain_exp first.now) + made_by (plain_exp second.now)) places.items) }
 {
     let mut decided = keep(emitter, first, k, target)?;
@@ -91,12 +91,7 @@ fn keep_both(
 
 /// Writes an operand whose value is made in the register, or goes there from that of a local by the test.
 #[cycle(expressions)]
-fn keep_value(
-    emitter: &mut Emitter,
-    exp: &Exp,
-    k: bool,
-    target: usize,
-) -> Result<Vec<usize>, AllocError>
+fn keep_value(emitter: &mut Emitter, exp: &Exp, k: bool, target: usize) -> Allocated<Vec<usize>>
     ensures { IfOk result (λ places. Opened emitter.old emitter.new (λ ahead. kept_value (plain_exp exp.now) (exp_code emitter.old.constants (plain_exp exp.now) target emitter.old.made 2) k ahead target) (made_by (plain_exp exp.now)) places.items) }
 {
     if let Some(register) = local_of(exp) {
@@ -109,12 +104,7 @@ fn keep_value(
 
 /// Writes a comparison or `not`: the condition, which leads past the instruction that loads its truth.
 #[cycle(expressions)]
-fn keep_truth(
-    emitter: &mut Emitter,
-    exp: &Exp,
-    k: bool,
-    target: usize,
-) -> Result<Vec<usize>, AllocError>
+fn keep_truth(emitter: &mut Emitter, exp: &Exp, k: bool, target: usize) -> Allocated<Vec<usize>>
     ensures { IfOk result (λ places. Opened emitter.old emitter.new (λ ahead. kept_truth emitter.old.constants (plain_exp exp.now) k ahead target emitter.old.made) (made_by (plain_exp exp.now)) places.items) }
 {
     let passed = condition(emitter, exp, k, target)?;

@@ -7,7 +7,7 @@ ghost use Rattle.code_of.specs.Operands.{lone_local};
 ghost use Rattle.code_expr.specs.Parts.{field_where, wanted_where};
 
 use code_emitter::{local_of, next};
-use std::alloc::AllocError;
+use int_core::Allocated;
 use tree_core::{Exp, ExpNode};
 
 /// Whether an expression gives any number of values.
@@ -55,7 +55,7 @@ pub fn lone_local(list: &Vec<Exp>) -> Option<usize>
 }
 
 /// The field C of an expression, which may fill what is left of the wanted values.
-pub(crate) fn field_where(fills: bool, wanted: Option<usize>) -> Result<usize, AllocError>
+pub(crate) fn field_where(fills: bool, wanted: Option<usize>) -> Allocated<usize>
     ensures { IfOk result (λ field. field ≡ field_where fills wanted) }
 {
     if !fills {

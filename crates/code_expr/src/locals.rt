@@ -11,7 +11,7 @@ ghost use Rattle.code_emitter.specs.Operands.{made_directly};
 use crate::expressions::{index, operands, unary};
 use code_core::Opcode;
 use code_emitter::{Emitter, local_at};
-use std::alloc::AllocError;
+use int_core::Allocated;
 use tree_core::{BinOp, Exp, ExpNode};
 
 /// Whether an operator has an instruction that writes its result.
@@ -79,7 +79,7 @@ fn binary_into(
     target: usize,
     free: usize,
     line: u32,
-) -> Result<(), AllocError>
+) -> Allocated<()>
     ensures { OnOk result (emitter.new ≡ followed emitter.old (direct_code emitter.old.constants (Binary line op (plain_exp left.now) (plain_exp right.now)) target free emitter.old.made) (made_by (Binary line op (plain_exp left.now) (plain_exp right.now)))) }
 {
     let stays = emitter.standing(op, right);
@@ -91,12 +91,7 @@ fn binary_into(
 /// Writes a value straight to a register, where the registers from another one on are free. Of an
 /// expression that has no instruction for it nothing is written.
 #[tactic(auto, using(code_emitter::proofs::Seats::nothing_more, code_emitter::proofs::Joining::none_made))]
-pub fn direct(
-    emitter: &mut Emitter,
-    exp: &Exp,
-    target: usize,
-    free: usize,
-) -> Result<(), AllocError>
+pub fn direct(emitter: &mut Emitter, exp: &Exp, target: usize, free: usize) -> Allocated<()>
     ensures { OnOk result (emitter.new ≡ followed emitter.old (direct_code emitter.old.constants (plain_exp exp.now) target free emitter.old.made) (made_directly (plain_exp exp.now))) }
 {
     let line = exp.line;

@@ -15,7 +15,7 @@ use crate::quiet::{beside_quiet, is_quiet};
 use code_constants::{numeral_of, short};
 use code_core::Opcode;
 use code_emitter::{Emitter, local_of, next};
-use std::alloc::AllocError;
+use int_core::Allocated;
 use tree_core::{Exp, ExpNode};
 
 /// Where the key of a field stands.
@@ -104,12 +104,7 @@ pub(crate) fn value_seat(emitter: &Emitter, value: &Exp) -> ValueSeat
 
 /// Writes an operand that does not stay in a register, and answers where it stands.
 #[tactic(auto, using(crate::proofs::FieldSeats::stays_written))]
-fn stand(
-    emitter: &mut Emitter,
-    stays: Option<usize>,
-    exp: &Exp,
-    target: usize,
-) -> Result<usize, AllocError>
+fn stand(emitter: &mut Emitter, stays: Option<usize>, exp: &Exp, target: usize) -> Allocated<usize>
     ensures code { OnOk result (emitter.new ≡ followed emitter.old (unless stays (exp_code emitter.old.constants (plain_exp exp.now) target emitter.old.made 2)) (made_unless stays (made_by (plain_exp exp.now)))) }
     ensures place { IfOk result (λ register. register ≡ seat stays target) }
 {
@@ -128,7 +123,7 @@ pub(crate) fn write_key(
     stands: KeySeat,
     key: &Exp,
     target: usize,
-) -> Result<(), AllocError>
+) -> Allocated<()>
     ensures { OnOk result (emitter.new ≡ followed emitter.old (seat_code stands (exp_code emitter.old.constants (plain_exp key.now) target emitter.old.made 2)) (seat_made stands (made_by (plain_exp key.now)))) }
 {
     match stands {
@@ -147,7 +142,7 @@ pub(crate) fn write_value(
     seat: ValueSeat,
     value: &Exp,
     target: usize,
-) -> Result<(), AllocError>
+) -> Allocated<()>
     ensures { OnOk result (emitter.new ≡ followed emitter.old (place_code seat (exp_code emitter.old.constants (plain_exp value.now) target emitter.old.made 2)) (place_made seat (made_by (plain_exp value.now)))) }
 {
     match seat {
@@ -166,7 +161,7 @@ pub(crate) fn put_store(
     constant: bool,
     value: usize,
     line: u32,
-) -> Result<(), AllocError>
+) -> Allocated<()>
     ensures { OnOk result (emitter.new ≡ listed emitter.old (seat_store stands object above constant value line ∷ [])) }
 {
     match stands {
@@ -194,7 +189,7 @@ pub(crate) fn put_value(
     above: usize,
     top: usize,
     line: u32,
-) -> Result<(), AllocError>
+) -> Allocated<()>
     ensures { OnOk result (emitter.new ≡ listed emitter.old (place_store stands seat object above top line ∷ [])) }
 {
     match seat {
@@ -216,7 +211,7 @@ fn store_field(
     value: &Exp,
     free: usize,
     line: u32,
-) -> Result<(), AllocError>
+) -> Allocated<()>
     ensures { OnOk result (emitter.new ≡ followed emitter.old (field_code emitter.old.constants (Index line (plain_exp object.now) (plain_exp key.now)) (plain_exp value.now) free emitter.old.made (emitter.old.made + (made_by (plain_exp object.now) + made_by (plain_exp key.now)))) (made_by (plain_exp object.now) + made_by (plain_exp key.now) + made_by (plain_exp value.now))) }
 {
     let above = next(free)?;
@@ -234,12 +229,7 @@ fn store_field(
 /// Writes an assignment of one value to one field, where the registers from one on are free. For another target
 /// nothing is written.
 #[tactic(auto, using(code_emitter::proofs::Seats::nothing_more))]
-pub fn store(
-    emitter: &mut Emitter,
-    target: &Exp,
-    value: &Exp,
-    free: usize,
-) -> Result<(), AllocError>
+pub fn store(emitter: &mut Emitter, target: &Exp, value: &Exp, free: usize) -> Allocated<()>
     ensures { OnOk result (emitter.new ≡ followed emitter.old (field_code emitter.old.constants (plain_exp target.now) (plain_exp value.now) free emitter.old.made (emitter.old.made + made_by (plain_exp target.now))) (made_in_field (plain_exp target.now) (plain_exp value.now))) }
 {
     match &target.node {

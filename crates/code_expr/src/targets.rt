@@ -16,8 +16,7 @@ use crate::stores::{KeySeat, name_in, put_store, write_key};
 use code_constants::{numeral_of, short};
 use code_core::Opcode;
 use code_emitter::{Emitter, Step, local_of, next, word_abc};
-use int_core::Bytes;
-use std::alloc::AllocError;
+use int_core::{Allocated, Bytes};
 use tree_core::{Exp, ExpNode, Name, Place};
 
 /// The instruction that stores a register's value, or the constant of a number, in a global name, whose key is a constant. A name of another kind has none.
@@ -95,7 +94,7 @@ fn load_key(
     text: &Bytes,
     target: usize,
     line: u32,
-) -> Result<(), AllocError>
+) -> Allocated<()>
     ensures { OnOk result (emitter.new ≡ listed emitter.old (seat_code stands (loads emitter.old.constants (Str text.now) target line))) }
 {
     match stands {
@@ -107,12 +106,7 @@ fn load_key(
 }
 
 /// Writes the table and the key of a field to two registers, but for a key that the store names.
-pub fn aim_field(
-    emitter: &mut Emitter,
-    object: &Exp,
-    key: &Exp,
-    register: usize,
-) -> Result<(), AllocError>
+pub fn aim_field(emitter: &mut Emitter, object: &Exp, key: &Exp, register: usize) -> Allocated<()>
     ensures { OnOk result (emitter.new ≡ followed emitter.old (exp_code emitter.old.constants (plain_exp object.now) register emitter.old.made 2 ++ key_code (waiting_key emitter.old.constants (plain_exp key.now)) (exp_code emitter.old.constants (plain_exp key.now) (register + 1) (emitter.old.made + made_by (plain_exp object.now)) 2)) (made_by (plain_exp object.now) + made_by (plain_exp key.now))) }
 {
     let above = next(register)?;
@@ -123,12 +117,7 @@ pub fn aim_field(
 }
 
 /// Writes the key of a global name to a register, where the store does not name it.
-pub fn aim_name(
-    emitter: &mut Emitter,
-    text: &Bytes,
-    target: usize,
-    line: u32,
-) -> Result<(), AllocError>
+pub fn aim_name(emitter: &mut Emitter, text: &Bytes, target: usize, line: u32) -> Allocated<()>
     ensures { OnOk result (emitter.new ≡ listed emitter.old (key_code (text_key emitter.old.constants text.now) (loads emitter.old.constants (Str text.now) target line))) }
 {
     let stands = text_seat(emitter, text);
@@ -143,7 +132,7 @@ pub fn store_waiting(
     register: usize,
     value: usize,
     line: u32,
-) -> Result<(), AllocError>
+) -> Allocated<()>
     ensures { OnOk result (emitter.new ≡ listed emitter.old (field_store (waiting_key emitter.old.constants (plain_exp key.now)) register register value line ∷ [])) }
 {
     let above = next(register)?;
@@ -159,7 +148,7 @@ pub fn store_name(
     register: usize,
     value: usize,
     line: u32,
-) -> Result<(), AllocError>
+) -> Allocated<()>
     ensures { OnOk result (emitter.new ≡ listed emitter.old (field_store (text_key emitter.old.constants text.now) register register value line ∷ [])) }
 {
     let above = next(register)?;

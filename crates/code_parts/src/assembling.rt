@@ -11,12 +11,12 @@ use crate::lines::{changes, far_lines};
 use crate::registers::room;
 use code_core::{AbsLine, Const, Instruction, LocVar, Proto};
 use code_emitter::Step;
-use int_core::Bytes;
-use std::alloc::{AllocError, Global};
+use int_core::{Allocated, Bytes};
+use std::alloc::Global;
 use tree_core::{Body, UpName};
 
 /// A copy of a name.
-fn copied(alloc: Global, name: &Option<Bytes>) -> Result<Option<Bytes>, AllocError>
+fn copied(alloc: Global, name: &Option<Bytes>) -> Allocated<Option<Bytes>>
     ensures { IfOk result (λ copy. copy ≡ name.now) }
 {
     match name {
@@ -26,7 +26,7 @@ fn copied(alloc: Global, name: &Option<Bytes>) -> Result<Option<Bytes>, AllocErr
 }
 
 /// The instructions without their lines.
-fn instructions(alloc: Global, steps: &[Step]) -> Result<Vec<Instruction>, AllocError>
+fn instructions(alloc: Global, steps: &[Step]) -> Allocated<Vec<Instruction>>
     ensures { IfOk result (λ list. list.items ≡ map (λ s. s.instruction) steps.now) }
 {
     let mut list = Vec::new(alloc);
@@ -42,7 +42,7 @@ fn known_changes(
     source: &Option<Bytes>,
     from: u32,
     steps: &[Step],
-) -> Result<Vec<i8>, AllocError>
+) -> Allocated<Vec<i8>>
     ensures { IfOk result (λ list. list.items ≡ where_known source.now (changes from (map (λ s. s.line) steps.now))) }
 {
     match source {
@@ -57,7 +57,7 @@ fn known_far_lines(
     source: &Option<Bytes>,
     from: u32,
     steps: &[Step],
-) -> Result<Vec<AbsLine>, AllocError>
+) -> Allocated<Vec<AbsLine>>
     ensures { IfOk result (λ list. list.items ≡ where_known source.now (far_lines 0 from (map (λ s. s.line) steps.now))) }
 {
     match source {
@@ -71,7 +71,7 @@ fn known_up_names(
     alloc: Global,
     source: &Option<Bytes>,
     names: &[UpName],
-) -> Result<Vec<Option<Bytes>>, AllocError>
+) -> Allocated<Vec<Option<Bytes>>>
     ensures { IfOk result (λ list. list.items ≡ where_known source.now (map (λ name. Some name.text) names.now)) }
 {
     match source {
@@ -90,7 +90,7 @@ pub fn prototype(
     constants: Vec<Const>,
     locals: Vec<LocVar>,
     inner: Vec<Proto>,
-) -> Result<Proto, AllocError>
+) -> Allocated<Proto>
     ensures { IfOk result (λ p. p ≡ record { own = assembled source.now (plain_body body.now) steps.now constants.items locals.items; inner = prototypes inner.items }) }
 {
     let count = body.params.len();

@@ -6,6 +6,7 @@ ghost use Rattle.code_emitter.specs.Listing.{listed};
 
 use code_core::Opcode;
 use code_emitter::{Emitter, next};
+use int_core::Allocated;
 use std::alloc::AllocError;
 use tree_core::Block;
 
@@ -17,12 +18,7 @@ fn first_line(line: u32) -> u32
 }
 
 /// Puts what a function with `...` begins by last.
-pub fn put_opening(
-    emitter: &mut Emitter,
-    vararg: bool,
-    params: usize,
-    line: u32,
-) -> Result<(), AllocError>
+pub fn put_opening(emitter: &mut Emitter, vararg: bool, params: usize, line: u32) -> Allocated<()>
     ensures { OnOk result (emitter.new ≡ listed emitter.old (opening vararg params line)) }
 {
     if vararg {
@@ -33,7 +29,7 @@ pub fn put_opening(
 
 /// The field C of a function's returns: one more than the number of parameters where the function
 /// has `...`, else 0.
-pub fn back_field(vararg: bool, params: usize) -> Result<usize, AllocError>
+pub fn back_field(vararg: bool, params: usize) -> Allocated<usize>
     ensures { IfOk result (λ field. field ≡ back_field vararg params) }
 {
     if vararg { next(params) } else { Ok(0) }
@@ -49,7 +45,7 @@ pub fn last_line(block: &Block, line: u32) -> u32
 /// A number of parameters or registers as a prototype keeps it, in 8 bits. The static rules limit
 /// variables and held values, so that none should be greater; as no proof says so, a greater one
 /// is answered as want of memory.
-pub fn byte(number: usize) -> Result<u8, AllocError>
+pub fn byte(number: usize) -> Allocated<u8>
     ensures { IfOk result (λ byte. byte ≡ number) }
 {
     u8::try_from(number).map_err(|_| AllocError)

@@ -5,12 +5,13 @@ ghost use Rattle.tree_core.specs.Plain.{plain_exp, plain_exps, plain_field, plai
 ghost use Rattle.code_of.specs.Levels.{made_in_block};
 ghost use Rattle.code_parts.specs.Bodies.{exp_bodies, exps_bodies, fields_bodies, field_bodies, stat_bodies, arms_bodies, stats_bodies, block_bodies};
 
-use std::alloc::{AllocError, Global};
+use int_core::Allocated;
+use std::alloc::Global;
 use tree_core::{Arm, Block, Body, Exp, ExpNode, Field, Stat, StatNode};
 
 /// The bodies of the functions that a block makes, in the order of the text, without those within
 /// them.
-pub fn inner_bodies<'a>(alloc: Global, block: &'a Block) -> Result<Vec<&'a Body>, AllocError>
+pub fn inner_bodies<'a>(alloc: Global, block: &'a Block) -> Allocated<Vec<&'a Body>>
     ensures { IfOk result (λ list. map (λ b. plain_body b.now) list.items ≡ block_bodies (plain_block block.now)) }
 {
     let mut found = Vec::new(alloc);
@@ -19,7 +20,7 @@ pub fn inner_bodies<'a>(alloc: Global, block: &'a Block) -> Result<Vec<&'a Body>
 }
 
 /// Whether a block makes functions.
-pub fn makes_functions(alloc: Global, block: &Block) -> Result<bool, AllocError>
+pub fn makes_functions(alloc: Global, block: &Block) -> Allocated<bool>
     ensures { IfOk result (λ makes. makes ≡ nat_lt 0 (made_in_block (plain_block block.now))) }
 {
     let found = inner_bodies(alloc, block)?;
@@ -30,7 +31,7 @@ pub fn makes_functions(alloc: Global, block: &Block) -> Result<bool, AllocError>
 /// Lists the functions of an expression.
 #[cycle(expressions)]
 #[tactic(auto, using(tree_core::proofs::Rows::exps_of, tree_core::proofs::Rows::fields_of))]
-fn find_in_exp<'a>(found: &mut Vec<&'a Body>, exp: &'a Exp) -> Result<(), AllocError>
+fn find_in_exp<'a>(found: &mut Vec<&'a Body>, exp: &'a Exp) -> Allocated<()>
     ensures { OnOk result (map (λ b. plain_body b.now) found.new.items ≡ map (λ b. plain_body b.now) found.old.items ++ exp_bodies (plain_exp exp.now)) }
 {
     match &exp.node {
@@ -68,7 +69,7 @@ fn find_in_exp<'a>(found: &mut Vec<&'a Body>, exp: &'a Exp) -> Result<(), AllocE
 
 /// Lists the functions of a list of expressions.
 #[cycle(expressions)]
-fn find_in_exps<'a>(found: &mut Vec<&'a Body>, list: &'a Vec<Exp>) -> Result<(), AllocError>
+fn find_in_exps<'a>(found: &mut Vec<&'a Body>, list: &'a Vec<Exp>) -> Allocated<()>
     ensures { OnOk result (map (λ b. plain_body b.now) found.new.items ≡ map (λ b. plain_body b.now) found.old.items ++ exps_bodies (exps (plain_exps list.now.items))) }
 {
     for exp in list.iter() {
@@ -79,7 +80,7 @@ fn find_in_exps<'a>(found: &mut Vec<&'a Body>, list: &'a Vec<Exp>) -> Result<(),
 
 /// Lists the functions of a constructor's fields.
 #[cycle(expressions)]
-fn find_in_fields<'a>(found: &mut Vec<&'a Body>, list: &'a Vec<Field>) -> Result<(), AllocError>
+fn find_in_fields<'a>(found: &mut Vec<&'a Body>, list: &'a Vec<Field>) -> Allocated<()>
     ensures { OnOk result (map (λ b. plain_body b.now) found.new.items ≡ map (λ b. plain_body b.now) found.old.items ++ fields_bodies (fields (map plain_field list.now.items))) }
 {
     for field in list.iter() {
@@ -90,7 +91,7 @@ fn find_in_fields<'a>(found: &mut Vec<&'a Body>, list: &'a Vec<Field>) -> Result
 
 /// Lists the functions of a field.
 #[cycle(expressions)]
-fn find_in_field<'a>(found: &mut Vec<&'a Body>, field: &'a Field) -> Result<(), AllocError>
+fn find_in_field<'a>(found: &mut Vec<&'a Body>, field: &'a Field) -> Allocated<()>
     ensures { OnOk result (map (λ b. plain_body b.now) found.new.items ≡ map (λ b. plain_body b.now) found.old.items ++ field_bodies (plain_field field.now)) }
 {
     match field {
@@ -104,7 +105,7 @@ fn find_in_field<'a>(found: &mut Vec<&'a Body>, field: &'a Field) -> Result<(), 
 
 /// Lists the functions of a block.
 #[cycle(statements)]
-fn find_in_block<'a>(found: &mut Vec<&'a Body>, block: &'a Block) -> Result<(), AllocError>
+fn find_in_block<'a>(found: &mut Vec<&'a Body>, block: &'a Block) -> Allocated<()>
     ensures { OnOk result (map (λ b. plain_body b.now) found.new.items ≡ map (λ b. plain_body b.now) found.old.items ++ block_bodies (plain_block block.now)) }
 {
     match &block.result {
@@ -118,7 +119,7 @@ fn find_in_block<'a>(found: &mut Vec<&'a Body>, block: &'a Block) -> Result<(), 
 
 /// Lists the functions of statements.
 #[cycle(statements)]
-fn find_in_stats<'a>(found: &mut Vec<&'a Body>, list: &'a Vec<Stat>) -> Result<(), AllocError>
+fn find_in_stats<'a>(found: &mut Vec<&'a Body>, list: &'a Vec<Stat>) -> Allocated<()>
     ensures { OnOk result (map (λ b. plain_body b.now) found.new.items ≡ map (λ b. plain_body b.now) found.old.items ++ stats_bodies (stats (map plain_stat list.now.items))) }
 {
     for stat in list.iter() {
@@ -129,7 +130,7 @@ fn find_in_stats<'a>(found: &mut Vec<&'a Body>, list: &'a Vec<Stat>) -> Result<(
 
 /// Lists the functions of the tests and blocks of an `if`.
 #[cycle(statements)]
-fn find_in_arms<'a>(found: &mut Vec<&'a Body>, list: &'a Vec<Arm>) -> Result<(), AllocError>
+fn find_in_arms<'a>(found: &mut Vec<&'a Body>, list: &'a Vec<Arm>) -> Allocated<()>
     ensures { OnOk result (map (λ b. plain_body b.now) found.new.items ≡ map (λ b. plain_body b.now) found.old.items ++ arms_bodies (arms (map plain_arm list.now.items))) }
 {
     for arm in list.iter() {
@@ -142,7 +143,7 @@ fn find_in_arms<'a>(found: &mut Vec<&'a Body>, list: &'a Vec<Arm>) -> Result<(),
 /// Lists the functions of a statement.
 #[cycle(statements)]
 #[tactic(auto, using(tree_core::proofs::Rows::exps_of, tree_core::proofs::Rows::arms_of))]
-fn find_in_stat<'a>(found: &mut Vec<&'a Body>, stat: &'a Stat) -> Result<(), AllocError>
+fn find_in_stat<'a>(found: &mut Vec<&'a Body>, stat: &'a Stat) -> Allocated<()>
     ensures { OnOk result (map (λ b. plain_body b.now) found.new.items ≡ map (λ b. plain_body b.now) found.old.items ++ stat_bodies (plain_stat stat.now)) }
 {
     match &stat.node {

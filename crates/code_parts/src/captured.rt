@@ -3,13 +3,13 @@ ghost use Rattle.std.specs.Prelude.{◌≡◌, Some, IfOk, map};
 ghost use Rattle.code_of.specs.CodeOf.{upvalue};
 
 use code_core::UpDesc;
-use int_core::Bytes;
-use std::alloc::{AllocError, Global};
+use int_core::{Allocated, Bytes};
+use std::alloc::Global;
 use tree_core::UpName;
 
 /// Where a function finds its upvalues. A tree keeps the number of each in 8 bits, as a prototype
 /// does.
-pub fn upvalues(alloc: Global, names: &[UpName]) -> Result<Vec<UpDesc>, AllocError>
+pub fn upvalues(alloc: Global, names: &[UpName]) -> Allocated<Vec<UpDesc>>
     ensures { IfOk result (λ list. list.items ≡ map upvalue names.now) }
 {
     let mut list = Vec::new(alloc);
@@ -24,7 +24,7 @@ pub fn upvalues(alloc: Global, names: &[UpName]) -> Result<Vec<UpDesc>, AllocErr
 }
 
 /// The names of the upvalues.
-pub fn up_names(alloc: Global, names: &[UpName]) -> Result<Vec<Option<Bytes>>, AllocError>
+pub fn up_names(alloc: Global, names: &[UpName]) -> Allocated<Vec<Option<Bytes>>>
     ensures { IfOk result (λ list. list.items ≡ map (λ name. Some name.text) names.now) }
 {
     let mut list = Vec::new(alloc);

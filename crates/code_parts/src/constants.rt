@@ -5,11 +5,12 @@ ghost use Rattle.tree_core.specs.Plain.{plain_stat, plain_arm, plain_block};
 ghost use Rattle.code_of.specs.Constants.{of_stat, of_arms, of_stats, of_block};
 
 use code_constants::Constants;
-use std::alloc::{AllocError, Global};
+use int_core::Allocated;
+use std::alloc::Global;
 use tree_core::{Arm, Block, Stat, StatNode};
 
 /// The constants of a function's block.
-pub fn block_constants(alloc: Global, block: &Block) -> Result<Constants, AllocError>
+pub fn block_constants(alloc: Global, block: &Block) -> Allocated<Constants>
     ensures { IfOk result (λ constants. constants ≡ of_block (plain_block block.now) []) }
 {
     let mut constants = Constants::new(alloc);
@@ -19,7 +20,7 @@ pub fn block_constants(alloc: Global, block: &Block) -> Result<Constants, AllocE
 
 /// Adds the constants of a block.
 #[cycle(gathering)]
-pub fn add_block(constants: &mut Constants, alloc: Global, block: &Block) -> Result<(), AllocError>
+pub fn add_block(constants: &mut Constants, alloc: Global, block: &Block) -> Allocated<()>
     ensures { OnOk result (constants.new ≡ of_block (plain_block block.now) constants.old) }
 {
     match &block.result {
@@ -33,7 +34,7 @@ pub fn add_block(constants: &mut Constants, alloc: Global, block: &Block) -> Res
 
 /// Adds the constants of statements.
 #[cycle(gathering)]
-fn add_stats(constants: &mut Constants, alloc: Global, list: &Vec<Stat>) -> Result<(), AllocError>
+fn add_stats(constants: &mut Constants, alloc: Global, list: &Vec<Stat>) -> Allocated<()>
     ensures { OnOk result (constants.new ≡ of_stats (stats (map plain_stat list.now.items)) constants.old) }
 {
     for stat in list.iter() {
@@ -44,7 +45,7 @@ fn add_stats(constants: &mut Constants, alloc: Global, list: &Vec<Stat>) -> Resu
 
 /// Adds the constants of the tests and blocks of an `if`.
 #[cycle(gathering)]
-fn add_arms(constants: &mut Constants, alloc: Global, list: &Vec<Arm>) -> Result<(), AllocError>
+fn add_arms(constants: &mut Constants, alloc: Global, list: &Vec<Arm>) -> Allocated<()>
     ensures { OnOk result (constants.new ≡ of_arms (arms (map plain_arm list.now.items)) constants.old) }
 {
     for arm in list.iter() {
@@ -57,7 +58,7 @@ fn add_arms(constants: &mut Constants, alloc: Global, list: &Vec<Arm>) -> Result
 /// Adds the constants of a statement. Inner functions have constants of their own.
 #[cycle(gathering)]
 #[tactic(auto, using(tree_core::proofs::Rows::exps_of, tree_core::proofs::Rows::arms_of))]
-fn add_stat(constants: &mut Constants, alloc: Global, stat: &Stat) -> Result<(), AllocError>
+fn add_stat(constants: &mut Constants, alloc: Global, stat: &Stat) -> Allocated<()>
     ensures { OnOk result (constants.new ≡ of_stat (plain_stat stat.now) constants.old) }
 {
     match &stat.node {

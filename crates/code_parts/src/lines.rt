@@ -5,6 +5,7 @@ ghost use Rattle.code_of.specs.CodeOf.{is_near, change_of, changes, far_lines};
 
 use code_core::AbsLine;
 use code_emitter::Step;
+use int_core::Allocated;
 use std::alloc::{AllocError, Global};
 
 /// The distance of a line from that in front of it, where 8 bits hold it and it is not -128.
@@ -27,7 +28,7 @@ fn change(before: u32, line: u32) -> i8
 }
 
 /// The distances from line to line, the first from a line in front.
-pub fn changes(alloc: Global, from: u32, steps: &[Step]) -> Result<Vec<i8>, AllocError>
+pub fn changes(alloc: Global, from: u32, steps: &[Step]) -> Allocated<Vec<i8>>
     ensures { IfOk result (λ list. list.items ≡ changes from (map (λ s. s.line) steps.now)) }
 {
     let mut list = Vec::new(alloc);
@@ -41,7 +42,7 @@ pub fn changes(alloc: Global, from: u32, steps: &[Step]) -> Result<Vec<i8>, Allo
 
 /// The lines that are too far from that in front of them, and that of each 128th instruction, by
 /// the places of their instructions. For more instructions than 32 bits count there is no memory.
-pub fn far_lines(alloc: Global, from: u32, steps: &[Step]) -> Result<Vec<AbsLine>, AllocError>
+pub fn far_lines(alloc: Global, from: u32, steps: &[Step]) -> Allocated<Vec<AbsLine>>
     ensures { IfOk result (λ list. list.items ≡ far_lines 0 from (map (λ s. s.line) steps.now)) }
 {
     let mut list = Vec::new(alloc);

@@ -3,7 +3,7 @@ ghost use Rattle.std.specs.Prelude.{◌≡◌, ◌++◌, [], ◌∷◌, Some, On
 ghost use Rattle.code_parts.specs.Scopes.{begun, hidden_from, ended, ended_from, finished};
 
 use code_core::LocVar;
-use int_core::Bytes;
+use int_core::{Allocated, Bytes};
 use std::alloc::{AllocError, Global};
 use std::marker::Model;
 use tree_core::{Declared, Name};
@@ -35,7 +35,7 @@ impl Model for Variables {
 }
 
 /// A place of the code. For more instructions than 32 bits count there is no memory.
-fn place_at(number: usize) -> Result<u32, AllocError>
+fn place_at(number: usize) -> Allocated<u32>
     ensures { IfOk result (λ place. place ≡ number) }
 {
     u32::try_from(number).map_err(|_| AllocError)
@@ -80,7 +80,7 @@ impl Variables {
     }
 
     /// Begins the scope of a variable with a name, or of a hidden one.
-    fn begin(&mut self, name: Option<Bytes>, start: usize) -> Result<(), AllocError>
+    fn begin(&mut self, name: Option<Bytes>, start: usize) -> Allocated<()>
         ensures { OnOk result (self.new ≡ self.old ++ begun name start ∷ []) }
     {
         let start = place_at(start)?;
@@ -93,7 +93,7 @@ impl Variables {
     }
 
     /// Begins the scope of a variable.
-    pub fn declare(&mut self, alloc: Global, name: &Name, start: usize) -> Result<(), AllocError>
+    pub fn declare(&mut self, alloc: Global, name: &Name, start: usize) -> Allocated<()>
         ensures { OnOk result (self.new ≡ self.old ++ begun (Some name.now.text) start ∷ []) }
     {
         let text = Bytes::of(name.text.as_slice().to_vec(alloc)?);
@@ -102,12 +102,7 @@ impl Variables {
     }
 
     /// Begins the scope of variables that are declared together.
-    pub fn declare_names(
-        &mut self,
-        alloc: Global,
-        names: &[Name],
-        start: usize,
-    ) -> Result<(), AllocError>
+    pub fn declare_names(&mut self, alloc: Global, names: &[Name], start: usize) -> Allocated<()>
         ensures { OnOk result (self.new ≡ self.old ++ map (λ name. begun (Some name.text) start) names.now) }
     {
         for name in names {
@@ -122,7 +117,7 @@ impl Variables {
         alloc: Global,
         names: &[Declared],
         start: usize,
-    ) -> Result<(), AllocError>
+    ) -> Allocated<()>
         ensures { OnOk result (self.new ≡ self.old ++ map (λ d. begun (Some d.name.text) start) names.now) }
     {
         for declared in names {
@@ -132,7 +127,7 @@ impl Variables {
     }
 
     /// Begins the scope of the hidden variables of a loop.
-    pub fn hide(&mut self, count: u8, start: usize) -> Result<(), AllocError>
+    pub fn hide(&mut self, count: u8, start: usize) -> Allocated<()>
         ensures { OnOk result (self.new ≡ self.old ++ hidden_from count start) }
     {
         for _ in 0..count {
@@ -142,7 +137,7 @@ impl Variables {
     }
 
     /// Ends at a place the scopes of all variables behind the first ones that go on.
-    pub fn end_scopes(&mut self, first: usize, place: usize) -> Result<(), AllocError>
+    pub fn end_scopes(&mut self, first: usize, place: usize) -> Allocated<()>
         ensures { OnOk result (self.new ≡ ended_from first place self.old) }
     {
         let place = place_at(place)?;
@@ -151,7 +146,7 @@ impl Variables {
     }
 
     /// The list of a prototype.
-    pub fn into_vec(self, alloc: Global) -> Result<Vec<LocVar>, AllocError>
+    pub fn into_vec(self, alloc: Global) -> Allocated<Vec<LocVar>>
         ensures { IfOk result (λ list. list.items ≡ map finished self) }
     {
         let mut list = Vec::new(alloc);

@@ -14,8 +14,7 @@ use crate::simple::{write_assign, write_call, write_local_function};
 use crate::writer::Writer;
 use code_emitter::{Emitter, next};
 use code_expr::list;
-use int_core::Bytes;
-use std::alloc::AllocError;
+use int_core::{Allocated, Bytes};
 use tree_core::{Body, Declared, Exp, Name};
 
 /// Writes the values of a numeric `for`. Without a step it is 1.
@@ -26,7 +25,7 @@ pub(crate) fn write_range(
     step: &Option<Box<Exp>>,
     register: usize,
     line: u32,
-) -> Result<(), AllocError>
+) -> Allocated<()>
     ensures { OnOk result (emitter.new ≡ followed emitter.old (range_code emitter.old.constants (plain_exp from.now) (plain_exp limit.now) (option_map (λ e. plain_exp e.value) step.now) register emitter.old.made line) (made_in_range (plain_exp from.now) (plain_exp limit.now) (option_map (λ e. plain_exp e.value) step.now))) }
 {
     match step {
@@ -43,7 +42,7 @@ impl Writer {
         values: &Vec<Exp>,
         level: usize,
         line: u32,
-    ) -> Result<(), AllocError>
+    ) -> Allocated<()>
         ensures code { (closing : Bool) → OnOk result (WroteStat self.old self.new (Local line names.now.items (exps (plain_exps values.now.items))) closing level) }
         ensures variables { (closing : Bool) → OnOk result (DeclaresStat self.old self.new (Local line names.now.items (exps (plain_exps values.now.items))) closing level) }
     {
@@ -55,12 +54,7 @@ impl Writer {
     }
 
     /// Writes `local function`.
-    pub(crate) fn local_function(
-        &mut self,
-        name: &Name,
-        body: &Body,
-        level: usize,
-    ) -> Result<(), AllocError>
+    pub(crate) fn local_function(&mut self, name: &Name, body: &Body, level: usize) -> Allocated<()>
         ensures code { (line : ℕ) (closing : Bool) → OnOk result (WroteStat self.old self.new (LocalFunction line name.now (plain_body body.now)) closing level) }
         ensures variables { (line : ℕ) (closing : Bool) → OnOk result (DeclaresStat self.old self.new (LocalFunction line name.now (plain_body body.now)) closing level) }
     {
@@ -77,7 +71,7 @@ impl Writer {
         values: &Vec<Exp>,
         level: usize,
         line: u32,
-    ) -> Result<(), AllocError>
+    ) -> Allocated<()>
         ensures variables { OnOk result (self.new.variables ≡ self.old.variables) }
         ensures code { (closing : Bool) → OnOk result (WroteStat self.old self.new (Assign line (exps (plain_exps targets.now.items)) (exps (plain_exps values.now.items))) closing level) }
     {
@@ -86,7 +80,7 @@ impl Writer {
     }
 
     /// Writes a call that stands alone.
-    pub(crate) fn call(&mut self, call: &Exp, level: usize) -> Result<(), AllocError>
+    pub(crate) fn call(&mut self, call: &Exp, level: usize) -> Allocated<()>
         ensures variables { OnOk result (self.new.variables ≡ self.old.variables) }
         ensures code { (line : ℕ) (closing : Bool) → OnOk result (WroteStat self.old self.new (CallStat line (plain_exp call.now)) closing level) }
     {
@@ -95,7 +89,7 @@ impl Writer {
     }
 
     /// Writes `goto`.
-    pub(crate) fn goto(&mut self, name: &Name, closing: bool, line: u32) -> Result<(), AllocError>
+    pub(crate) fn goto(&mut self, name: &Name, closing: bool, line: u32) -> Allocated<()>
         ensures variables { OnOk result (self.new.variables ≡ self.old.variables) }
         ensures code { (level : ℕ) → OnOk result (WroteStat self.old self.new (Goto line name.now) closing level) }
     {

@@ -8,8 +8,8 @@ ghost use Rattle.code_stat.specs.Drafts.{landing, newest_first, leads_to, fill};
 ghost use Rattle.code_stat.specs.Forms.{ahead_with};
 
 use crate::jumps::{Destination, Jump, Passed, meet_all};
-use int_core::Bytes;
-use std::alloc::{AllocError, Global};
+use int_core::{Allocated, Bytes};
+use std::alloc::Global;
 use tree_core::{Name, Stat, StatNode};
 
 /// A block while its statements are written.
@@ -37,12 +37,7 @@ impl Frame {
 }
 
 /// Keeps a label that was passed.
-fn keep(
-    alloc: Global,
-    passed: &mut Vec<Passed>,
-    name: &Name,
-    here: Destination,
-) -> Result<(), AllocError>
+fn keep(alloc: Global, passed: &mut Vec<Passed>, name: &Name, here: Destination) -> Allocated<()>
     ensures { OnOk result (newest_first passed.new.items [] ≡ record { name = name.now.text; landing = landing here } ∷ newest_first passed.old.items []) }
 {
     let copy = Bytes::of(name.text.as_slice().to_vec(alloc)?);
@@ -63,7 +58,7 @@ pub(crate) fn meet_label(
     stat: &Stat,
     here: Destination,
     level: usize,
-) -> Result<(), AllocError>
+) -> Allocated<()>
     ensures passed { OnOk result (newest_first passed.new.items [] ≡ passed_after (plain_stat stat.now) here.level here.place (newest_first passed.old.items [])) }
     ensures front { OnOk result (take first jumps.new.items ≡ take first jumps.old.items) }
     ensures leads { OnOk result ((ahead : List Visible) (reach : Reach) (xs : List Step) → fill (leads_to ahead reach) (drop first jumps.new.items) xs ≡ fill (leads_to (ahead_with (plain_stat stat.now) here.place level ahead) reach) (drop first jumps.old.items) xs) }

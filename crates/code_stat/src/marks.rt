@@ -6,7 +6,7 @@ ghost use Rattle.code_emitter.specs.Listing.{listed};
 
 use code_core::Opcode;
 use code_emitter::{Emitter, next};
-use std::alloc::AllocError;
+use int_core::Allocated;
 use tree_core::{Attrib, Declared};
 
 /// Whether a variable is to be closed.
@@ -17,11 +17,7 @@ pub(crate) fn is_closed(attrib: &Attrib) -> bool
 }
 
 /// Marks the variables of a declaration that are to be closed, of which the first is in a register.
-pub fn write_marks(
-    emitter: &mut Emitter,
-    names: &Vec<Declared>,
-    register: usize,
-) -> Result<(), AllocError>
+pub fn write_marks(emitter: &mut Emitter, names: &Vec<Declared>, register: usize) -> Allocated<()>
     ensures { OnOk result (emitter.new ≡ listed emitter.old (marks_code names.now.items register)) }
 {
     let mut register = register;
@@ -35,12 +31,7 @@ pub fn write_marks(
 }
 
 /// Ends a scope that begins behind some variables and has some more at its end.
-pub fn write_close(
-    emitter: &mut Emitter,
-    before: usize,
-    after: usize,
-    line: u32,
-) -> Result<(), AllocError>
+pub fn write_close(emitter: &mut Emitter, before: usize, after: usize, line: u32) -> Allocated<()>
     ensures { OnOk result (emitter.new ≡ listed emitter.old (close_code before after line)) }
 {
     if before == after {

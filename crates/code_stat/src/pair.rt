@@ -7,7 +7,7 @@ ghost use Rattle.code_emitter.specs.Listing.{followed};
 
 use code_emitter::{Emitter, next};
 use code_expr::expression;
-use std::alloc::AllocError;
+use int_core::Allocated;
 use tree_core::Exp;
 
 /// Writes two expressions, whose values go to a register and the one above it.
@@ -16,7 +16,7 @@ pub(crate) fn write_pair(
     first: &Exp,
     second: &Exp,
     register: usize,
-) -> Result<(), AllocError>
+) -> Allocated<()>
     ensures { OnOk result (emitter.new ≡ followed emitter.old (pair_code emitter.old.constants (plain_exp first.now) (plain_exp second.now) register emitter.old.made) (made_by (plain_exp first.now) + made_by (plain_exp second.now))) }
 {
     expression(emitter, first, register, 2)?;

@@ -9,7 +9,7 @@ use crate::pair::write_pair;
 use code_core::Opcode;
 use code_emitter::{Emitter, next};
 use code_expr::expression;
-use std::alloc::AllocError;
+use int_core::Allocated;
 use tree_core::Exp;
 
 /// Writes the first value and the limit of a `for`, and the step 1.
@@ -19,7 +19,7 @@ pub fn write_bounds(
     limit: &Exp,
     register: usize,
     line: u32,
-) -> Result<(), AllocError>
+) -> Allocated<()>
     ensures { OnOk result (emitter.new ≡ followed emitter.old (bounds_code emitter.old.constants (plain_exp from.now) (plain_exp limit.now) register emitter.old.made line) (made_by (plain_exp from.now) + made_by (plain_exp limit.now))) }
 {
     let step = next(next(register)?)?;
@@ -35,7 +35,7 @@ pub fn write_steps(
     limit: &Exp,
     step: &Exp,
     register: usize,
-) -> Result<(), AllocError>
+) -> Allocated<()>
     ensures { OnOk result (emitter.new ≡ followed emitter.old (steps_code emitter.old.constants (plain_exp from.now) (plain_exp limit.now) (plain_exp step.now) register emitter.old.made) (made_by (plain_exp from.now) + made_by (plain_exp limit.now) + made_by (plain_exp step.now))) }
 {
     let above = next(next(register)?)?;

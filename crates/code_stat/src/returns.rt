@@ -12,7 +12,7 @@ use crate::targets::count_made;
 use code_core::Opcode;
 use code_emitter::{Emitter, next};
 use code_expr::{expression, list, list_field, lone_local, operand};
-use std::alloc::AllocError;
+use int_core::Allocated;
 use tree_core::{Exp, ExpNode, Name};
 
 /// Puts what leaves the function last, a RETURN or a TAILCALL. `back` is its field C; the locals in
@@ -24,7 +24,7 @@ pub(crate) fn put_leaving(
     field: usize,
     back: usize,
     line: u32,
-) -> Result<(), AllocError>
+) -> Allocated<()>
     ensures { OnOk result (emitter.new ≡ listed emitter.old (leaving_by op register field back line ∷ [])) }
 {
     emitter.put_flagged(op, register, field, back, 0 < register, line)
@@ -37,7 +37,7 @@ fn put_local(
     register: usize,
     back: usize,
     line: u32,
-) -> Result<(), AllocError>
+) -> Allocated<()>
     ensures { OnOk result (emitter.new ≡ listed emitter.old (leaving_local local register back line ∷ [])) }
 {
     emitter.put_flagged(Opcode::Return, local, 2, back, 0 < register, line)
@@ -51,7 +51,7 @@ fn write_call_last(
     register: usize,
     line: u32,
     back: usize,
-) -> Result<(), AllocError>
+) -> Allocated<()>
     ensures { OnOk result (emitter.new ≡ followed emitter.old (call_last emitter.old.constants (plain_exp called.now) (exps (plain_exps arguments.now.items)) register emitter.old.made line back) (made_by (Call line (plain_exp called.now) (exps (plain_exps arguments.now.items))))) }
 {
     expression(emitter, called, register, 2)?;
@@ -71,7 +71,7 @@ fn write_method_last(
     register: usize,
     line: u32,
     back: usize,
-) -> Result<(), AllocError>
+) -> Allocated<()>
     ensures { OnOk result (emitter.new ≡ followed emitter.old (method_last emitter.old.constants (plain_exp object.now) name.now.text (exps (plain_exps arguments.now.items)) register emitter.old.made line back) (made_by (Method line (plain_exp object.now) name.now (exps (plain_exps arguments.now.items))))) }
 {
     let above = next(register)?;
@@ -92,12 +92,7 @@ fn is_called(exp: &Exp) -> bool
 }
 
 /// Writes a call of either kind in the place of its caller. Of another expression nothing is written.
-fn write_tail(
-    emitter: &mut Emitter,
-    call: &Exp,
-    register: usize,
-    back: usize,
-) -> Result<(), AllocError>
+fn write_tail(emitter: &mut Emitter, call: &Exp, register: usize, back: usize) -> Allocated<()>
     ensures { OnOk result (emitter.new ≡ followed emitter.old (tail_code emitter.old.constants (plain_exp call.now) register emitter.old.made back) (made_by (plain_exp call.now))) }
 {
     match &call.node {
@@ -118,7 +113,7 @@ fn write_listed_last(
     register: usize,
     line: u32,
     back: usize,
-) -> Result<(), AllocError>
+) -> Allocated<()>
     ensures { OnOk result (emitter.new ≡ followed emitter.old (listed_last emitter.old.constants (exps (plain_exps values.now.items)) register emitter.old.made line back) (made_in (exps (plain_exps values.now.items)))) }
 {
     list(emitter, values, None, register, line)?;
@@ -134,7 +129,7 @@ fn write_values_last(
     register: usize,
     line: u32,
     back: usize,
-) -> Result<(), AllocError>
+) -> Allocated<()>
     ensures { OnOk result (emitter.new ≡ followed emitter.old (values_last emitter.old.constants (exps (plain_exps values.now.items)) register emitter.old.made line back) (made_in (exps (plain_exps values.now.items)))) }
 {
     match lone_local(values) {
@@ -151,7 +146,7 @@ pub fn write_return(
     register: usize,
     line: u32,
     back: usize,
-) -> Result<(), AllocError>
+) -> Allocated<()>
     ensures { OnOk result (emitter.new ≡ followed emitter.old (return_code emitter.old.constants closing (exps (plain_exps values.now.items)) register emitter.old.made line back) (made_in (exps (plain_exps values.now.items)))) }
 {
     if closing {

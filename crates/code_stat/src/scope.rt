@@ -10,7 +10,7 @@ ghost use Rattle.code_stat.specs.Forms.{is_void};
 use crate::marks::is_closed;
 use crate::stores::behind;
 use code_emitter::next;
-use std::alloc::AllocError;
+use int_core::Allocated;
 use tree_core::{Declared, Stat, StatNode};
 
 /// How many locals are in scope, and whether a variable is to be closed.
@@ -35,7 +35,7 @@ fn has_closed(names: &Vec<Declared>) -> bool
 }
 
 /// How many locals are in scope behind a statement.
-pub(crate) fn level_after(stat: &Stat, level: usize) -> Result<usize, AllocError>
+pub(crate) fn level_after(stat: &Stat, level: usize) -> Allocated<usize>
     ensures { IfOk result (λ n. n ≡ level_after (plain_stat stat.now) level) }
 {
     match &stat.node {
@@ -111,7 +111,7 @@ fn is_void(stat: &Stat) -> bool
 }
 
 /// What is in scope behind a statement.
-pub(crate) fn scope_after(stat: &Stat, scope: Scope) -> Result<Scope, AllocError>
+pub(crate) fn scope_after(stat: &Stat, scope: Scope) -> Allocated<Scope>
     ensures level { IfOk result (λ s. s.level ≡ level_after (plain_stat stat.now) scope.level) }
     ensures closing { IfOk result (λ s. s.closing ≡ closing_after (plain_stat stat.now) scope.closing) }
 {

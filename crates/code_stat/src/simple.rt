@@ -14,7 +14,7 @@ use crate::targets::{write_target, write_targets};
 use code_core::Opcode;
 use code_emitter::Emitter;
 use code_expr::{direct, direct_local, expression, is_field, list, local_store, store};
-use std::alloc::AllocError;
+use int_core::Allocated;
 use tree_core::{Body, Exp, UpName};
 
 /// Whether an upvalue is the local of a register, in the function just around.
@@ -37,7 +37,7 @@ fn captures_local(upvalues: &Vec<UpName>, register: usize) -> bool
 }
 
 /// Writes a function that captures the local of its register. That is nil until the function is there.
-fn write_recursive(emitter: &mut Emitter, register: usize, line: u32) -> Result<(), AllocError>
+fn write_recursive(emitter: &mut Emitter, register: usize, line: u32) -> Allocated<()>
     ensures { OnOk result (emitter.new ≡ followed emitter.old (closure_code true register emitter.old.made line) 1) }
 {
     emitter.put_abc(Opcode::LoadNil, register, 0, 0, line)?;
@@ -46,11 +46,7 @@ fn write_recursive(emitter: &mut Emitter, register: usize, line: u32) -> Result<
 }
 
 /// Writes `local function`, whose variable has this register.
-pub fn write_local_function(
-    emitter: &mut Emitter,
-    body: &Body,
-    register: usize,
-) -> Result<(), AllocError>
+pub fn write_local_function(emitter: &mut Emitter, body: &Body, register: usize) -> Allocated<()>
     ensures { OnOk result (emitter.new ≡ followed emitter.old (function_code (plain_body body.now) register emitter.old.made) 1) }
 {
     if captures_local(&body.upvalues, register) {
@@ -60,7 +56,7 @@ pub fn write_local_function(
 }
 
 /// Writes a call that stands alone.
-pub fn write_call(emitter: &mut Emitter, call: &Exp, register: usize) -> Result<(), AllocError>
+pub fn write_call(emitter: &mut Emitter, call: &Exp, register: usize) -> Allocated<()>
     ensures { OnOk result (emitter.new ≡ followed emitter.old (exp_code emitter.old.constants (plain_exp call.now) register emitter.old.made 1) (made_by (plain_exp call.now))) }
 {
     expression(emitter, call, register, 1)
@@ -73,7 +69,7 @@ fn write_stored(
     values: &Vec<Exp>,
     register: usize,
     line: u32,
-) -> Result<(), AllocError>
+) -> Allocated<()>
     ensures { OnOk result (emitter.new ≡ followed emitter.old (stored_code emitter.old.constants (exps (plain_exps targets.now.items)) (exps (plain_exps values.now.items)) register emitter.old.made line) (made_in (exps (plain_exps targets.now.items)) + made_in (exps (plain_exps values.now.items)))) }
 {
     let count = targets.len();
@@ -91,7 +87,7 @@ fn write_single(
     values: &Vec<Exp>,
     register: usize,
     line: u32,
-) -> Result<(), AllocError>
+) -> Allocated<()>
     ensures { OnOk result (emitter.new ≡ followed emitter.old (store_by emitter.old.constants (stores_field (exps (plain_exps targets.now.items)) (exps (plain_exps values.now.items))) (exps (plain_exps targets.now.items)) (exps (plain_exps values.now.items)) register emitter.old.made line) (made_in (exps (plain_exps targets.now.items)) + made_in (exps (plain_exps values.now.items)))) }
 {
     if targets.len() != 1 {
@@ -119,7 +115,7 @@ fn write_second(
     second: &Exp,
     local: usize,
     register: usize,
-) -> Result<(), AllocError>
+) -> Allocated<()>
     ensures { OnOk result (emitter.new ≡ followed emitter.old (two_code emitter.old.constants (plain_exp target.now) (plain_exp first.now) (plain_exp second.now) local register emitter.old.made) (made_by (plain_exp target.now) + (made_by (plain_exp first.now) + made_directly (plain_exp second.now)))) }
 {
     let value = behind(register, 2)?;
@@ -138,7 +134,7 @@ fn write_several(
     values: &Vec<Exp>,
     register: usize,
     line: u32,
-) -> Result<(), AllocError>
+) -> Allocated<()>
     ensures { OnOk result (emitter.new ≡ followed emitter.old (two_by emitter.old.constants (second_assigned (exps (plain_exps targets.now.items)) (exps (plain_exps values.now.items))) (exps (plain_exps targets.now.items)) (exps (plain_exps values.now.items)) register emitter.old.made line) (made_in (exps (plain_exps targets.now.items)) + made_in (exps (plain_exps values.now.items)))) }
 {
     if targets.len() != 2 {
@@ -164,7 +160,7 @@ pub fn write_assign(
     values: &Vec<Exp>,
     register: usize,
     line: u32,
-) -> Result<(), AllocError>
+) -> Allocated<()>
     ensures { OnOk result (emitter.new ≡ followed emitter.old (assign_code emitter.old.constants (exps (plain_exps targets.now.items)) (exps (plain_exps values.now.items)) register emitter.old.made line) (made_in (exps (plain_exps targets.now.items)) + made_in (exps (plain_exps values.now.items)))) }
 {
     if targets.len() != 1 {

@@ -20,13 +20,13 @@ use crate::writer::Writer;
 use code_core::Opcode;
 use code_emitter::next;
 use code_expr::{condition, list};
-use std::alloc::AllocError;
+use int_core::Allocated;
 use tree_core::{Arm, Block, Exp, Name, Stat, StatNode};
 
 impl Writer {
     /// Writes a statement, where so many locals are in scope, and a variable is to be closed or none is.
     #[cycle(statements)]
-    fn statement(&mut self, stat: &Stat, closing: bool, level: usize) -> Result<(), AllocError>
+    fn statement(&mut self, stat: &Stat, closing: bool, level: usize) -> Allocated<()>
         ensures code { OnOk result (WroteStat self.old self.new (plain_stat stat.now) closing level) }
         ensures variables { OnOk result (DeclaresStat self.old self.new (plain_stat stat.now) closing level) }
     {
@@ -66,7 +66,7 @@ impl Writer {
         closing: bool,
         outer: usize,
         level: usize,
-    ) -> Result<Scope, AllocError>
+    ) -> Allocated<Scope>
         ensures code { OnOk result (WroteStats self.old self.new (stats (map plain_stat list.now.items)) falls closing outer level) }
         ensures variables { OnOk result (DeclaresStats self.old self.new (stats (map plain_stat list.now.items)) closing level) }
         ensures level { IfOk result (λ scope. scope.level ≡ levels_after (stats (map plain_stat list.now.items)) level) }
@@ -113,7 +113,7 @@ impl Writer {
         closing: bool,
         outer: usize,
         level: usize,
-    ) -> Result<(), AllocError>
+    ) -> Allocated<()>
         ensures code { OnOk result (WroteBlock self.old self.new (plain_block block.now) closing outer level) }
         ensures variables { OnOk result (DeclaresBlock self.old self.new (plain_block block.now) closing outer level) }
     {
@@ -149,12 +149,7 @@ impl Writer {
 
     /// Writes the block of a `repeat` up to its test, and answers how many locals are in scope there.
     #[cycle(statements)]
-    fn open_block(
-        &mut self,
-        block: &Block,
-        closing: bool,
-        level: usize,
-    ) -> Result<usize, AllocError>
+    fn open_block(&mut self, block: &Block, closing: bool, level: usize) -> Allocated<usize>
         ensures code { OnOk result (WroteOpen self.old self.new (plain_block block.now) closing level) }
         ensures variables { OnOk result (DeclaresOpen self.old self.new (plain_block block.now) closing level) }
         ensures level { IfOk result (λ n. n ≡ levels_in (plain_block block.now) level) }
@@ -186,7 +181,7 @@ impl Writer {
         closing: bool,
         level: usize,
         line: u32,
-    ) -> Result<(), AllocError>
+    ) -> Allocated<()>
         ensures code { OnOk result (WroteStat self.old self.new (While line (plain_exp test.now) (plain_block block.now)) closing level) }
         ensures variables { OnOk result (DeclaresStat self.old self.new (While line (plain_exp test.now) (plain_block block.now)) closing level) }
     {
@@ -210,7 +205,7 @@ impl Writer {
         closing: bool,
         level: usize,
         line: u32,
-    ) -> Result<(), AllocError>
+    ) -> Allocated<()>
         ensures code { OnOk result (WroteStat self.old self.new (Repeat line (plain_block block.now) (plain_exp test.now)) closing level) }
         ensures variables { OnOk result (DeclaresStat self.old self.new (Repeat line (plain_block block.now) (plain_exp test.now)) closing level) }
     {
@@ -242,7 +237,7 @@ impl Writer {
         closing: bool,
         level: usize,
         line: u32,
-    ) -> Result<(), AllocError>
+    ) -> Allocated<()>
         ensures code { OnOk result (Wrote self.old self.new (made_in_block (plain_block block.now)) (λ reach. counted_code self.old.emitter.constants self.old.back (plain_block block.now) closing level self.old.emitter.made (length self.old.emitter.steps) line reach)) }
         ensures variables { OnOk result (DeclaresRounds self.old self.new 3 (name.now ∷ []) (plain_block block.now) closing (level + 3) (level + 4) 2) }
     {
@@ -277,7 +272,7 @@ impl Writer {
         block: &Block,
         level: usize,
         line: u32,
-    ) -> Result<(), AllocError>
+    ) -> Allocated<()>
         ensures code { OnOk result (Wrote self.old self.new (made_in_block (plain_block block.now)) (λ reach. iterated_code self.old.emitter.constants self.old.back (plain_block block.now) (length names.now.items) level self.old.emitter.made (length self.old.emitter.steps) line reach)) }
         ensures variables { OnOk result (DeclaresRounds self.old self.new 4 names.now.items (plain_block block.now) true (level + 4) (level + 4 + length names.now.items) 4) }
     {
@@ -318,7 +313,7 @@ impl Writer {
         closing: bool,
         level: usize,
         line: u32,
-    ) -> Result<(), AllocError>
+    ) -> Allocated<()>
         ensures code { OnOk result (WroteStat self.old self.new (choice line (arms (map plain_arm (drop at list.now.items))) (option_map (λ b. plain_block b.value) otherwise.now)) closing level) }
         ensures variables { OnOk result (DeclaresStat self.old self.new (choice line (arms (map plain_arm (drop at list.now.items))) (option_map (λ b. plain_block b.value) otherwise.now)) closing level) }
     {
@@ -353,7 +348,7 @@ impl Writer {
         closing: bool,
         level: usize,
         line: u32,
-    ) -> Result<(), AllocError>
+    ) -> Allocated<()>
         ensures code { OnOk result (WroteStat self.old self.new (choice line EndArms (option_map (λ b. plain_block b.value) otherwise.now)) closing level) }
         ensures variables { OnOk result (DeclaresStat self.old self.new (choice line EndArms (option_map (λ b. plain_block b.value) otherwise.now)) closing level) }
     {

@@ -8,11 +8,12 @@ ghost use Rattle.code_emitter.specs.Listing.{listed};
 use code_core::Opcode;
 use code_emitter::Emitter;
 use code_expr::{store_name, store_waiting};
+use int_core::Allocated;
 use std::alloc::AllocError;
 use tree_core::{Exp, ExpNode, Name, Place};
 
 /// A number and some more. For as many things as `usize` counts there is no memory.
-pub(crate) fn behind(number: usize, more: usize) -> Result<usize, AllocError>
+pub(crate) fn behind(number: usize, more: usize) -> Allocated<usize>
     ensures { IfOk result (λ n. n ≡ number + more) }
 {
     number.checked_add(more).ok_or(AllocError)
@@ -25,7 +26,7 @@ fn write_name_store(
     register: usize,
     value: usize,
     line: u32,
-) -> Result<(), AllocError>
+) -> Allocated<()>
     ensures { OnOk result (emitter.new ≡ listed emitter.old (name_store emitter.old.constants name.now.place name.now.text register value line)) }
 {
     match name.place {
@@ -44,7 +45,7 @@ pub(crate) fn write_store(
     target: &Exp,
     register: usize,
     value: usize,
-) -> Result<(), AllocError>
+) -> Allocated<()>
     ensures { OnOk result (emitter.new ≡ listed emitter.old (store_code emitter.old.constants (plain_exp target.now) register value)) }
 {
     match &target.node {
@@ -61,7 +62,7 @@ pub(crate) fn write_stores(
     targets: &Vec<Exp>,
     register: usize,
     value: usize,
-) -> Result<(), AllocError>
+) -> Allocated<()>
     ensures { OnOk result (emitter.new ≡ listed emitter.old (stores_code emitter.old.constants (exps (plain_exps targets.now.items)) register value)) }
 {
     let mut left = targets.len();

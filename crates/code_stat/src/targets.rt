@@ -9,7 +9,7 @@ ghost use Rattle.code_emitter.specs.Listing.{followed, listed};
 use code_core::Opcode;
 use code_emitter::{Emitter, next};
 use code_expr::{aim_field, aim_name, expression};
-use std::alloc::AllocError;
+use int_core::Allocated;
 use tree_core::{Exp, ExpNode, Name, Place};
 
 /// Writes the table of a name that is assigned to, where it is a global one, and its key where the store does not name it.
@@ -18,7 +18,7 @@ fn write_name_target(
     name: &Name,
     register: usize,
     line: u32,
-) -> Result<(), AllocError>
+) -> Allocated<()>
     ensures { OnOk result (emitter.new ≡ listed emitter.old (name_target emitter.old.constants name.now.place name.now.text register line)) }
 {
     let key = next(register)?;
@@ -38,7 +38,7 @@ fn write_name_target(
 }
 
 /// Counts the functions that an expression makes, and writes nothing.
-pub(crate) fn count_made(emitter: &mut Emitter, exp: &Exp) -> Result<(), AllocError>
+pub(crate) fn count_made(emitter: &mut Emitter, exp: &Exp) -> Allocated<()>
     ensures { OnOk result (emitter.new ≡ followed emitter.old [] (made_by (plain_exp exp.now))) }
 {
     let place = emitter.steps().len();
@@ -49,11 +49,7 @@ pub(crate) fn count_made(emitter: &mut Emitter, exp: &Exp) -> Result<(), AllocEr
 
 /// Writes the table and the key of a target. No tree has another target than a name and an index:
 /// such a one has no code.
-pub(crate) fn write_target(
-    emitter: &mut Emitter,
-    target: &Exp,
-    register: usize,
-) -> Result<(), AllocError>
+pub(crate) fn write_target(emitter: &mut Emitter, target: &Exp, register: usize) -> Allocated<()>
     ensures { OnOk result (emitter.new ≡ followed emitter.old (target_code emitter.old.constants (plain_exp target.now) register emitter.old.made) (made_by (plain_exp target.now))) }
 {
     match &target.node {
@@ -68,7 +64,7 @@ pub(crate) fn write_targets(
     emitter: &mut Emitter,
     targets: &Vec<Exp>,
     register: usize,
-) -> Result<(), AllocError>
+) -> Allocated<()>
     ensures { OnOk result (emitter.new ≡ followed emitter.old (targets_code emitter.old.constants (exps (plain_exps targets.now.items)) register emitter.old.made) (made_in (exps (plain_exps targets.now.items)))) }
 {
     let mut register = register;

@@ -16,7 +16,8 @@ use code_core::Opcode;
 use code_emitter::{Emitter, next};
 use code_of::Leaving;
 use code_parts::{Variables, back_field, makes_functions, put_opening};
-use std::alloc::{AllocError, Global};
+use int_core::Allocated;
+use std::alloc::Global;
 use tree_core::{Block, Body};
 
 /// The code of a function, and its local variables.
@@ -40,7 +41,7 @@ fn destination(jump: &Jump) -> Destination
 }
 
 /// Puts the CLOSE and the JMP of a jump in their places.
-fn lead_closing(emitter: &mut Emitter, jump: &Jump, to: Destination) -> Result<(), AllocError>
+fn lead_closing(emitter: &mut Emitter, jump: &Jump, to: Destination) -> Allocated<()>
     ensures { OnOk result (emitter.new ≡ record { constants = emitter.old.constants; steps = put_jump true (landing to) jump.now.place jump.now.line emitter.old.steps; made = emitter.old.made }) }
 {
     let behind = next(jump.place)?;
@@ -50,7 +51,7 @@ fn lead_closing(emitter: &mut Emitter, jump: &Jump, to: Destination) -> Result<(
 }
 
 /// Puts the instructions of a jump in their places.
-fn lead(emitter: &mut Emitter, jump: &Jump) -> Result<(), AllocError>
+fn lead(emitter: &mut Emitter, jump: &Jump) -> Allocated<()>
     ensures { OnOk result (emitter.new ≡ led emitter.old jump.now) }
 {
     let to = destination(jump);
@@ -62,7 +63,7 @@ fn lead(emitter: &mut Emitter, jump: &Jump) -> Result<(), AllocError>
 
 impl Writer {
     /// Puts all jumps in their places.
-    fn lead_all(&mut self) -> Result<(), AllocError>
+    fn lead_all(&mut self) -> Allocated<()>
         ensures code { OnOk result (self.new.emitter ≡ filled self.old.emitter self.old.jumps.items) }
         ensures variables { OnOk result (self.new.variables ≡ self.old.variables) }
     {
@@ -75,7 +76,7 @@ impl Writer {
     }
 
     /// Writes the block of a function with so many parameters.
-    fn whole(&mut self, block: &Block, params: usize) -> Result<(), AllocError>
+    fn whole(&mut self, block: &Block, params: usize) -> Allocated<()>
         ensures variables { OnOk result (DeclaresWhole self.old self.new (plain_block block.now) params) }
         ensures code { OnOk result (Wrote self.old self.new (made_in_block (plain_block block.now)) (λ reach. whole_from self.old.emitter.constants self.old.back (plain_block block.now) params self.old.emitter.made (length self.old.emitter.steps) reach)) }
     {
@@ -99,7 +100,7 @@ impl Writer {
 }
 
 /// Writes the code of a function, whose constants are these, with its local variables.
-pub fn write_body(alloc: Global, constants: Constants, body: &Body) -> Result<Written, AllocError>
+pub fn write_body(alloc: Global, constants: Constants, body: &Body) -> Allocated<Written>
     ensures code { IfOk result (λ written. written.emitter ≡ record { constants = constants; steps = steps (function_of constants (plain_body body.now)); made = made_in_body (plain_body body.now) }) }
     ensures variables { IfOk result (λ written. written.variables ≡ map over (variables_in constants (plain_body body.now))) }
 {

@@ -12,8 +12,8 @@ use code_core::Opcode;
 use code_emitter::Emitter;
 use code_of::Leaving;
 use code_parts::Variables;
-use int_core::Bytes;
-use std::alloc::{AllocError, Global};
+use int_core::{Allocated, Bytes};
+use std::alloc::Global;
 
 /// What is written of a function's code.
 #[derive(Drop)]
@@ -30,7 +30,7 @@ pub(crate) struct Writer {
 }
 
 /// Writes a CLOSE and a JMP that lead nowhere yet.
-fn put_closing_jump(emitter: &mut Emitter, line: u32) -> Result<(), AllocError>
+fn put_closing_jump(emitter: &mut Emitter, line: u32) -> Allocated<()>
     ensures { OnOk result (emitter.new ≡ listed emitter.old (drafted true line)) }
 {
     emitter.put_abc(Opcode::Close, 0, 0, 0, line)?;
@@ -39,7 +39,7 @@ fn put_closing_jump(emitter: &mut Emitter, line: u32) -> Result<(), AllocError>
 }
 
 /// Writes a jump that leads nowhere yet.
-fn put_jump(emitter: &mut Emitter, closes: bool, line: u32) -> Result<(), AllocError>
+fn put_jump(emitter: &mut Emitter, closes: bool, line: u32) -> Allocated<()>
     ensures { OnOk result (emitter.new ≡ listed emitter.old (drafted closes line)) }
 {
     if closes {
@@ -76,12 +76,7 @@ impl Writer {
     }
 
     /// Writes a `goto`, or a `break` where there is no label. Where it leads is not known yet.
-    pub(crate) fn jump(
-        &mut self,
-        label: Option<Bytes>,
-        closes: bool,
-        line: u32,
-    ) -> Result<(), AllocError>
+    pub(crate) fn jump(&mut self, label: Option<Bytes>, closes: bool, line: u32) -> Allocated<()>
         ensures code { OnOk result (Wrote self.old self.new 0 (λ reach. leads closes (beyond label reach) (length self.old.emitter.steps) line)) }
         ensures variables { OnOk result (self.new.variables ≡ self.old.variables) }
     {
@@ -99,7 +94,7 @@ impl Writer {
     }
 
     /// Writes `break`.
-    pub(crate) fn leave_loop(&mut self, closing: bool, line: u32) -> Result<(), AllocError>
+    pub(crate) fn leave_loop(&mut self, closing: bool, line: u32) -> Allocated<()>
         ensures code { (level : ℕ) → OnOk result (WroteStat self.old self.new (Break line) closing level) }
         ensures variables { OnOk result (self.new.variables ≡ self.old.variables) }
     {

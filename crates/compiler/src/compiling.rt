@@ -8,12 +8,12 @@ ghost use Rattle.compiler.specs.Source.{IsOfSource, name_where};
 
 use crate::functions::function;
 use code_core::Checked;
-use int_core::Bytes;
+use int_core::{Allocated, Bytes};
 use scope_core::Resolved;
-use std::alloc::{AllocError, Global};
+use std::alloc::Global;
 
 /// The source's name, where lines are kept.
-fn name_where(alloc: Global, lines: bool, source: &[u8]) -> Result<Option<Bytes>, AllocError>
+fn name_where(alloc: Global, lines: bool, source: &[u8]) -> Allocated<Option<Bytes>>
     ensures { IfOk result (λ name. name ≡ name_where lines source.now) }
 {
     if lines {
@@ -26,12 +26,7 @@ fn name_where(alloc: Global, lines: bool, source: &[u8]) -> Result<Option<Bytes>
 /// The code of a source, from its tree with the places of all names. With lines it has the source's
 /// name, the lines of its instructions and the names of its variables, else none of them. It keeps
 /// the rules on code, and means the tree.
-pub fn compile(
-    alloc: Global,
-    tree: &Resolved,
-    source: &[u8],
-    lines: bool,
-) -> Result<Checked, AllocError>
+pub fn compile(alloc: Global, tree: &Resolved, source: &[u8], lines: bool) -> Allocated<Checked>
     requires tree { IsOfSource tree.now }
     requires name { length source.now ≤ greatest_string }
     ensures code { IfOk result (λ checked. checked ≡ code_of (name_where lines source.now) (plain_body tree.now.main)) }

@@ -10,8 +10,8 @@ use code_core::{LocVar, Proto};
 use code_emitter::Emitted;
 use code_parts::{Variables, block_constants, inner_bodies, prototype};
 use code_stat::{Written, write_body};
-use int_core::Bytes;
-use std::alloc::{AllocError, Global};
+use int_core::{Allocated, Bytes};
+use std::alloc::Global;
 use tree_core::{Block, Body};
 
 /// The local variables, where the source is known.
@@ -19,7 +19,7 @@ fn known_locals(
     alloc: Global,
     source: &Option<Bytes>,
     variables: Variables,
-) -> Result<Vec<LocVar>, AllocError>
+) -> Allocated<Vec<LocVar>>
     ensures { IfOk result (λ list. list.items ≡ where_known source.now (map finished variables)) }
 {
     match source {
@@ -30,11 +30,7 @@ fn known_locals(
 
 /// The prototype of a function. Where the source has a name it has lines and names.
 #[cycle(functions)]
-pub(crate) fn function(
-    alloc: Global,
-    source: &Option<Bytes>,
-    body: &Body,
-) -> Result<Proto, AllocError>
+pub(crate) fn function(alloc: Global, source: &Option<Bytes>, body: &Body) -> Allocated<Proto>
     ensures { IfOk result (λ p. p ≡ low_prototype (code_of source.now (plain_body body.now))) }
 {
     let constants = block_constants(alloc, &body.block)?;
@@ -48,11 +44,7 @@ pub(crate) fn function(
 
 /// The prototypes of the functions that a block makes, in the order of the text.
 #[cycle(functions)]
-fn inner_functions(
-    alloc: Global,
-    source: &Option<Bytes>,
-    block: &Block,
-) -> Result<Vec<Proto>, AllocError>
+fn inner_functions(alloc: Global, source: &Option<Bytes>, block: &Block) -> Allocated<Vec<Proto>>
     ensures { IfOk result (λ list. prototypes list.items ≡ low_prototypes (from_block source.now (plain_block block.now) none)) }
 {
     let mut list = Vec::new(alloc);

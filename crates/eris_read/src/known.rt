@@ -10,15 +10,12 @@ ghost use Rattle.eris_read.specs.Known.{IsKnown, IsNamed, IsPermanent, IsSmall};
 use code_core::Proto;
 use graph_core::{Permanent, PermanentKey, PermanentSort, Permanents};
 use image_records::{Key, Known, Named};
+use int_core::Allocated;
 use lua_heap::World;
-use std::alloc::AllocError;
 use table_core::{CoroId, FuncId, TableId, Value};
 
 /// All permanents by their keys, with the code of Lua functions.
-pub(crate) fn known_in<'k>(
-    world: &'k World,
-    permanents: &'k Permanents,
-) -> Result<Known<'k>, AllocError>
+pub(crate) fn known_in<'k>(world: &'k World, permanents: &'k Permanents) -> Allocated<Known<'k>>
     requires { CanRead world.now (listed permanents.now) }
     ensures { IfOk result (λ known. IsKnown world.now (listed permanents.now) known) }
 {
@@ -35,10 +32,7 @@ pub(crate) fn known_in<'k>(
 }
 
 /// All permanents by their keys, without code. Nothing of the world is borrowed.
-pub(crate) fn names_of<'k>(
-    world: &World,
-    permanents: &'k Permanents,
-) -> Result<Known<'k>, AllocError>
+pub(crate) fn names_of<'k>(world: &World, permanents: &'k Permanents) -> Allocated<Known<'k>>
     requires { CanRead world.now (listed permanents.now) }
     ensures { IfOk result (λ known. IsNamed (listed permanents.now) known) }
 {

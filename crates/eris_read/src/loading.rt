@@ -11,8 +11,8 @@ use graph_core::Permanents;
 use image_made::{Maker, Place, places_of};
 use image_placed::{add_parts, place_all};
 use image_records::{Image, Known};
+use int_core::Allocated;
 use lua_heap::World;
-use std::alloc::AllocError;
 use table_core::Value;
 
 /// Loads an image into a world, and gives its roots. What a refusal leaves begins with what was there.
@@ -21,7 +21,7 @@ pub(crate) fn load(
     world: &mut World,
     image: Image<'_>,
     permanents: &Permanents,
-) -> Result<Vec<Value>, AllocError>
+) -> Allocated<Vec<Value>>
     requires { CanRead world.old (listed permanents.now) }
     ensures loads { IfOk result (λ values. LoadsImage world.old world.new (listed permanents.now) (image_read image.entry) values.items) }
     ensures order { IfOk result (λ values. InOrder world.new) }
@@ -39,7 +39,7 @@ fn load_by(
     image: Image<'_>,
     places: &[Place],
     known: &Known<'_>,
-) -> Result<Vec<Value>, AllocError>
+) -> Allocated<Vec<Value>>
     requires { InOrder world.old }
     ensures loads { IfOk result (λ values. LoadsBy places.now known.now world.old world.new (image_read image.entry) values.items) }
     ensures order { IfOk result (λ values. InOrder world.new) }

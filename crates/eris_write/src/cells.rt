@@ -12,14 +12,14 @@ use crate::output::Output;
 use crate::values::REFUSED;
 use crate::writer::Writer;
 use graph_core::{Object, Sort};
+use int_core::Allocated;
 use lua_heap::Cell;
 use lua_heap::law::strings_are_there;
-use std::alloc::AllocError;
 use table_core::{CellId, CoroId, Value};
 
 impl Writer<'_> {
     /// Writes the record of a cell, if it is there. One that is open in a coroutine of the image names it; any other has its present value.
-    pub(crate) fn write_cell_at(&self, out: &mut Output, number: usize) -> Result<(), AllocError>
+    pub(crate) fn write_cell_at(&self, out: &mut Output, number: usize) -> Allocated<()>
         requires { IsReadable self.now.world.now }
         ensures { OnOk result ((fuel : ℕ) → Writes self.now out.old out.new (fields (plain self.now.world.now fuel) (inside_in self.now) (a_cell number)) (λ R. (record_format R 3).spell (record_of (naming_in self.now) (plain self.now.world.now fuel) (a_cell number)))) }
     {
@@ -65,7 +65,7 @@ impl Writer<'_> {
     }
 
     /// Writes a cell with its value.
-    fn write_closed(&self, out: &mut Output, value: Value) -> Result<(), AllocError>
+    fn write_closed(&self, out: &mut Output, value: Value) -> Allocated<()>
         requires { HasText (texts_in self.now) value }
         ensures { OnOk result (Writes self.now out.old out.new (of_value (read_in self.now value) ∷ []) (λ R. (cell_format R).spell (closed_record (item_in self.now value)))) }
     {
@@ -74,7 +74,7 @@ impl Writer<'_> {
     }
 
     /// Writes a cell that is open in a coroutine of the image.
-    fn write_open(&self, out: &mut Output, place: OpenPlace) -> Result<(), AllocError>
+    fn write_open(&self, out: &mut Output, place: OpenPlace) -> Allocated<()>
         ensures { OnOk result (Writes self.now out.old out.new (of_coroutine place.coro.0 ∷ []) (λ R. (cell_format R).spell (open_record ((naming_in self.now).number (an_object a_coroutine place.coro.0)) place.frame place.register))) }
     {
         let coroutine = Object {

@@ -15,19 +15,15 @@ ghost use Rattle.eris_write.specs.Writing.{HasText, HaveTexts, IsReadable, Write
 use crate::output::Output;
 use crate::values::REFUSED;
 use crate::writer::Writer;
+use int_core::Allocated;
 use lua_heap::Coro;
 use lua_heap::law::strings_are_there;
 use lua_stack::Stack;
-use std::alloc::AllocError;
 use table_core::Value;
 
 impl Writer<'_> {
     /// Writes the record of a coroutine, if it is there.
-    pub(crate) fn write_coroutine_at(
-        &self,
-        out: &mut Output,
-        number: usize,
-    ) -> Result<(), AllocError>
+    pub(crate) fn write_coroutine_at(&self, out: &mut Output, number: usize) -> Allocated<()>
         requires { IsReadable self.now.world.now }
         ensures { OnOk result ((fuel : ℕ) → Writes self.now out.old out.new (fields (plain self.now.world.now fuel) (inside_in self.now) (an_object a_coroutine number)) (λ R. (record_format R 4).spell (record_of (naming_in self.now) (plain self.now.world.now fuel) (an_object a_coroutine number)))) }
     {
@@ -39,7 +35,7 @@ impl Writer<'_> {
     }
 
     /// Writes the record of a coroutine. One that runs or resumed another was refused where it was met.
-    fn write_coroutine(&self, out: &mut Output, coro: &Coro) -> Result<(), AllocError>
+    fn write_coroutine(&self, out: &mut Output, coro: &Coro) -> Allocated<()>
         requires { CoroutineStands (texts_in self.now) coro.now }
         ensures { OnOk result (Writes self.now out.old out.new (coroutine_fields (read_coroutine (texts_in self.now) coro.now)) (λ R. (coroutine_format R).spell (record_of_coroutine (naming_in self.now) (read_coroutine (texts_in self.now) coro.now)))) }
     {
@@ -54,7 +50,7 @@ impl Writer<'_> {
     }
 
     /// Writes a coroutine that has not begun, with its body.
-    fn write_fresh(&self, out: &mut Output, body: Value) -> Result<(), AllocError>
+    fn write_fresh(&self, out: &mut Output, body: Value) -> Allocated<()>
         requires { HasText (texts_in self.now) body }
         ensures { OnOk result (Writes self.now out.old out.new (of_value (read_in self.now body) ∷ []) (λ R. (coroutine_format R).spell (fresh_record (item_in self.now body)))) }
     {
@@ -63,7 +59,7 @@ impl Writer<'_> {
     }
 
     /// Writes a suspended coroutine with its frames from the bottom.
-    fn write_suspended(&self, out: &mut Output, stack: &Stack) -> Result<(), AllocError>
+    fn write_suspended(&self, out: &mut Output, stack: &Stack) -> Allocated<()>
         requires { Each (FrameStands (texts_in self.now)) stack.now.frames }
         ensures { OnOk result (Writes self.now out.old out.new (flat_map frame_fields (frames (read_in self.now) stack.now)) (λ R. (coroutine_format R).spell (suspended_record (map (frame_item (naming_in self.now)) (frames (read_in self.now) stack.now))))) }
     {
@@ -73,12 +69,7 @@ impl Writer<'_> {
     }
 
     /// Writes a coroutine that an error ended, with the values that are still to be closed.
-    fn write_failed(
-        &self,
-        out: &mut Output,
-        error: Value,
-        pending: &[Value],
-    ) -> Result<(), AllocError>
+    fn write_failed(&self, out: &mut Output, error: Value, pending: &[Value]) -> Allocated<()>
         requires error { HasText (texts_in self.now) error }
         requires pending { HaveTexts (texts_in self.now) pending.now }
         ensures { OnOk result (Writes self.now out.old out.new (of_value (read_in self.now error) ∷ map of_value (map (read_in self.now) pending.now)) (λ R. (coroutine_format R).spell (failed_record (item_in self.now error) (map (item_in self.now) pending.now)))) }
@@ -89,7 +80,7 @@ impl Writer<'_> {
     }
 
     /// Writes frames one after another.
-    fn write_frames(&self, out: &mut Output, stack: &Stack) -> Result<(), AllocError>
+    fn write_frames(&self, out: &mut Output, stack: &Stack) -> Allocated<()>
         requires { Each (FrameStands (texts_in self.now)) stack.now.frames }
         ensures { OnOk result (Writes self.now out.old out.new (flat_map frame_fields (frames (read_in self.now) stack.now)) (λ R. spell_all (frame_format R) (map (frame_item (naming_in self.now)) (frames (read_in self.now) stack.now)))) }
     {
@@ -100,7 +91,7 @@ impl Writer<'_> {
     }
 
     /// Writes a frame, if it is there.
-    fn write_frame_at(&self, out: &mut Output, stack: &Stack, at: usize) -> Result<(), AllocError>
+    fn write_frame_at(&self, out: &mut Output, stack: &Stack, at: usize) -> Allocated<()>
         requires { Each (FrameStands (texts_in self.now)) stack.now.frames }
         ensures { OnOk result (Writes self.now out.old out.new (fields_at (texts_in self.now) stack.now.frames at) (bytes_at self.now stack.now.frames at)) }
     {

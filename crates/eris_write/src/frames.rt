@@ -15,17 +15,14 @@ ghost use Rattle.eris_write.specs.Writing.{HasText, HaveTexts, Writes, item_in, 
 
 use crate::output::Output;
 use crate::writer::Writer;
+use int_core::Allocated;
 use lua_stack::{FrameView, LuaView, Wait};
 use std::alloc::AllocError;
 use table_core::Value;
 
 impl Writer<'_> {
     /// Writes a frame.
-    pub(crate) fn write_frame(
-        &self,
-        out: &mut Output,
-        frame: FrameView<'_>,
-    ) -> Result<(), AllocError>
+    pub(crate) fn write_frame(&self, out: &mut Output, frame: FrameView<'_>) -> Allocated<()>
         requires { FrameStands (texts_in self.now) (viewed frame) }
         ensures { OnOk result (Writes self.now out.old out.new (fields_of (texts_in self.now) (viewed frame.entry)) (frame_bytes self.now (viewed frame.entry))) }
     {
@@ -39,7 +36,7 @@ impl Writer<'_> {
     }
 
     /// Writes the frame of a Lua function.
-    fn write_lua(&self, out: &mut Output, view: LuaView<'_>) -> Result<(), AllocError>
+    fn write_lua(&self, out: &mut Output, view: LuaView<'_>) -> Allocated<()>
         requires { LuaStands (texts_in self.now) (viewed_lua view) }
         ensures { OnOk result (Writes self.now out.old out.new (fields_of (texts_in self.now) (kept_lua (viewed_lua view.entry))) (frame_bytes self.now (kept_lua (viewed_lua view.entry)))) }
     {
@@ -54,12 +51,7 @@ impl Writer<'_> {
     }
 
     /// Writes the list of a frame's registers, the last of which are nil.
-    fn write_registers(
-        &self,
-        out: &mut Output,
-        registers: &[Value],
-        nils: usize,
-    ) -> Result<(), AllocError>
+    fn write_registers(&self, out: &mut Output, registers: &[Value], nils: usize) -> Allocated<()>
         requires { HaveTexts (texts_in self.now) registers.now }
         ensures { OnOk result (Writes self.now out.old out.new (map of_value (map (read_in self.now) (registers.now ++ blank nils))) (λ R. (list (item_format R)).spell (map (item_in self.now) (registers.now ++ blank nils)))) }
     {
@@ -70,7 +62,7 @@ impl Writer<'_> {
     }
 
     /// Writes nil so many times.
-    fn write_nils(&self, out: &mut Output, count: usize) -> Result<(), AllocError>
+    fn write_nils(&self, out: &mut Output, count: usize) -> Allocated<()>
         ensures { OnOk result (Writes self.now out.old out.new (map of_value (map (read_in self.now) (blank count))) (λ R. spell_all (item_format R) (map (item_in self.now) (blank count)))) }
     {
         for at in 0..count {
@@ -80,7 +72,7 @@ impl Writer<'_> {
     }
 
     /// Writes what a wait carries.
-    fn write_wait(&self, out: &mut Output, wait: Wait) -> Result<(), AllocError>
+    fn write_wait(&self, out: &mut Output, wait: Wait) -> Allocated<()>
         requires { WaitStands (texts_in self.now) wait }
         ensures { OnOk result (Writes self.now out.old out.new (wait_fields (wait_of (read_in self.now) wait)) (wait_bytes self.now wait)) }
     {
@@ -99,7 +91,7 @@ impl Writer<'_> {
     }
 
     /// Writes the frame of `xpcall` with its message handler.
-    fn write_xpcall(&self, out: &mut Output, handler: Value) -> Result<(), AllocError>
+    fn write_xpcall(&self, out: &mut Output, handler: Value) -> Allocated<()>
         requires { HasText (texts_in self.now) handler }
         ensures { OnOk result (Writes self.now out.old out.new (fields_of (texts_in self.now) (kept_xpcall handler)) (frame_bytes self.now (kept_xpcall handler))) }
     {
@@ -108,12 +100,7 @@ impl Writer<'_> {
     }
 
     /// Writes the frame of `coroutine.close`, with its error and the values that are left to be closed.
-    fn write_closing(
-        &self,
-        out: &mut Output,
-        error: Option<Value>,
-        left: &[Value],
-    ) -> Result<(), AllocError>
+    fn write_closing(&self, out: &mut Output, error: Option<Value>, left: &[Value]) -> Allocated<()>
         requires error { OptionOk (HasText (texts_in self.now)) error }
         requires left { HaveTexts (texts_in self.now) left.now }
         ensures { OnOk result (Writes self.now out.old out.new (fields_of (texts_in self.now) (kept_closing error left.now)) (frame_bytes self.now (kept_closing error left.now))) }
@@ -124,7 +111,7 @@ impl Writer<'_> {
     }
 
     /// Writes whether there is an error, and the error.
-    fn write_error(&self, out: &mut Output, error: Option<Value>) -> Result<(), AllocError>
+    fn write_error(&self, out: &mut Output, error: Option<Value>) -> Allocated<()>
         requires { OptionOk (HasText (texts_in self.now)) error }
         ensures { OnOk result (Writes self.now out.old out.new (error_fields (option_map (read_in self.now) error)) (λ R. (error_format R).spell (option_map (item_in self.now) error))) }
     {
@@ -135,7 +122,7 @@ impl Writer<'_> {
     }
 
     /// Writes an error that is there.
-    fn write_some(&self, out: &mut Output, error: Value) -> Result<(), AllocError>
+    fn write_some(&self, out: &mut Output, error: Value) -> Allocated<()>
         requires { HasText (texts_in self.now) error }
         ensures { OnOk result (Writes self.now out.old out.new (of_value (read_in self.now error) ∷ []) (λ R. (error_format R).spell (Some (item_in self.now error)))) }
     {
@@ -163,7 +150,7 @@ fn wait_byte(wait: Wait) -> u8
 }
 
 /// Puts how many operands of a concatenation are left, of which an instruction has fewer than 256.
-fn put_left(out: &mut Output, left: usize) -> Result<(), AllocError>
+fn put_left(out: &mut Output, left: usize) -> Allocated<()>
     requires { left < 256 }
     ensures { OnOk result (Puts out.old out.new None (λ _. left ∷ [])) }
 {
@@ -172,7 +159,7 @@ fn put_left(out: &mut Output, left: usize) -> Result<(), AllocError>
 }
 
 /// Puts a list of numbers: how many, and each of them.
-fn put_numbers(out: &mut Output, numbers: &[usize]) -> Result<(), AllocError>
+fn put_numbers(out: &mut Output, numbers: &[usize]) -> Allocated<()>
     ensures { OnOk result (Puts out.old out.new None (λ _. (list word).spell numbers.now)) }
 {
     out.put_word(numbers.len())?;
@@ -180,7 +167,7 @@ fn put_numbers(out: &mut Output, numbers: &[usize]) -> Result<(), AllocError>
 }
 
 /// Puts numbers one after another.
-fn put_words(out: &mut Output, numbers: &[usize]) -> Result<(), AllocError>
+fn put_words(out: &mut Output, numbers: &[usize]) -> Allocated<()>
     ensures { OnOk result (Puts out.old out.new None (λ _. spell_all word numbers.now)) }
 {
     for at in 0..numbers.len() {

@@ -13,18 +13,14 @@ use crate::output::Output;
 use crate::writer::Writer;
 use chunk_format::write_function;
 use graph_core::{Object, Sort};
+use int_core::Allocated;
 use lua_heap::Func;
 use lua_heap::law::checked_code_is_there;
-use std::alloc::AllocError;
 use table_core::{CellId, ProtoId};
 
 impl Writer<'_> {
     /// Writes the record of a function, if it is there.
-    pub(crate) fn write_function_at(
-        &self,
-        out: &mut Output,
-        number: usize,
-    ) -> Result<(), AllocError>
+    pub(crate) fn write_function_at(&self, out: &mut Output, number: usize) -> Allocated<()>
         requires { IsReadable self.now.world.now }
         ensures { OnOk result ((fuel : ℕ) → Writes self.now out.old out.new (fields (plain self.now.world.now fuel) (inside_in self.now) (an_object a_function number)) (λ R. (record_format R 2).spell (record_of (naming_in self.now) (plain self.now.world.now fuel) (an_object a_function number)))) }
     {
@@ -35,7 +31,7 @@ impl Writer<'_> {
     }
 
     /// Writes the record of a function: its code, how many cells it has, and their numbers.
-    fn write_function(&self, out: &mut Output, func: &Func) -> Result<(), AllocError>
+    fn write_function(&self, out: &mut Output, func: &Func) -> Allocated<()>
         requires { IsWhole (read_function (functions self.now.world.now.codes) func.now) }
         ensures { OnOk result (Writes self.now out.old out.new (map of_cell (map (λ c. c.0) func.now.cells.items)) (λ R. (function_format R).spell (record_of_function (naming_in self.now) (read_function (functions self.now.world.now.codes) func.now)))) }
     {
@@ -47,7 +43,7 @@ impl Writer<'_> {
     }
 
     /// Writes the code of a function as in a chunk, with how many bytes it takes.
-    fn write_code(&self, out: &mut Output, code: ProtoId) -> Result<(), AllocError>
+    fn write_code(&self, out: &mut Output, code: ProtoId) -> Allocated<()>
         requires { IsChecked (prototype_at (functions self.now.world.now.codes) code.0) }
         ensures { OnOk result (Writes self.now out.old out.new [] (λ R. (code_format R).spell (prototype_at (functions self.now.world.now.codes) code.0))) }
     {
@@ -59,7 +55,7 @@ impl Writer<'_> {
     }
 
     /// Writes the numbers of cells.
-    fn write_cells(&self, out: &mut Output, cells: &[CellId]) -> Result<(), AllocError>
+    fn write_cells(&self, out: &mut Output, cells: &[CellId]) -> Allocated<()>
         ensures { OnOk result (Writes self.now out.old out.new (map of_cell (map (λ c. c.0) cells.now)) (λ R. spell_all (reference R.sorts (3 ∷ [])) (map (λ c. (naming_in self.now).number (a_cell c)) (map (λ c. c.0) cells.now)))) }
     {
         for at in 0..cells.len() {

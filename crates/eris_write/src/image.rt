@@ -10,9 +10,10 @@ use crate::output::{MOST, Output};
 use crate::records::put_sorts;
 use crate::writer::Writer;
 use graph_core::{Permanents, reach};
+use int_core::Allocated;
 use lua_heap::World;
 use lua_heap::law::strings_are_there;
-use std::alloc::{AllocError, Global};
+use std::alloc::Global;
 use table_core::Value;
 
 /// What each image begins with: a signature, and the version.
@@ -52,7 +53,7 @@ pub fn persist(
 
 impl Writer<'_> {
     /// Writes the image of some roots.
-    fn write_image(&self, alloc: Global, roots: &[Value]) -> Result<Output, AllocError>
+    fn write_image(&self, alloc: Global, roots: &[Value]) -> Allocated<Output>
         requires readable { IsReadable self.now.world.now }
         requires texts { HaveTexts (texts_in self.now) roots.now }
         requires few { length roots.now ≤ 255 }

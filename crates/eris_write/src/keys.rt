@@ -5,7 +5,8 @@ ghost use Rattle.eris_write.specs.Keys.{Tells, shown};
 
 use graph_core::{PermanentKey, Permanents};
 use indexmap::IndexSet;
-use std::alloc::{AllocError, Global};
+use int_core::Allocated;
+use std::alloc::Global;
 
 /// The key of a permanent, where it stands.
 #[derive(Debug, Clone, Copy, PartialEq, Eq, Hash)]
@@ -15,7 +16,7 @@ pub(crate) enum Key<'a> {
 }
 
 /// Whether two permanents have one key.
-pub(crate) fn have_equal_keys(alloc: Global, permanents: &Permanents) -> Result<bool, AllocError>
+pub(crate) fn have_equal_keys(alloc: Global, permanents: &Permanents) -> Allocated<bool>
     ensures { IfOk result (λ equal. Tells equal (listed permanents.now)) }
 {
     let mut seen = IndexSet::new(alloc);

@@ -7,7 +7,8 @@ ghost use Rattle.eris_write.specs.Refusals.{shown};
 
 use crate::fault::{PersistFault, Refusal};
 use graph_core::PermanentKey;
-use std::alloc::{AllocError, Global};
+use int_core::Allocated;
+use std::alloc::Global;
 
 /// One byte more than an image may have.
 pub(crate) const MOST: usize = 2_147_483_648;
@@ -41,7 +42,7 @@ impl Output {
     }
 
     /// Puts bytes.
-    pub(crate) fn put(&mut self, bytes: &[u8]) -> Result<(), AllocError>
+    pub(crate) fn put(&mut self, bytes: &[u8]) -> Allocated<()>
         ensures { OnOk result (Puts self.old self.new None (λ _. bytes.now)) }
     {
         let room = MOST.saturating_sub(self.bytes.len());
@@ -51,14 +52,14 @@ impl Output {
     }
 
     /// Puts a byte.
-    pub(crate) fn put_byte(&mut self, byte: u8) -> Result<(), AllocError>
+    pub(crate) fn put_byte(&mut self, byte: u8) -> Allocated<()>
         ensures { OnOk result (Puts self.old self.new None (λ _. byte ∷ [])) }
     {
         self.put(&[byte])
     }
 
     /// Puts a number in four bytes. One that does not fit counts something of which an image has no room for so many.
-    pub(crate) fn put_word(&mut self, n: usize) -> Result<(), AllocError>
+    pub(crate) fn put_word(&mut self, n: usize) -> Allocated<()>
         ensures { OnOk result (Puts self.old self.new None (λ _. little_bytes 4 n)) }
     {
         let bytes = n.to_le_bytes();
@@ -67,7 +68,7 @@ impl Output {
     }
 
     /// Puts an integer as a value or a key.
-    pub(crate) fn put_integer_item(&mut self, n: i64) -> Result<(), AllocError>
+    pub(crate) fn put_integer_item(&mut self, n: i64) -> Allocated<()>
         ensures { OnOk result (Puts self.old self.new None (λ _. 3 ∷ little_bytes 8 (cast_unsigned w64 n))) }
     {
         self.put_byte(3)?;
@@ -75,7 +76,7 @@ impl Output {
     }
 
     /// Puts a string as a value or a key: its length, and its bytes.
-    pub(crate) fn put_text_item(&mut self, bytes: &[u8]) -> Result<(), AllocError>
+    pub(crate) fn put_text_item(&mut self, bytes: &[u8]) -> Allocated<()>
         ensures { OnOk result (Puts self.old self.new None (λ _. 4 ∷ little_bytes 4 (length bytes.now) ++ bytes.now)) }
     {
         self.put_byte(4)?;
@@ -84,7 +85,7 @@ impl Output {
     }
 
     /// Puts the key of a permanent.
-    pub(crate) fn put_key(&mut self, key: &PermanentKey) -> Result<(), AllocError>
+    pub(crate) fn put_key(&mut self, key: &PermanentKey) -> Allocated<()>
         ensures { OnOk result (Puts self.old self.new None (λ _. key_bytes key.now)) }
     {
         match key {

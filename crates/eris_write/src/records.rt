@@ -10,11 +10,11 @@ use crate::output::Output;
 use crate::writer::Writer;
 use graph_core::{Object, Sort};
 use indexmap::IndexSet;
-use std::alloc::AllocError;
+use int_core::Allocated;
 
 impl Writer<'_> {
     /// Writes the records in their order.
-    pub(crate) fn write_records(&self, out: &mut Output) -> Result<(), AllocError>
+    pub(crate) fn write_records(&self, out: &mut Output) -> Allocated<()>
         requires { IsReadable self.now.world.now }
         ensures { OnOk result ((fuel : ℕ) → Writes self.now out.old out.new (flat_map (fields_in self.now fuel) self.now.numbering.now.order.keys) (records_bytes self.now fuel self.now.numbering.now.order.keys)) }
     {
@@ -25,7 +25,7 @@ impl Writer<'_> {
     }
 
     /// Writes the record of an object.
-    fn write_record(&self, out: &mut Output, object: Object) -> Result<(), AllocError>
+    fn write_record(&self, out: &mut Output, object: Object) -> Allocated<()>
         requires { IsReadable self.now.world.now }
         ensures { OnOk result ((fuel : ℕ) → Writes self.now out.old out.new (fields_in self.now fuel object) (record_bytes self.now fuel object)) }
     {
@@ -39,7 +39,7 @@ impl Writer<'_> {
 }
 
 /// Puts the sorts of objects: how many there are, and a byte for each.
-pub(crate) fn put_sorts(out: &mut Output, objects: &IndexSet<Object>) -> Result<(), AllocError>
+pub(crate) fn put_sorts(out: &mut Output, objects: &IndexSet<Object>) -> Allocated<()>
     ensures { OnOk result (Puts out.old out.new None (λ _. little_bytes 4 (length objects.now.keys) ++ map (λ o. sort_code o.sort) objects.now.keys)) }
 {
     out.put_word(objects.len())?;
@@ -47,7 +47,7 @@ pub(crate) fn put_sorts(out: &mut Output, objects: &IndexSet<Object>) -> Result<
 }
 
 /// Puts a byte for each object.
-fn put_sort_bytes(out: &mut Output, objects: &IndexSet<Object>) -> Result<(), AllocError>
+fn put_sort_bytes(out: &mut Output, objects: &IndexSet<Object>) -> Allocated<()>
     ensures { OnOk result (Puts out.old out.new None (λ _. map (λ o. sort_code o.sort) objects.now.keys)) }
 {
     for at in 0..objects.len() {

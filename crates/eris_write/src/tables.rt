@@ -10,13 +10,13 @@ ghost use Rattle.eris_write.specs.Writing.{IsReadable, RowsHaveTexts, Writes, in
 use crate::output::Output;
 use crate::writer::Writer;
 use graph_core::metatable_of;
+use int_core::Allocated;
 use lua_heap::law::strings_are_there;
-use std::alloc::AllocError;
 use table_core::Table;
 
 impl Writer<'_> {
     /// Writes the record of a table, if it is there.
-    pub(crate) fn write_table_at(&self, out: &mut Output, number: usize) -> Result<(), AllocError>
+    pub(crate) fn write_table_at(&self, out: &mut Output, number: usize) -> Allocated<()>
         requires { IsReadable self.now.world.now }
         ensures { OnOk result ((fuel : ℕ) → Writes self.now out.old out.new (fields (plain self.now.world.now fuel) (inside_in self.now) (an_object a_table number)) (λ R. (record_format R 1).spell (record_of (naming_in self.now) (plain self.now.world.now fuel) (an_object a_table number)))) }
     {
@@ -28,7 +28,7 @@ impl Writer<'_> {
     }
 
     /// Writes the record of a table.
-    fn write_table(&self, out: &mut Output, table: &Table) -> Result<(), AllocError>
+    fn write_table(&self, out: &mut Output, table: &Table) -> Allocated<()>
         requires { RowsHaveTexts (texts_in self.now) table.now.rows }
         ensures { OnOk result (Writes self.now out.old out.new (table_fields (read_table (texts_in self.now) table.now)) (λ R. (table_format R).spell (record_of_table (naming_in self.now) (read_table (texts_in self.now) table.now)))) }
     {
@@ -38,7 +38,7 @@ impl Writer<'_> {
     }
 
     /// Writes the rows of a table, each as its key and its value.
-    fn write_rows(&self, out: &mut Output, table: &Table) -> Result<(), AllocError>
+    fn write_rows(&self, out: &mut Output, table: &Table) -> Allocated<()>
         requires { RowsHaveTexts (texts_in self.now) table.now.rows }
         ensures { OnOk result (Writes self.now out.old out.new (flat_map (λ r. row_fields (read_row (texts_in self.now) r)) table.now.rows) (λ R. spell_rows R (map (λ r. row_item (naming_in self.now) (read_row (texts_in self.now) r)) table.now.rows))) }
     {

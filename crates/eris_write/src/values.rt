@@ -14,7 +14,7 @@ ghost use Rattle.eris_write.specs.Writing.{HasText, HaveTexts, Writes, item_byte
 use crate::output::Output;
 use crate::writer::Writer;
 use graph_core::{Object, PermanentKey, Sort, is_table};
-use std::alloc::AllocError;
+use int_core::Allocated;
 use table_core::{StrId, Value};
 
 /// What no image holds stands for something that was refused.
@@ -25,7 +25,7 @@ const ENVIRONMENT: u8 = 9;
 
 impl Writer<'_> {
     /// Writes a value.
-    pub(crate) fn write(&self, out: &mut Output, value: Value) -> Result<(), AllocError>
+    pub(crate) fn write(&self, out: &mut Output, value: Value) -> Allocated<()>
         requires { HasText (texts_in self.now) value }
         ensures { OnOk result (Writes self.now out.old out.new (of_value (read_in self.now value) ∷ []) (item_bytes self.now value)) }
     {
@@ -39,7 +39,7 @@ impl Writer<'_> {
     }
 
     /// Writes values one after another.
-    pub(crate) fn write_all(&self, out: &mut Output, values: &[Value]) -> Result<(), AllocError>
+    pub(crate) fn write_all(&self, out: &mut Output, values: &[Value]) -> Allocated<()>
         requires { HaveTexts (texts_in self.now) values.now }
         ensures { OnOk result (Writes self.now out.old out.new (map of_value (map (read_in self.now) values.now)) (λ R. spell_all (item_format R) (map (item_in self.now) values.now))) }
     {
@@ -50,7 +50,7 @@ impl Writer<'_> {
     }
 
     /// Writes a list of values: how many, and each of them.
-    pub(crate) fn write_list(&self, out: &mut Output, values: &[Value]) -> Result<(), AllocError>
+    pub(crate) fn write_list(&self, out: &mut Output, values: &[Value]) -> Allocated<()>
         requires { HaveTexts (texts_in self.now) values.now }
         ensures { OnOk result (Writes self.now out.old out.new (map of_value (map (read_in self.now) values.now)) (λ R. (list (item_format R)).spell (map (item_in self.now) values.now))) }
     {
@@ -59,7 +59,7 @@ impl Writer<'_> {
     }
 
     /// Writes a value that has no name.
-    fn write_unnamed(&self, out: &mut Output, value: Value) -> Result<(), AllocError>
+    fn write_unnamed(&self, out: &mut Output, value: Value) -> Allocated<()>
         requires { HasText (texts_in self.now) value }
         ensures { OnOk result (Puts out.old out.new (unnamed_refusal (plain self.now.world.now 0) (read_in self.now value)) (λ _. unnamed_bytes (naming_in self.now) (read_in self.now value))) }
     {
@@ -68,7 +68,7 @@ impl Writer<'_> {
     }
 
     /// Writes a value as it is, or the number of its record.
-    fn write_itself(&self, out: &mut Output, value: Value) -> Result<(), AllocError>
+    fn write_itself(&self, out: &mut Output, value: Value) -> Allocated<()>
         requires { HasText (texts_in self.now) value }
         ensures { OnOk result (Puts out.old out.new None (λ _. unnamed_bytes (naming_in self.now) (read_in self.now value))) }
     {
@@ -86,7 +86,7 @@ impl Writer<'_> {
     }
 
     /// Writes a string.
-    fn write_string(&self, out: &mut Output, id: StrId) -> Result<(), AllocError>
+    fn write_string(&self, out: &mut Output, id: StrId) -> Allocated<()>
         requires { id.0 < length (texts_in self.now) }
         ensures { OnOk result (Puts out.old out.new None (λ _. unnamed_bytes (naming_in self.now) (read_in self.now (Value.Str id)))) }
     {
@@ -94,7 +94,7 @@ impl Writer<'_> {
     }
 
     /// Writes that a value is an object, and the number of its record.
-    fn write_number(&self, out: &mut Output, sort: Sort, number: usize) -> Result<(), AllocError>
+    fn write_number(&self, out: &mut Output, sort: Sort, number: usize) -> Allocated<()>
         ensures { OnOk result (Puts out.old out.new None (λ _. number_bytes (naming_in self.now) (part_of sort number))) }
     {
         out.put_byte(5)?;
@@ -112,7 +112,7 @@ fn value_at(values: &[Value], at: usize) -> Value
 }
 
 /// Puts a permanent: of which sort it is, and its key.
-fn put_permanent(out: &mut Output, value: Value, key: &PermanentKey) -> Result<(), AllocError>
+fn put_permanent(out: &mut Output, value: Value, key: &PermanentKey) -> Allocated<()>
     ensures { OnOk result ((texts : List (List ℕ)) → Puts out.old out.new None (λ _. kind_tag (sort_of (read texts value)) ∷ key_bytes key.now)) }
 {
     out.put_byte(permanent_tag(value))?;

@@ -13,9 +13,9 @@ ghost use Rattle.graph_core.specs.Walk.{MeetsFields, inside_in, texts_in};
 use crate::object::Object;
 use crate::walk::Walk;
 use indexmap::IndexSet;
+use int_core::Allocated;
 use lua_heap::Coro;
 use lua_stack::{FrameView, LuaView, Stack, Wait};
-use std::alloc::AllocError;
 use table_core::Value;
 
 impl Walk<'_> {
@@ -24,7 +24,7 @@ impl Walk<'_> {
         &self,
         seen: &mut IndexSet<Object>,
         number: usize,
-    ) -> Result<(), AllocError>
+    ) -> Allocated<()>
         ensures { OnOk result ((fuel : ℕ) → MeetsFields self.now seen.old.keys seen.new.keys (fields (plain self.now.world.now fuel) (inside_in self.now) (an_object a_coroutine number))) }
     {
         if number >= self.world.coros.len() {
@@ -34,7 +34,7 @@ impl Walk<'_> {
     }
 
     /// What a coroutine names is met: nothing of one that runs or resumed another.
-    fn meet_coroutine(&self, seen: &mut IndexSet<Object>, coro: &Coro) -> Result<(), AllocError>
+    fn meet_coroutine(&self, seen: &mut IndexSet<Object>, coro: &Coro) -> Allocated<()>
         ensures { OnOk result (MeetsFields self.now seen.old.keys seen.new.keys (coroutine_fields (read_coroutine (texts_in self.now) coro.now))) }
     {
         match coro {
@@ -48,7 +48,7 @@ impl Walk<'_> {
     }
 
     /// What frames name is met.
-    fn meet_frames(&self, seen: &mut IndexSet<Object>, stack: &Stack) -> Result<(), AllocError>
+    fn meet_frames(&self, seen: &mut IndexSet<Object>, stack: &Stack) -> Allocated<()>
         ensures { OnOk result (MeetsFields self.now seen.old.keys seen.new.keys (flat_map frame_fields (frames (read (texts_in self.now)) stack.now))) }
     {
         for at in 0..stack.len() {
@@ -58,12 +58,7 @@ impl Walk<'_> {
     }
 
     /// What a frame names is met, if it is there.
-    fn meet_frame_at(
-        &self,
-        seen: &mut IndexSet<Object>,
-        stack: &Stack,
-        at: usize,
-    ) -> Result<(), AllocError>
+    fn meet_frame_at(&self, seen: &mut IndexSet<Object>, stack: &Stack, at: usize) -> Allocated<()>
         ensures { OnOk result (MeetsFields self.now seen.old.keys seen.new.keys (fields_at (texts_in self.now) stack.now.frames at)) }
     {
         match stack.frame_at(at) {
@@ -73,11 +68,7 @@ impl Walk<'_> {
     }
 
     /// What a frame names is met.
-    fn meet_frame(
-        &self,
-        seen: &mut IndexSet<Object>,
-        frame: FrameView<'_>,
-    ) -> Result<(), AllocError>
+    fn meet_frame(&self, seen: &mut IndexSet<Object>, frame: FrameView<'_>) -> Allocated<()>
         ensures { OnOk result (MeetsFields self.now seen.old.keys seen.new.keys (fields_of (texts_in self.now) (viewed frame.entry))) }
     {
         match frame {
@@ -90,7 +81,7 @@ impl Walk<'_> {
     }
 
     /// What the frame of a Lua function names is met. Registers that are nil name nothing.
-    fn meet_lua(&self, seen: &mut IndexSet<Object>, view: LuaView<'_>) -> Result<(), AllocError>
+    fn meet_lua(&self, seen: &mut IndexSet<Object>, view: LuaView<'_>) -> Allocated<()>
         ensures { OnOk result (MeetsFields self.now seen.old.keys seen.new.keys (fields_of (texts_in self.now) (kept_lua (viewed_lua view.entry)))) }
     {
         self.meet(seen, Value::Func(view.function))?;
@@ -100,7 +91,7 @@ impl Walk<'_> {
     }
 
     /// The error is met with which a frame is left.
-    fn meet_wait(&self, seen: &mut IndexSet<Object>, wait: Wait) -> Result<(), AllocError>
+    fn meet_wait(&self, seen: &mut IndexSet<Object>, wait: Wait) -> Allocated<()>
         ensures { OnOk result (MeetsFields self.now seen.old.keys seen.new.keys (wait_fields (wait_of (read (texts_in self.now)) wait))) }
     {
         match wait {
@@ -123,7 +114,7 @@ impl Walk<'_> {
         seen: &mut IndexSet<Object>,
         error: Option<Value>,
         left: &[Value],
-    ) -> Result<(), AllocError>
+    ) -> Allocated<()>
         ensures { OnOk result (MeetsFields self.now seen.old.keys seen.new.keys (fields_of (texts_in self.now) (kept_closing error left.now))) }
     {
         self.meet_error(seen, error)?;
@@ -131,11 +122,7 @@ impl Walk<'_> {
     }
 
     /// An error is met, if there is one.
-    fn meet_error(
-        &self,
-        seen: &mut IndexSet<Object>,
-        error: Option<Value>,
-    ) -> Result<(), AllocError>
+    fn meet_error(&self, seen: &mut IndexSet<Object>, error: Option<Value>) -> Allocated<()>
         ensures { OnOk result (MeetsFields self.now seen.old.keys seen.new.keys (error_fields (option_map (read (texts_in self.now)) error))) }
     {
         match error {

@@ -12,13 +12,13 @@ ghost use Rattle.graph_core.specs.Walk.{MeetsFields, inside_in, texts_in};
 use crate::object::{Object, Sort, meet};
 use crate::walk::Walk;
 use indexmap::IndexSet;
+use int_core::Allocated;
 use lua_heap::Cell;
-use std::alloc::AllocError;
 use table_core::{CellId, CoroId, Table, TableId, Value};
 
 impl Walk<'_> {
     /// What a table names is met: the key and the value of each row, cleared ones too, then the metatable.
-    fn meet_table(&self, seen: &mut IndexSet<Object>, table: &Table) -> Result<(), AllocError>
+    fn meet_table(&self, seen: &mut IndexSet<Object>, table: &Table) -> Allocated<()>
         ensures { OnOk result (MeetsFields self.now seen.old.keys seen.new.keys (table_fields (read_table (texts_in self.now) table.now))) }
     {
         self.meet_rows(seen, table)?;
@@ -26,7 +26,7 @@ impl Walk<'_> {
     }
 
     /// What the rows of a table name is met.
-    fn meet_rows(&self, seen: &mut IndexSet<Object>, table: &Table) -> Result<(), AllocError>
+    fn meet_rows(&self, seen: &mut IndexSet<Object>, table: &Table) -> Allocated<()>
         ensures { OnOk result (MeetsFields self.now seen.old.keys seen.new.keys (flat_map (λ r. row_fields (read_row (texts_in self.now) r)) table.now.rows)) }
     {
         for at in 0..table.rows() {
@@ -38,11 +38,7 @@ impl Walk<'_> {
     }
 
     /// What the table of a number names is met, if there is one.
-    pub(crate) fn meet_table_at(
-        &self,
-        seen: &mut IndexSet<Object>,
-        number: usize,
-    ) -> Result<(), AllocError>
+    pub(crate) fn meet_table_at(&self, seen: &mut IndexSet<Object>, number: usize) -> Allocated<()>
         ensures { OnOk result ((fuel : ℕ) → MeetsFields self.now seen.old.keys seen.new.keys (fields (plain self.now.world.now fuel) (inside_in self.now) (an_object a_table number))) }
     {
         if number >= self.world.tables.len() {
@@ -56,7 +52,7 @@ impl Walk<'_> {
         &self,
         seen: &mut IndexSet<Object>,
         number: usize,
-    ) -> Result<(), AllocError>
+    ) -> Allocated<()>
         ensures { OnOk result ((fuel : ℕ) → MeetsFields self.now seen.old.keys seen.new.keys (fields (plain self.now.world.now fuel) (inside_in self.now) (an_object a_function number))) }
     {
         if number >= self.world.funcs.len() {
@@ -66,11 +62,7 @@ impl Walk<'_> {
     }
 
     /// What the cell of a number names is met, if there is one.
-    pub(crate) fn meet_cell_at(
-        &self,
-        seen: &mut IndexSet<Object>,
-        number: usize,
-    ) -> Result<(), AllocError>
+    pub(crate) fn meet_cell_at(&self, seen: &mut IndexSet<Object>, number: usize) -> Allocated<()>
         requires listed { CellsAreListed self.now.world.now }
         requires there { CellsAreThere self.now.world.now }
         ensures { OnOk result ((fuel : ℕ) → MeetsFields self.now seen.old.keys seen.new.keys (fields (plain self.now.world.now fuel) (inside_in self.now) (a_cell number))) }

@@ -14,6 +14,7 @@ use crate::object::{Object, Sort};
 use crate::permanents::Permanents;
 use crate::walk::Walk;
 use indexmap::IndexSet;
+use int_core::Allocated;
 use lua_heap::World;
 use std::alloc::{AllocError, Global};
 use table_core::Value;
@@ -37,7 +38,7 @@ pub fn reach(
     world: &World,
     roots: &[Value],
     permanents: &Permanents,
-) -> Result<Numbering, AllocError>
+) -> Allocated<Numbering>
     requires listed { CellsAreListed world.now }
     requires there { CellsAreThere world.now }
     ensures { IfOk result (λ n. IsNumbering world.now permanents.now roots.now n) }
@@ -60,7 +61,7 @@ pub fn reach(
 
 impl Walk<'_> {
     /// What some roots reach, in the order of first visit.
-    fn visit(&self, alloc: Global, roots: &[Value]) -> Result<IndexSet<Object>, AllocError>
+    fn visit(&self, alloc: Global, roots: &[Value]) -> Allocated<IndexSet<Object>>
         requires listed { CellsAreListed self.now.world.now }
         requires there { CellsAreThere self.now.world.now }
         ensures few { IfOk result (λ seen. slice_get seen.keys greatest_count ≡ None) }
@@ -79,7 +80,7 @@ impl Walk<'_> {
     }
 
     /// What an object names is met.
-    fn meet_parts(&self, seen: &mut IndexSet<Object>, object: Object) -> Result<(), AllocError>
+    fn meet_parts(&self, seen: &mut IndexSet<Object>, object: Object) -> Allocated<()>
         requires listed { CellsAreListed self.now.world.now }
         requires there { CellsAreThere self.now.world.now }
         ensures { OnOk result ((fuel : ℕ) → MeetsFields self.now seen.old.keys seen.new.keys (fields (plain self.now.world.now fuel) (inside_in self.now) (part object))) }

@@ -3,7 +3,7 @@ ghost use Rattle.std.specs.Prelude.{[], ◌∷◌, OnOk};
 ghost use Rattle.graph_core.specs.Objects.{Meets, part};
 
 use indexmap::IndexSet;
-use std::alloc::AllocError;
+use int_core::Allocated;
 
 /// What kind of object it is.
 #[derive(Debug, Clone, Copy, PartialEq, Eq, Hash)]
@@ -22,7 +22,7 @@ pub struct Object {
 }
 
 /// An object is met: it goes last where it was not met before.
-pub(crate) fn meet(seen: &mut IndexSet<Object>, object: Object) -> Result<(), AllocError>
+pub(crate) fn meet(seen: &mut IndexSet<Object>, object: Object) -> Allocated<()>
     ensures { OnOk result (Meets seen.old.keys seen.new.keys (part object ∷ [])) }
 {
     seen.insert(object)?;

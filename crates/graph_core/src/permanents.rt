@@ -7,6 +7,7 @@ ghost use Rattle.graph_core.specs.Inverse.{KeyIsBefore, KeysAreOnce, ObjectsAreO
 ghost use Rattle.graph_core.specs.Permanents.{key_read, object_read, permanent, permanents, stands_for};
 
 use indexmap::IndexMap;
+use int_core::Allocated;
 use std::alloc::{AllocError, Global};
 use table_core::Value;
 
@@ -80,7 +81,7 @@ impl Permanents {
     }
 
     /// Adds a permanent. One that has a key keeps it. A refusal changes nothing.
-    pub fn add(&mut self, object: Permanent, key: PermanentKey) -> Result<(), AllocError>
+    pub fn add(&mut self, object: Permanent, key: PermanentKey) -> Allocated<()>
         ensures ok { OnOk result (permanents self.new ≡ cond (is_some (key_of (permanents self.old) (object_read object))) (permanents self.old) (permanents self.old ++ permanent (object, key) ∷ [])) }
         ensures err { OnErr result (permanents self.new ≡ permanents self.old) }
     {

@@ -9,8 +9,8 @@ ghost use Rattle.graph_core.specs.Walk.{MeetsFields, name_in, texts_in, value_fi
 use crate::object::{Object, Sort, meet};
 use crate::permanents::Permanents;
 use indexmap::IndexSet;
+use int_core::Allocated;
 use lua_heap::World;
-use std::alloc::AllocError;
 use table_core::{CellId, TableId, Value};
 
 /// What is the same for a whole walk.
@@ -24,7 +24,7 @@ pub(crate) struct Walk<'a> {
 
 impl Walk<'_> {
     /// A value is met.
-    pub(crate) fn meet(&self, seen: &mut IndexSet<Object>, value: Value) -> Result<(), AllocError>
+    pub(crate) fn meet(&self, seen: &mut IndexSet<Object>, value: Value) -> Allocated<()>
         ensures { OnOk result (MeetsFields self.now seen.old.keys seen.new.keys (value_field self.now value ∷ [])) }
     {
         match self.object_of(value) {
@@ -34,11 +34,7 @@ impl Walk<'_> {
     }
 
     /// Values are met.
-    pub(crate) fn meet_all(
-        &self,
-        seen: &mut IndexSet<Object>,
-        values: &[Value],
-    ) -> Result<(), AllocError>
+    pub(crate) fn meet_all(&self, seen: &mut IndexSet<Object>, values: &[Value]) -> Allocated<()>
         ensures { OnOk result (MeetsFields self.now seen.old.keys seen.new.keys (flat_map (λ v. value_field self.now v ∷ []) values.now)) }
     {
         for at in 0..values.len() {
@@ -48,11 +44,7 @@ impl Walk<'_> {
     }
 
     /// Cells are met.
-    pub(crate) fn meet_cells(
-        &self,
-        seen: &mut IndexSet<Object>,
-        cells: &[CellId],
-    ) -> Result<(), AllocError>
+    pub(crate) fn meet_cells(&self, seen: &mut IndexSet<Object>, cells: &[CellId]) -> Allocated<()>
         ensures { OnOk result (MeetsFields self.now seen.old.keys seen.new.keys (flat_map (λ c. of_cell c.0 ∷ []) cells.now)) }
     {
         for at in 0..cells.len() {

@@ -9,6 +9,7 @@ ghost use Rattle.image_made.specs.Making.{Makes, MakesAll, MakesCells, MakesErro
 
 use crate::place::{Place, cell_at, value_at};
 use image_records::{Item, Known, Named, Wait};
+use int_core::Allocated;
 use lua_heap::Strings;
 use lua_stack::Wait as Kept;
 use std::alloc::{AllocError, Global};
@@ -26,7 +27,7 @@ pub struct Maker<'m> {
 impl Maker<'_> {
     /// A value. Its string is there.
     #[tactic(auto, using(crate::proofs::Values::plain_made, crate::proofs::Values::numbered_made, crate::proofs::Values::permanent_made, crate::proofs::Values::environment_made))]
-    pub fn value(&self, strings: &Strings, item: Item<'_>) -> Result<Value, AllocError>
+    pub fn value(&self, strings: &Strings, item: Item<'_>) -> Allocated<Value>
         ensures { IfOk result (λ v. Makes self.now strings.now (item_shown item.entry) v) }
     {
         match item {
@@ -44,7 +45,7 @@ impl Maker<'_> {
     }
 
     /// Values.
-    pub fn values(&self, strings: &Strings, items: &[Item<'_>]) -> Result<Vec<Value>, AllocError>
+    pub fn values(&self, strings: &Strings, items: &[Item<'_>]) -> Allocated<Vec<Value>>
         ensures { IfOk result (λ vs. MakesAll self.now strings.now (map item_shown items.now) vs.items) }
     {
         let mut values = Vec::with_capacity(self.alloc, items.len())?;
@@ -61,7 +62,7 @@ impl Maker<'_> {
         &self,
         strings: &Strings,
         error: Option<Item<'_>>,
-    ) -> Result<Option<Value>, AllocError>
+    ) -> Allocated<Option<Value>>
         ensures { IfOk result (λ made. MakesError self.now strings.now (error_shown error.entry) made) }
     {
         match error {
@@ -74,7 +75,7 @@ impl Maker<'_> {
     }
 
     /// The cells that records become.
-    pub fn cells(&self, records: &[u32]) -> Result<Vec<CellId>, AllocError>
+    pub fn cells(&self, records: &[u32]) -> Allocated<Vec<CellId>>
         ensures { IfOk result (λ cells. MakesCells self.now records.now cells.items) }
     {
         let mut cells = Vec::with_capacity(self.alloc, records.len())?;
@@ -94,7 +95,7 @@ impl Maker<'_> {
         strings: &Strings,
         rows: &[(Item<'r>, Item<'r>)],
         metatable: Item<'_>,
-    ) -> Result<Table, AllocError>
+    ) -> Allocated<Table>
         ensures { IfOk result (λ table. MakesTable self.now strings.now (map row rows.now) (item_shown metatable.entry) table) }
     {
         let mut table = self.rows(strings, rows)?;
@@ -104,11 +105,7 @@ impl Maker<'_> {
     }
 
     /// A table with these rows. No two have one key.
-    fn rows<'r>(
-        &self,
-        strings: &Strings,
-        rows: &[(Item<'r>, Item<'r>)],
-    ) -> Result<Table, AllocError>
+    fn rows<'r>(&self, strings: &Strings, rows: &[(Item<'r>, Item<'r>)]) -> Allocated<Table>
         ensures { IfOk result (λ table. MakesRows self.now strings.now (map row rows.now) table) }
     {
         let mut table = Table::new(self.alloc);
@@ -121,11 +118,7 @@ impl Maker<'_> {
 
     /// A row.
     #[tactic(auto, using(crate::proofs::Values::row_made_is))]
-    fn row<'r>(
-        &self,
-        strings: &Strings,
-        pair: &(Item<'r>, Item<'r>),
-    ) -> Result<(Value, Value), AllocError>
+    fn row<'r>(&self, strings: &Strings, pair: &(Item<'r>, Item<'r>)) -> Allocated<(Value, Value)>
         ensures { IfOk result (λ made. MakesRow self.now strings.now (row pair.now) made) }
     {
         let key = self.value(strings, pair.0)?;
@@ -135,7 +128,7 @@ impl Maker<'_> {
 
     /// For what a frame waits.
     #[tactic(auto, using(crate::proofs::Values::wait_same))]
-    pub fn wait(&self, strings: &Strings, given: Wait<'_>) -> Result<Kept, AllocError>
+    pub fn wait(&self, strings: &Strings, given: Wait<'_>) -> Allocated<Kept>
         ensures { IfOk result (λ kept. MakesWait self.now strings.now (wait given.entry) kept) }
     {
         match given {
@@ -193,7 +186,7 @@ fn table_of(value: Value) -> Option<TableId>
 }
 
 /// Puts a row last, whose key is a new one and not nil.
-fn push_row(table: &mut Table, key: Value, value: Value) -> Result<(), AllocError>
+fn push_row(table: &mut Table, key: Value, value: Value) -> Allocated<()>
     ensures rows { OnOk result (table.new.rows ≡ table.old.rows ++ (key, value) ∷ []) }
     ensures metatable { table.new.metatable ≡ table.old.metatable }
 {

@@ -6,6 +6,7 @@ ghost use Rattle.lua_heap.specs.Reading.{value};
 ghost use Rattle.image_made.specs.Places.{ArePlaces, Numbers, Starts, value_in};
 
 use image_records::Record;
+use int_core::Allocated;
 use lua_heap::World;
 use std::alloc::AllocError;
 use table_core::{CellId, CoroId, FuncId, TableId, Value};
@@ -29,7 +30,7 @@ struct Next {
 }
 
 /// The objects that records become in a world, in the order of the records.
-pub fn places_of(world: &World, records: &[Record<'_>]) -> Result<Vec<Place>, AllocError>
+pub fn places_of(world: &World, records: &[Record<'_>]) -> Allocated<Vec<Place>>
     ensures { IfOk result (λ places. (T : Target) → Starts T world.now → ArePlaces T (map record_read records.now) places.items) }
 {
     let mut next = Next {
@@ -48,7 +49,7 @@ pub fn places_of(world: &World, records: &[Record<'_>]) -> Result<Vec<Place>, Al
 
 impl Next {
     /// The object that a record becomes; the next of its sort is another.
-    fn place(&mut self, given: &Record<'_>) -> Result<Place, AllocError>
+    fn place(&mut self, given: &Record<'_>) -> Allocated<Place>
         ensures { IfOk result (λ place. Numbers self.old self.new (record_read given.now) place) }
     {
         match given {
@@ -65,7 +66,7 @@ impl Next {
 }
 
 /// The next number. No memory holds more objects than there are numbers.
-fn take(next: &mut usize) -> Result<usize, AllocError>
+fn take(next: &mut usize) -> Allocated<usize>
     ensures number { IfOk result (λ number. number ≡ next.old) }
     ensures next { IfOk result (λ number. next.new ≡ next.old + 1) }
 {

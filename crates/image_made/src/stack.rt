@@ -9,6 +9,7 @@ ghost use Rattle.image_made.specs.Stacks.{HasFrame, HasRoom, MakesStack, Opens, 
 
 use crate::making::{Maker, number_at};
 use image_records::{Frame, Item, LuaFrame};
+use int_core::Allocated;
 use lua_heap::Strings;
 use lua_stack::{Shape, Stack};
 use std::alloc::AllocError;
@@ -32,7 +33,7 @@ impl Maker<'_> {
         frames: &[Frame<'_>],
         openings: &[Opening],
         from: usize,
-    ) -> Result<(Stack, usize), AllocError>
+    ) -> Allocated<(Stack, usize)>
         ensures { IfOk result (λ made. MakesStack self.now strings.now own openings.now from made.1 (map frame_shown frames.now) made.0) }
     {
         let mut stack = Stack::new(self.alloc);
@@ -51,7 +52,7 @@ impl Maker<'_> {
         strings: &Strings,
         stack: &mut Stack,
         frame: &Frame<'_>,
-    ) -> Result<usize, AllocError>
+    ) -> Allocated<usize>
         ensures { IfOk result (λ size. Pushes self.now strings.now (frame_shown frame.now) stack.old stack.new size) }
     {
         match frame {
@@ -86,7 +87,7 @@ impl Maker<'_> {
         stack: &mut Stack,
         error: Option<Item<'_>>,
         left: &[Item<'_>],
-    ) -> Result<(), AllocError>
+    ) -> Allocated<()>
         ensures { OnOk result (Pushes self.now strings.now (closing_item (error_shown error.entry) (map item_shown left.now)) stack.old stack.new 0) }
     {
         let left = self.values(strings, left)?;
@@ -96,12 +97,7 @@ impl Maker<'_> {
     }
 
     /// Puts a Lua function's frame on top: it takes its registers and its extra arguments as the arguments of a function with so many parameters.
-    fn push_lua(
-        &self,
-        strings: &Strings,
-        stack: &mut Stack,
-        frame: &LuaFrame<'_>,
-    ) -> Result<(), AllocError>
+    fn push_lua(&self, strings: &Strings, stack: &mut Stack, frame: &LuaFrame<'_>) -> Allocated<()>
         ensures { OnOk result (Pushes self.now strings.now (lua_item (lua_frame frame.now)) stack.old stack.new (length frame.now.registers.items)) }
     {
         let function = self.value(strings, frame.function)?;
@@ -122,7 +118,7 @@ fn enter(
     function: FuncId,
     registers: Vec<Value>,
     varargs: &[Value],
-) -> Result<(), AllocError>
+) -> Allocated<()>
     ensures { OnOk result (Puts stack.old stack.new (begun function registers.items varargs.now)) }
 {
     let size = registers.len();
@@ -154,7 +150,7 @@ fn function_of(value: Value) -> FuncId
 }
 
 /// Marks registers as those whose variables are to be closed. They are among the frame's.
-fn mark_all(stack: &mut Stack, pending: &[u32], size: usize) -> Result<(), AllocError>
+fn mark_all(stack: &mut Stack, pending: &[u32], size: usize) -> Allocated<()>
     requires { HasFrame stack.old size }
     ensures { OnOk result (TopBecomes stack.old stack.new (λ f t. with_pending (t.own.pending ++ pending.now) t)) }
 {
@@ -175,7 +171,7 @@ fn open_cells(
     openings: &[Opening],
     from: usize,
     size: usize,
-) -> Result<usize, AllocError>
+) -> Allocated<usize>
     requires room { HasRoom stack.old size }
     requires there { 0 < length stack.old.frames }
     ensures { IfOk result (λ at. OpensMore own openings.now from at stack.old stack.new) }
@@ -206,7 +202,7 @@ fn opening_at(openings: &[Opening], at: usize) -> Opening
 
 /// Opens a cell at a register of the frame on top, where there is none.
 #[tactic(auto, using(crate::proofs::Tops::one_register))]
-fn open_cell(stack: &mut Stack, opening: Opening, size: usize) -> Result<(), AllocError>
+fn open_cell(stack: &mut Stack, opening: Opening, size: usize) -> Allocated<()>
     requires { HasRoom stack.old size }
     ensures { OnOk result (Opens stack.old stack.new opening) }
 {

@@ -5,8 +5,8 @@ ghost use Rattle.tree_core.specs.Plain.{plain_stat};
 ghost use Rattle.scope_core.specs.Rules.{is_label, declares_variable, is_empty_or_label};
 ghost use Rattle.lua_scope.specs.Indexed.{IsIndexOf, IsEndFrom, declared_behind, found_in, label_of, or_first};
 
-use int_core::Bytes;
-use std::alloc::{AllocError, Global};
+use int_core::{Allocated, Bytes};
+use std::alloc::Global;
 use std::collections::HashMap;
 use tree_core::{Stat, StatNode};
 
@@ -68,10 +68,7 @@ fn declared_behind(stat: &Stat, declared: usize, behind: usize) -> usize
 }
 
 /// The first label of each name in statements.
-pub fn index_labels(
-    alloc: Global,
-    list: &Vec<Stat>,
-) -> Result<HashMap<Vec<u8>, LabelPlace>, AllocError>
+pub fn index_labels(alloc: Global, list: &Vec<Stat>) -> Allocated<HashMap<Vec<u8>, LabelPlace>>
     ensures { IfOk result (λ labels. IsIndexOf labels (map plain_stat list.now.items)) }
 {
     let mut labels = HashMap::new(alloc);
@@ -92,7 +89,7 @@ fn add_label(
     labels: &mut HashMap<Vec<u8>, LabelPlace>,
     stat: &Stat,
     place: LabelPlace,
-) -> Result<(), AllocError>
+) -> Allocated<()>
     ensures { OnOk result ((text : List ℕ) → found_in text labels.new ≡ or_first (found_in text labels.old) (is_label text (plain_stat stat.now)) place) }
 {
     match label_of(stat) {
@@ -110,7 +107,7 @@ fn add_name(
     labels: &mut HashMap<Vec<u8>, LabelPlace>,
     name: &Bytes,
     place: LabelPlace,
-) -> Result<(), AllocError>
+) -> Allocated<()>
     ensures { OnOk result ((text : List ℕ) → found_in text labels.new ≡ or_first (found_in text labels.old) (bytes_eq name.now text) place) }
 {
     if labels.contains_key(name.as_slice()) {

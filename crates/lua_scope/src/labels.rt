@@ -9,8 +9,8 @@ ghost use Rattle.lua_scope.specs.Blocks.{around_of, arounds, found_of, find_at, 
 ghost use Rattle.lua_scope.specs.Indexed.{first_label, IsEndFrom};
 
 use crate::index::{LabelPlace, declares_variable, end_from, index_labels, is_label};
-use int_core::Bytes;
-use std::alloc::{AllocError, Global};
+use int_core::{Allocated, Bytes};
+use std::alloc::Global;
 use std::collections::HashMap;
 use std::marker::Model;
 use tree_core::Stat;
@@ -68,11 +68,7 @@ impl<'a> Model for IndexedBlock<'a> {
 
 impl<'a> IndexedBlock<'a> {
     /// A block in which no place is taken yet.
-    pub fn new(
-        alloc: Global,
-        list: &'a Vec<Stat>,
-        ends_scope: bool,
-    ) -> Result<IndexedBlock<'a>, AllocError>
+    pub fn new(alloc: Global, list: &'a Vec<Stat>, ends_scope: bool) -> Allocated<IndexedBlock<'a>>
         ensures stats { IfOk result (λ block. block.stats.now.items ≡ list.now.items) }
         ensures ends { IfOk result (λ block. block.ends_scope ≡ ends_scope) }
     {

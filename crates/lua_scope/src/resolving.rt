@@ -5,8 +5,9 @@ ghost use Rattle.scope_core.specs.Answers.{IsResolved, IsFaultOf};
 ghost use Rattle.lua_scope.specs.Met.{met_body};
 
 use crate::walk::meet_body;
+use int_core::Allocated;
 use scope_core::{Least, Nesting, Resolved, ScopeFault, Violation, place};
-use std::alloc::{AllocError, Global};
+use std::alloc::Global;
 use tree_core::{Block, Body};
 
 /// Sets the place of the name of every variable in a source that keeps the static rules, and the
@@ -32,7 +33,7 @@ pub fn resolve(alloc: Global, block: Block) -> Result<Resolved, ScopeFault>
 }
 
 /// The least of the violations in a source whose places are set, where there is one.
-fn least_violation(alloc: Global, main: &Body) -> Result<Option<Violation>, AllocError>
+fn least_violation(alloc: Global, main: &Body) -> Allocated<Option<Violation>>
     ensures { IfOk result (λ least. least ≡ met_body [] None (plain_body main.now)) }
 {
     let mut nesting = Nesting::new(alloc);

@@ -10,9 +10,9 @@ ghost use Rattle.lua_scope.specs.Blocks.{scope_at};
 
 use crate::checks::{Flags, check_declared, check_held, check_stat, meet_where};
 use crate::labels::{IndexedBlock, move_to};
-use int_core::Bytes;
+use int_core::{Allocated, Bytes};
 use scope_core::{Least, Nesting, Variable, held_by, held_by_list};
-use std::alloc::{AllocError, Global};
+use std::alloc::Global;
 use tree_core::{Arm, Attrib, Block, Body, Declared, Exp, ExpNode, Field, Name, Stat, StatNode};
 
 /// Meets the violations in an expression.
@@ -24,7 +24,7 @@ fn meet_exp(
     is_vararg: bool,
     least: &mut Least,
     exp: &Exp,
-) -> Result<(), AllocError>
+) -> Allocated<()>
     ensures nesting { OnOk result (nesting.new ≡ nesting.old) }
     ensures met { OnOk result (least.new.violation ≡ met_exp nesting.old is_vararg least.old.violation (plain_exp exp.now)) }
 {
@@ -96,7 +96,7 @@ fn meet_exps(
     is_vararg: bool,
     least: &mut Least,
     list: &Vec<Exp>,
-) -> Result<(), AllocError>
+) -> Allocated<()>
     ensures nesting { OnOk result (nesting.new ≡ nesting.old) }
     ensures met { OnOk result (least.new.violation ≡ met_exps nesting.old is_vararg least.old.violation (exps (plain_exps list.now.items))) }
 {
@@ -114,7 +114,7 @@ fn meet_fields(
     is_vararg: bool,
     least: &mut Least,
     list: &Vec<Field>,
-) -> Result<(), AllocError>
+) -> Allocated<()>
     ensures nesting { OnOk result (nesting.new ≡ nesting.old) }
     ensures met { OnOk result (least.new.violation ≡ met_fields nesting.old is_vararg least.old.violation (fields (map plain_field list.now.items))) }
 {
@@ -132,7 +132,7 @@ fn meet_field(
     is_vararg: bool,
     least: &mut Least,
     field: &Field,
-) -> Result<(), AllocError>
+) -> Allocated<()>
     ensures nesting { OnOk result (nesting.new ≡ nesting.old) }
     ensures met { OnOk result (least.new.violation ≡ met_field nesting.old is_vararg least.old.violation (plain_field field.now)) }
 {
@@ -156,7 +156,7 @@ pub fn meet_body(
     alloc: Global,
     least: &mut Least,
     body: &Body,
-) -> Result<(), AllocError>
+) -> Allocated<()>
     ensures nesting { OnOk result (nesting.new ≡ nesting.old) }
     ensures met { OnOk result (least.new.violation ≡ met_body nesting.old least.old.violation (plain_body body.now)) }
 {
@@ -183,7 +183,7 @@ fn meet_block<'a>(
     least: &mut Least,
     block: &'a Block,
     ends_scope: bool,
-) -> Result<(), AllocError>
+) -> Allocated<()>
     ensures nesting { OnOk result (nesting.new ≡ behind nesting.old (plain_block block.now)) }
     ensures blocks { OnOk result (blocks.new.items ≡ blocks.old.items) }
     ensures met { OnOk result (least.new.violation ≡ met_block (scope_at nesting.old blocks.old.items flags) ends_scope least.old.violation (plain_block block.now)) }
@@ -220,7 +220,7 @@ fn meet_inner<'a>(
     blocks: &mut Vec<IndexedBlock<'a>>,
     least: &mut Least,
     block: &'a Block,
-) -> Result<(), AllocError>
+) -> Allocated<()>
     ensures nesting { OnOk result (nesting.new ≡ nesting.old) }
     ensures blocks { OnOk result (blocks.new.items ≡ blocks.old.items) }
     ensures met { OnOk result (least.new.violation ≡ met_block (scope_at nesting.old blocks.old.items flags) true least.old.violation (plain_block block.now)) }
@@ -241,7 +241,7 @@ fn meet_stats<'a>(
     least: &mut Least,
     list: &'a Vec<Stat>,
     ends_scope: bool,
-) -> Result<(), AllocError>
+) -> Allocated<()>
     ensures nesting { OnOk result (nesting.new ≡ behind_stats nesting.old (stats (map plain_stat list.now.items))) }
     ensures blocks { OnOk result (blocks.new.items ≡ blocks.old.items) }
     ensures met { OnOk result (least.new.violation ≡ met_stats (scope_at nesting.old blocks.old.items flags) [] ends_scope least.old.violation (stats (map plain_stat list.now.items))) }
@@ -268,7 +268,7 @@ fn meet_placed<'a>(
     blocks: &mut Vec<IndexedBlock<'a>>,
     least: &mut Least,
     stat: &'a Stat,
-) -> Result<(), AllocError>
+) -> Allocated<()>
     ensures nesting { OnOk result (nesting.new ≡ declare_all nesting.old (declared_by (plain_stat stat.now))) }
     ensures blocks { OnOk result (blocks.new.items ≡ blocks.old.items) }
     ensures met { OnOk result (least.new.violation ≡ met_stat (scope_at nesting.old blocks.old.items flags) (meet_all least.old.violation (part_violations (scope_at nesting.old blocks.old.items flags) (Statement (plain_stat stat.now)))) (plain_stat stat.now)) }
@@ -287,7 +287,7 @@ fn meet_arms<'a>(
     blocks: &mut Vec<IndexedBlock<'a>>,
     least: &mut Least,
     list: &'a Vec<Arm>,
-) -> Result<(), AllocError>
+) -> Allocated<()>
     ensures nesting { OnOk result (nesting.new ≡ nesting.old) }
     ensures blocks { OnOk result (blocks.new.items ≡ blocks.old.items) }
     ensures met { OnOk result (least.new.violation ≡ met_arms (scope_at nesting.old blocks.old.items flags) least.old.violation (arms (map plain_arm list.now.items))) }
@@ -307,7 +307,7 @@ fn meet_arm<'a>(
     blocks: &mut Vec<IndexedBlock<'a>>,
     least: &mut Least,
     arm: &'a Arm,
-) -> Result<(), AllocError>
+) -> Allocated<()>
     ensures nesting { OnOk result (nesting.new ≡ nesting.old) }
     ensures blocks { OnOk result (blocks.new.items ≡ blocks.old.items) }
     ensures met { OnOk result (least.new.violation ≡ met_arm (scope_at nesting.old blocks.old.items flags) least.old.violation (plain_arm arm.now)) }
@@ -327,7 +327,7 @@ fn meet_stat<'a>(
     blocks: &mut Vec<IndexedBlock<'a>>,
     least: &mut Least,
     stat: &'a Stat,
-) -> Result<(), AllocError>
+) -> Allocated<()>
     ensures nesting { OnOk result (nesting.new ≡ declare_all nesting.old (declared_by (plain_stat stat.now))) }
     ensures blocks { OnOk result (blocks.new.items ≡ blocks.old.items) }
     ensures met { OnOk result (least.new.violation ≡ met_stat (scope_at nesting.old blocks.old.items flags) least.old.violation (plain_stat stat.now)) }
@@ -426,7 +426,7 @@ fn meet_counted<'a>(
     name: &Name,
     block: &'a Block,
     line: u32,
-) -> Result<(), AllocError>
+) -> Allocated<()>
     ensures nesting { OnOk result (nesting.new ≡ nesting.old) }
     ensures blocks { OnOk result (blocks.new.items ≡ blocks.old.items) }
     ensures met { OnOk result (least.new.violation ≡ met_for (scope_at nesting.old blocks.old.items flags) numeric_hidden line (name.now ∷ []) least.old.violation (plain_block block.now)) }
@@ -451,7 +451,7 @@ fn meet_iterated<'a>(
     names: &Vec<Name>,
     block: &'a Block,
     line: u32,
-) -> Result<(), AllocError>
+) -> Allocated<()>
     ensures nesting { OnOk result (nesting.new ≡ nesting.old) }
     ensures blocks { OnOk result (blocks.new.items ≡ blocks.old.items) }
     ensures met { OnOk result (least.new.violation ≡ met_for (scope_at nesting.old blocks.old.items flags) generic_hidden line names.now.items least.old.violation (plain_block block.now)) }
@@ -471,7 +471,7 @@ fn declare_name(
     alloc: Global,
     least: &mut Least,
     name: &Name,
-) -> Result<(), AllocError>
+) -> Allocated<()>
     ensures nesting { OnOk result (nesting.new ≡ declare nesting.old (plain_variable name.now)) }
     ensures met { OnOk result (least.new.violation ≡ met_declared (declare nesting.old (plain_variable name.now)) least.old.violation name.now.line) }
 {
@@ -487,7 +487,7 @@ fn declare_names(
     alloc: Global,
     least: &mut Least,
     names: &Vec<Name>,
-) -> Result<(), AllocError>
+) -> Allocated<()>
     ensures nesting { OnOk result (nesting.new ≡ declare_all nesting.old (map plain_variable names.now.items)) }
     ensures met { OnOk result (least.new.violation ≡ met_names nesting.old least.old.violation names.now.items) }
 {
@@ -503,7 +503,7 @@ fn declare_locals(
     alloc: Global,
     least: &mut Least,
     names: &Vec<Declared>,
-) -> Result<(), AllocError>
+) -> Allocated<()>
     ensures nesting { OnOk result (nesting.new ≡ declare_all nesting.old (map declared_variable names.now.items)) }
     ensures met { OnOk result (least.new.violation ≡ met_declarations nesting.old least.old.violation names.now.items) }
 {
@@ -519,7 +519,7 @@ fn declare_local(
     alloc: Global,
     least: &mut Least,
     declared: &Declared,
-) -> Result<(), AllocError>
+) -> Allocated<()>
     ensures nesting { OnOk result (nesting.new ≡ declare nesting.old (declared_variable declared.now)) }
     ensures met { OnOk result (least.new.violation ≡ met_declared (declare nesting.old (declared_variable declared.now)) least.old.violation declared.now.name.line) }
 {

@@ -5,8 +5,8 @@ ghost use Rattle.scope_core.specs.Places.{as_byte};
 ghost use Rattle.scope_core.specs.Reaching.{source_in, up_name_at, captured_at, local_place, global_place_at};
 
 use crate::variable::Variable;
-use int_core::Bytes;
-use std::alloc::{AllocError, Global};
+use int_core::{Allocated, Bytes};
+use std::alloc::Global;
 use std::marker::Model;
 use tree_core::{Place, UpName};
 
@@ -85,7 +85,7 @@ impl FunctionScope {
     }
 
     /// Brings a variable into scope.
-    pub fn declare(&mut self, variable: Variable) -> Result<(), AllocError>
+    pub fn declare(&mut self, variable: Variable) -> Allocated<()>
         ensures declared { OnOk result (self.new.variables ≡ variable ∷ self.old.variables) }
         ensures upvalues { self.new.upvalues ≡ self.old.upvalues }
     {
@@ -165,7 +165,7 @@ impl FunctionScope {
 
     /// Makes an upvalue of a variable that it has not, and answers where a function within it
     /// finds it.
-    pub fn capture(&mut self, name: Bytes, source: Source) -> Result<Source, AllocError>
+    pub fn capture(&mut self, name: Bytes, source: Source) -> Allocated<Source>
         ensures captured { IfOk result (λ inner. (self.new.upvalues ≡ self.old.upvalues ++ up_name_at name source ∷ []) × (inner ≡ captured_at (length self.old.upvalues))) }
         ensures variables { self.new.variables ≡ self.old.variables }
     {

@@ -5,8 +5,8 @@ ghost use Rattle.scope_core.specs.Scopes.{is_variable, needed};
 ghost use Rattle.scope_core.specs.Reaching.{reached, up_name_at};
 
 use crate::frame::{FunctionScope, Source};
-use int_core::Bytes;
-use std::alloc::{AllocError, Global};
+use int_core::{Allocated, Bytes};
+use std::alloc::Global;
 use tree_core::Place;
 
 /// The functions around a place, the outermost first.
@@ -18,7 +18,7 @@ pub struct Functions {
 
 impl Functions {
     /// Finds the variable that a name in the last function needs, and answers the name's place.
-    pub fn place(&mut self, alloc: Global, name: &Bytes) -> Result<Place, AllocError>
+    pub fn place(&mut self, alloc: Global, name: &Bytes) -> Allocated<Place>
         ensures len { length self.new.scopes.items ≡ length self.old.scopes.items }
         ensures reached { OnOk result (reverse self.new.scopes.items ≡ reached (reverse self.old.scopes.items) (needed name.now (reverse self.old.scopes.items))) }
         ensures place { IfOk result (λ place. place ≡ place_of name.now (reverse self.new.scopes.items)) }
@@ -50,7 +50,7 @@ impl Functions {
 
     /// Makes a variable an upvalue of each of the first functions that needs it where the last of
     /// them names it, and answers where a function within that one finds it.
-    pub fn reach(&mut self, alloc: Global, count: usize, name: &Bytes) -> Result<Source, AllocError>
+    pub fn reach(&mut self, alloc: Global, count: usize, name: &Bytes) -> Allocated<Source>
         requires { count ≤ length self.old.scopes.items }
         ensures len { length self.new.scopes.items ≡ length self.old.scopes.items }
         ensures inner { drop count self.new.scopes.items ≡ drop count self.old.scopes.items }

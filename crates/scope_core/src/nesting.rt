@@ -7,8 +7,8 @@ ghost use Rattle.scope_core.specs.Walked.{own_variables, own_upvalues, kept, ent
 use crate::frame::{FunctionScope, Source, as_byte};
 use crate::functions::Functions;
 use crate::variable::Variable;
-use int_core::Bytes;
-use std::alloc::{AllocError, Global};
+use int_core::{Allocated, Bytes};
+use std::alloc::Global;
 use std::marker::Model;
 use tree_core::{Place, UpName};
 
@@ -40,7 +40,7 @@ impl Nesting {
     }
 
     /// The main function, which has the one upvalue `_ENV`.
-    pub fn main(alloc: Global) -> Result<Nesting, AllocError>
+    pub fn main(alloc: Global) -> Allocated<Nesting>
         ensures { IfOk result (λ nesting. nesting ≡ main_frames) }
     {
         let mut scope = FunctionScope::new(alloc);
@@ -57,7 +57,7 @@ impl Nesting {
     }
 
     /// Goes into a function, which has no variables yet.
-    pub fn enter(&mut self, alloc: Global) -> Result<(), AllocError>
+    pub fn enter(&mut self, alloc: Global) -> Allocated<()>
         ensures { OnOk result (self.new ≡ entered self.old) }
     {
         self.functions.scopes.push(FunctionScope::new(alloc))?;
@@ -76,7 +76,7 @@ impl Nesting {
     }
 
     /// Sets the place of a name, for which the functions around get the upvalues that it needs.
-    pub fn name(&mut self, alloc: Global, text: &Bytes) -> Result<Place, AllocError>
+    pub fn name(&mut self, alloc: Global, text: &Bytes) -> Allocated<Place>
         ensures named { OnOk result (self.new ≡ named text.now self.old) }
         ensures place { IfOk result (λ place. place ≡ place_of text.now self.new) }
     {
@@ -99,7 +99,7 @@ impl Nesting {
     }
 
     /// Brings a variable into scope.
-    pub fn declare(&mut self, variable: Variable) -> Result<(), AllocError>
+    pub fn declare(&mut self, variable: Variable) -> Allocated<()>
         ensures { OnOk result (self.new ≡ declare self.old variable) }
     {
         let count = self.functions.scopes.len();
@@ -111,7 +111,7 @@ impl Nesting {
     }
 
     /// Brings the three hidden variables of a numeric `for` into scope.
-    pub fn hide_numeric(&mut self) -> Result<(), AllocError>
+    pub fn hide_numeric(&mut self) -> Allocated<()>
         ensures { OnOk result (self.new ≡ declare_all self.old numeric_hidden) }
     {
         self.declare(Variable::Hidden)?;
@@ -120,7 +120,7 @@ impl Nesting {
     }
 
     /// Brings the four hidden variables of a generic `for` into scope.
-    pub fn hide_generic(&mut self) -> Result<(), AllocError>
+    pub fn hide_generic(&mut self) -> Allocated<()>
         ensures { OnOk result (self.new ≡ declare_all self.old generic_hidden) }
     {
         self.hide_numeric()?;

@@ -5,15 +5,15 @@ ghost use Rattle.scope_core.specs.Places.{placed};
 
 use crate::nesting::Nesting;
 use crate::placing::place_block;
-use int_core::Bytes;
-use std::alloc::{AllocError, Global};
+use int_core::{Allocated, Bytes};
+use std::alloc::Global;
 use tree_core::{Block, Body, UpName};
 
 /// Sets the place of the name of every variable in a source, and the upvalues of every function
 /// in the order in which it or a function within it first names them (Lua 5.4 manual, 2.2, 3.3.5
 /// and 3.5). The source becomes the body of the main function, which takes `...` and has the one
 /// upvalue `_ENV`. The only error is that the memory is not there; the source is then given up.
-pub fn place(alloc: Global, block: Block) -> Result<Body, AllocError>
+pub fn place(alloc: Global, block: Block) -> Allocated<Body>
     ensures { IfOk result (λ main. plain_body main ≡ placed (plain_block block)) }
 {
     let mut block = block;

@@ -9,8 +9,8 @@ ghost use Rattle.scope_core.specs.Walked.{ended, kept, after_exp, after_exps, af
 
 use crate::nesting::Nesting;
 use crate::variable::Variable;
-use int_core::Bytes;
-use std::alloc::{AllocError, Global};
+use int_core::{Allocated, Bytes};
+use std::alloc::Global;
 use tree_core::{
     Arm, Attrib, Block, Body, Declared, Exp, ExpNode, Field, Name, Place, Stat, StatNode,
 };
@@ -18,7 +18,7 @@ use tree_core::{
 /// Sets the places in an expression.
 #[cycle(placing)]
 #[tactic(auto, using(tree_core::proofs::Rows::exps_of, tree_core::proofs::Rows::fields_of, tree_core::proofs::Rows::arms_of))]
-fn place_exp(nesting: &mut Nesting, alloc: Global, exp: &mut Exp) -> Result<(), AllocError>
+fn place_exp(nesting: &mut Nesting, alloc: Global, exp: &mut Exp) -> Allocated<()>
     ensures after { OnOk result (nesting.new ≡ after_exp nesting.old (plain_exp exp.old)) }
     ensures settled { OnOk result (plain_exp exp.new ≡ settled_exp nesting.old (plain_exp exp.old)) }
 {
@@ -71,7 +71,7 @@ fn place_exp(nesting: &mut Nesting, alloc: Global, exp: &mut Exp) -> Result<(), 
 
 /// Sets the places in a list of expressions.
 #[cycle(placing)]
-fn place_exps(nesting: &mut Nesting, alloc: Global, list: &mut Vec<Exp>) -> Result<(), AllocError>
+fn place_exps(nesting: &mut Nesting, alloc: Global, list: &mut Vec<Exp>) -> Allocated<()>
     ensures after { OnOk result (nesting.new ≡ after_exps nesting.old (exps (plain_exps list.old.items))) }
     ensures settled { OnOk result (exps (plain_exps list.new.items) ≡ settled_exps nesting.old (exps (plain_exps list.old.items))) }
 {
@@ -83,11 +83,7 @@ fn place_exps(nesting: &mut Nesting, alloc: Global, list: &mut Vec<Exp>) -> Resu
 
 /// Sets the places in the fields of a table.
 #[cycle(placing)]
-fn place_fields(
-    nesting: &mut Nesting,
-    alloc: Global,
-    list: &mut Vec<Field>,
-) -> Result<(), AllocError>
+fn place_fields(nesting: &mut Nesting, alloc: Global, list: &mut Vec<Field>) -> Allocated<()>
     ensures after { OnOk result (nesting.new ≡ after_fields nesting.old (fields (map plain_field list.old.items))) }
     ensures settled { OnOk result (fields (map plain_field list.new.items) ≡ settled_fields nesting.old (fields (map plain_field list.old.items))) }
 {
@@ -99,7 +95,7 @@ fn place_fields(
 
 /// Sets the places in a field.
 #[cycle(placing)]
-fn place_field(nesting: &mut Nesting, alloc: Global, field: &mut Field) -> Result<(), AllocError>
+fn place_field(nesting: &mut Nesting, alloc: Global, field: &mut Field) -> Allocated<()>
     ensures after { OnOk result (nesting.new ≡ after_field nesting.old (plain_field field.old)) }
     ensures settled { OnOk result (plain_field field.new ≡ settled_field nesting.old (plain_field field.old)) }
 {
@@ -114,7 +110,7 @@ fn place_field(nesting: &mut Nesting, alloc: Global, field: &mut Field) -> Resul
 
 /// Sets the places in a function, and its upvalues.
 #[cycle(placing)]
-fn place_body(nesting: &mut Nesting, alloc: Global, body: &mut Body) -> Result<(), AllocError>
+fn place_body(nesting: &mut Nesting, alloc: Global, body: &mut Body) -> Allocated<()>
     ensures after { OnOk result (nesting.new ≡ after_body nesting.old (plain_body body.old)) }
     ensures settled { OnOk result (plain_body body.new ≡ settled_body nesting.old (plain_body body.old)) }
 {
@@ -127,11 +123,7 @@ fn place_body(nesting: &mut Nesting, alloc: Global, body: &mut Body) -> Result<(
 
 /// Sets the places in a block, whose variables stay in scope.
 #[cycle(placing)]
-pub fn place_block(
-    nesting: &mut Nesting,
-    alloc: Global,
-    block: &mut Block,
-) -> Result<(), AllocError>
+pub fn place_block(nesting: &mut Nesting, alloc: Global, block: &mut Block) -> Allocated<()>
     ensures after { OnOk result (nesting.new ≡ after_open nesting.old (plain_block block.old)) }
     ensures settled { OnOk result (plain_block block.new ≡ settled_block nesting.old (plain_block block.old)) }
 {
@@ -148,7 +140,7 @@ pub fn place_block(
 
 /// Sets the places in a block, with which the scope of its variables ends.
 #[cycle(placing)]
-fn place_inner(nesting: &mut Nesting, alloc: Global, block: &mut Block) -> Result<(), AllocError>
+fn place_inner(nesting: &mut Nesting, alloc: Global, block: &mut Block) -> Allocated<()>
     ensures after { OnOk result (nesting.new ≡ ended nesting.old (after_open nesting.old (plain_block block.old))) }
     ensures settled { OnOk result (plain_block block.new ≡ settled_block nesting.old (plain_block block.old)) }
 {
@@ -160,7 +152,7 @@ fn place_inner(nesting: &mut Nesting, alloc: Global, block: &mut Block) -> Resul
 
 /// Sets the places in statements, behind which their variables are in scope.
 #[cycle(placing)]
-fn place_stats(nesting: &mut Nesting, alloc: Global, list: &mut Vec<Stat>) -> Result<(), AllocError>
+fn place_stats(nesting: &mut Nesting, alloc: Global, list: &mut Vec<Stat>) -> Allocated<()>
     ensures after { OnOk result (nesting.new ≡ after_stats nesting.old (stats (map plain_stat list.old.items))) }
     ensures settled { OnOk result (stats (map plain_stat list.new.items) ≡ settled_stats nesting.old (stats (map plain_stat list.old.items))) }
 {
@@ -172,7 +164,7 @@ fn place_stats(nesting: &mut Nesting, alloc: Global, list: &mut Vec<Stat>) -> Re
 
 /// Sets the places in the tests and blocks of an `if`.
 #[cycle(placing)]
-fn place_arms(nesting: &mut Nesting, alloc: Global, list: &mut Vec<Arm>) -> Result<(), AllocError>
+fn place_arms(nesting: &mut Nesting, alloc: Global, list: &mut Vec<Arm>) -> Allocated<()>
     ensures after { OnOk result (nesting.new ≡ after_arms nesting.old (arms (map plain_arm list.old.items))) }
     ensures settled { OnOk result (arms (map plain_arm list.new.items) ≡ settled_arms nesting.old (arms (map plain_arm list.old.items))) }
 {
@@ -184,7 +176,7 @@ fn place_arms(nesting: &mut Nesting, alloc: Global, list: &mut Vec<Arm>) -> Resu
 
 /// Sets the places in a test and its block.
 #[cycle(placing)]
-fn place_arm(nesting: &mut Nesting, alloc: Global, arm: &mut Arm) -> Result<(), AllocError>
+fn place_arm(nesting: &mut Nesting, alloc: Global, arm: &mut Arm) -> Allocated<()>
     ensures after { OnOk result (nesting.new ≡ after_arm nesting.old (plain_arm arm.old)) }
     ensures settled { OnOk result (plain_arm arm.new ≡ settled_arm nesting.old (plain_arm arm.old)) }
 {
@@ -196,7 +188,7 @@ fn place_arm(nesting: &mut Nesting, alloc: Global, arm: &mut Arm) -> Result<(), 
 /// Sets the places in a statement, behind which its variables are in scope.
 #[cycle(placing)]
 #[tactic(auto, using(tree_core::proofs::Rows::exps_of, tree_core::proofs::Rows::fields_of, tree_core::proofs::Rows::arms_of))]
-fn place_stat(nesting: &mut Nesting, alloc: Global, stat: &mut Stat) -> Result<(), AllocError>
+fn place_stat(nesting: &mut Nesting, alloc: Global, stat: &mut Stat) -> Allocated<()>
     ensures after { OnOk result (nesting.new ≡ after_stat nesting.old (plain_stat stat.old)) }
     ensures settled { OnOk result (plain_stat stat.new ≡ settled_stat nesting.old (plain_stat stat.old)) }
 {
@@ -276,7 +268,7 @@ fn place_counted(
     count: usize,
     name: &mut Name,
     block: &mut Block,
-) -> Result<(), AllocError>
+) -> Allocated<()>
     ensures after { OnOk result (nesting.new ≡ kept count (after_open (declare (declare_all nesting.old numeric_hidden) (plain_variable name.old)) (plain_block block.old))) }
     ensures name { OnOk result (name.new ≡ first_placed (declare_all nesting.old numeric_hidden) name.old) }
     ensures settled { OnOk result (plain_block block.new ≡ settled_block (declare (declare_all nesting.old numeric_hidden) (plain_variable name.old)) (plain_block block.old)) }
@@ -289,7 +281,7 @@ fn place_counted(
 }
 
 /// Brings a variable into scope, and sets its place.
-fn declare_name(nesting: &mut Nesting, alloc: Global, name: &mut Name) -> Result<(), AllocError>
+fn declare_name(nesting: &mut Nesting, alloc: Global, name: &mut Name) -> Allocated<()>
     ensures after { OnOk result (nesting.new ≡ declare nesting.old (plain_variable name.old)) }
     ensures placed { OnOk result (name.new ≡ first_placed nesting.old name.old) }
 {
@@ -299,11 +291,7 @@ fn declare_name(nesting: &mut Nesting, alloc: Global, name: &mut Name) -> Result
 }
 
 /// Brings variables into scope one after the other, and sets their places.
-fn declare_names(
-    nesting: &mut Nesting,
-    alloc: Global,
-    names: &mut Vec<Name>,
-) -> Result<(), AllocError>
+fn declare_names(nesting: &mut Nesting, alloc: Global, names: &mut Vec<Name>) -> Allocated<()>
     ensures after { OnOk result (nesting.new ≡ declare_all nesting.old (map plain_variable names.old.items)) }
     ensures placed { OnOk result (names.new.items ≡ placed_names nesting.old names.old.items) }
 {
@@ -314,11 +302,7 @@ fn declare_names(
 }
 
 /// Brings the variables of a `local` into scope one after the other, and sets their places.
-fn declare_locals(
-    nesting: &mut Nesting,
-    alloc: Global,
-    names: &mut Vec<Declared>,
-) -> Result<(), AllocError>
+fn declare_locals(nesting: &mut Nesting, alloc: Global, names: &mut Vec<Declared>) -> Allocated<()>
     ensures after { OnOk result (nesting.new ≡ declare_all nesting.old (map declared_variable names.old.items)) }
     ensures placed { OnOk result (names.new.items ≡ placed_declared nesting.old names.old.items) }
 {
@@ -329,11 +313,7 @@ fn declare_locals(
 }
 
 /// Brings a variable of a `local` into scope, and sets its place.
-fn declare_local(
-    nesting: &mut Nesting,
-    alloc: Global,
-    declared: &mut Declared,
-) -> Result<(), AllocError>
+fn declare_local(nesting: &mut Nesting, alloc: Global, declared: &mut Declared) -> Allocated<()>
     ensures after { OnOk result (nesting.new ≡ declare nesting.old (declared_variable declared.old)) }
     ensures placed { OnOk result (declared.new ≡ local_placed nesting.old declared.old) }
 {

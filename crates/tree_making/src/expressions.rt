@@ -8,12 +8,12 @@ ghost use Rattle.tree_making.specs.Made.{plain_boxed, IsMade, above, key_of, joi
 use crate::lists::one_exp;
 use crate::operator::Infix;
 use crate::part::Found;
-use int_core::Bytes;
-use std::alloc::{AllocError, Global};
+use int_core::{Allocated, Bytes};
+use std::alloc::Global;
 use tree_core::{Body, Exp, ExpNode, Field, Name, UnOp};
 
 /// An expression with this many levels.
-fn exp(alloc: Global, line: u32, node: ExpNode, height: u32) -> Result<Found<Box<Exp>>, AllocError>
+fn exp(alloc: Global, line: u32, node: ExpNode, height: u32) -> Allocated<Found<Box<Exp>>>
     ensures node { IfOk result (λ made. made.node.value ≡ record { line = line; node = node }) }
     ensures levels { IfOk result (λ made. made.height ≡ height) }
 {
@@ -22,7 +22,7 @@ fn exp(alloc: Global, line: u32, node: ExpNode, height: u32) -> Result<Found<Box
 }
 
 /// A string.
-pub fn string(alloc: Global, line: u32, bytes: Bytes) -> Result<Found<Box<Exp>>, AllocError>
+pub fn string(alloc: Global, line: u32, bytes: Bytes) -> Allocated<Found<Box<Exp>>>
     ensures { IfOk result (λ made. IsMade plain_boxed made (tree.Str line bytes) 0) }
 {
     exp(alloc, line, ExpNode::Str(bytes), 0)
@@ -34,7 +34,7 @@ pub fn unary(
     line: u32,
     operator: UnOp,
     operand: Found<Box<Exp>>,
-) -> Result<Found<Box<Exp>>, AllocError>
+) -> Allocated<Found<Box<Exp>>>
     requires { operand.height < 1000 }
     ensures { IfOk result (λ made. IsMade plain_boxed made (tree.Unary line operator (plain_boxed operand.node)) (operand.height + 1)) }
 {
@@ -50,7 +50,7 @@ pub fn infix(
     operator: Infix,
     left: Found<Box<Exp>>,
     right: Found<Box<Exp>>,
-) -> Result<Found<Box<Exp>>, AllocError>
+) -> Allocated<Found<Box<Exp>>>
     requires low { left.height < 1000 }
     requires right_low { right.height < 1000 }
     ensures { IfOk result (λ made. IsMade plain_boxed made (joined operator line (plain_boxed left.node) (plain_boxed right.node)) (above left.height right.height)) }
@@ -65,7 +65,7 @@ pub fn infix(
 }
 
 /// A function as an expression.
-pub fn function(alloc: Global, line: u32, body: Found<Body>) -> Result<Found<Box<Exp>>, AllocError>
+pub fn function(alloc: Global, line: u32, body: Found<Body>) -> Allocated<Found<Box<Exp>>>
     ensures { IfOk result (λ made. IsMade plain_boxed made (tree.Function line (plain_body body.node)) body.height) }
 {
     let node = ExpNode::Function(Box::new(alloc, body.node)?);
@@ -73,11 +73,7 @@ pub fn function(alloc: Global, line: u32, body: Found<Body>) -> Result<Found<Box
 }
 
 /// A table whose fields lie one level deeper.
-pub fn table(
-    alloc: Global,
-    line: u32,
-    fields: Found<Vec<Field>>,
-) -> Result<Found<Box<Exp>>, AllocError>
+pub fn table(alloc: Global, line: u32, fields: Found<Vec<Field>>) -> Allocated<Found<Box<Exp>>>
     requires { fields.height < 1000 }
     ensures { IfOk result (λ made. IsMade plain_boxed made (tree.Table line (tree.fields (map plain_field fields.node.items))) (fields.height + 1)) }
 {
@@ -89,7 +85,7 @@ pub fn table_argument(
     alloc: Global,
     line: u32,
     fields: Found<Vec<Field>>,
-) -> Result<Found<Vec<Exp>>, AllocError>
+) -> Allocated<Found<Vec<Exp>>>
     ensures { IfOk result (λ made. IsMade all_plain made (tree.Table line (tree.fields (map plain_field fields.node.items)) ∷ []) fields.height) }
 {
     one_exp(
@@ -99,18 +95,14 @@ pub fn table_argument(
 }
 
 /// A variable.
-pub fn variable(alloc: Global, name: Name) -> Result<Found<Box<Exp>>, AllocError>
+pub fn variable(alloc: Global, name: Name) -> Allocated<Found<Box<Exp>>>
     ensures { IfOk result (λ made. IsMade plain_boxed made (tree.Var name.line name) 0) }
 {
     exp(alloc, name.line, ExpNode::Var(name), 0)
 }
 
 /// An expression in parentheses.
-pub fn paren(
-    alloc: Global,
-    line: u32,
-    inner: Found<Box<Exp>>,
-) -> Result<Found<Box<Exp>>, AllocError>
+pub fn paren(alloc: Global, line: u32, inner: Found<Box<Exp>>) -> Allocated<Found<Box<Exp>>>
     requires { inner.height < 1000 }
     ensures { IfOk result (λ made. IsMade plain_boxed made (tree.Paren line (plain_boxed inner.node)) (inner.height + 1)) }
 {
@@ -125,7 +117,7 @@ pub fn index(
     line: u32,
     indexed: Found<Box<Exp>>,
     key: Found<Box<Exp>>,
-) -> Result<Found<Box<Exp>>, AllocError>
+) -> Allocated<Found<Box<Exp>>>
     requires low { indexed.height < 1000 }
     requires key_low { key.height < 1000 }
     ensures { IfOk result (λ made. IsMade plain_boxed made (tree.Index line (plain_boxed indexed.node) (plain_boxed key.node)) (above indexed.height key.height)) }
@@ -141,7 +133,7 @@ pub fn dotted(
     line: u32,
     indexed: Found<Box<Exp>>,
     name: Name,
-) -> Result<Found<Box<Exp>>, AllocError>
+) -> Allocated<Found<Box<Exp>>>
     requires { indexed.height < 1000 }
     ensures { IfOk result (λ made. IsMade plain_boxed made (tree.Index line (plain_boxed indexed.node) (key_of name)) (indexed.height + 1)) }
 {
@@ -156,7 +148,7 @@ pub fn call(
     line: u32,
     called: Found<Box<Exp>>,
     arguments: Found<Vec<Exp>>,
-) -> Result<Found<Box<Exp>>, AllocError>
+) -> Allocated<Found<Box<Exp>>>
     requires low { called.height < 1000 }
     requires arguments_low { arguments.height < 1000 }
     ensures { IfOk result (λ made. IsMade plain_boxed made (tree.Call line (plain_boxed called.node) (tree.exps (plain_exps arguments.node.items))) (above called.height arguments.height)) }
@@ -173,7 +165,7 @@ pub fn method(
     object: Found<Box<Exp>>,
     name: Name,
     arguments: Found<Vec<Exp>>,
-) -> Result<Found<Box<Exp>>, AllocError>
+) -> Allocated<Found<Box<Exp>>>
     requires low { object.height < 1000 }
     requires arguments_low { arguments.height < 1000 }
     ensures { IfOk result (λ made. IsMade plain_boxed made (tree.Method line (plain_boxed object.node) name (tree.exps (plain_exps arguments.node.items))) (above object.height arguments.height)) }

@@ -6,11 +6,12 @@ ghost use Rattle.tree_core.specs.Plain.{plain_exp, plain_exps, plain_field, plai
 ghost use Rattle.tree_making.specs.Made.{plain_boxed, IsMade, above, key_of, joined, plain_items, all_plain, all_arms, all_fields, all_stats};
 
 use crate::part::Found;
-use std::alloc::{AllocError, Global};
+use int_core::Allocated;
+use std::alloc::Global;
 use tree_core::{Arm, Exp, Field, Stat};
 
 /// A list with one item more.
-pub fn more<T: Drop>(mut list: Found<Vec<T>>, item: Found<T>) -> Result<Found<Vec<T>>, AllocError>
+pub fn more<T: Drop>(mut list: Found<Vec<T>>, item: Found<T>) -> Allocated<Found<Vec<T>>>
     ensures items { IfOk result (λ made. made.node.items ≡ list.node.items ++ item.node ∷ []) }
     ensures levels { IfOk result (λ made. made.height ≡ max list.height item.height) }
 {
@@ -20,10 +21,7 @@ pub fn more<T: Drop>(mut list: Found<Vec<T>>, item: Found<T>) -> Result<Found<Ve
 }
 
 /// A list with one expression more.
-pub fn more_exps(
-    mut list: Found<Vec<Exp>>,
-    item: Found<Box<Exp>>,
-) -> Result<Found<Vec<Exp>>, AllocError>
+pub fn more_exps(mut list: Found<Vec<Exp>>, item: Found<Box<Exp>>) -> Allocated<Found<Vec<Exp>>>
     ensures items { IfOk result (λ made. made.node.items ≡ list.node.items ++ item.node.value ∷ []) }
     ensures levels { IfOk result (λ made. made.height ≡ max list.height item.height) }
 {
@@ -33,7 +31,7 @@ pub fn more_exps(
 }
 
 /// A list of one expression.
-pub fn one_exp(alloc: Global, item: Found<Box<Exp>>) -> Result<Found<Vec<Exp>>, AllocError>
+pub fn one_exp(alloc: Global, item: Found<Box<Exp>>) -> Allocated<Found<Vec<Exp>>>
     ensures { IfOk result (λ made. IsMade all_plain made (plain_boxed item.node ∷ []) item.height) }
 {
     // Most lists have one expression and never grow.
@@ -76,7 +74,7 @@ pub fn no_stats(alloc: Global) -> Found<Vec<Stat>>
 }
 
 /// A list of one test and its block.
-pub fn one_arm(alloc: Global, item: Found<Arm>) -> Result<Found<Vec<Arm>>, AllocError>
+pub fn one_arm(alloc: Global, item: Found<Arm>) -> Allocated<Found<Vec<Arm>>>
     ensures { IfOk result (λ made. IsMade all_arms made (plain_arm item.node ∷ []) item.height) }
 {
     let mut items = Vec::with_capacity(alloc, 1)?;

@@ -8,7 +8,8 @@ ghost use Rattle.tree_making.specs.Made.{plain_boxed, IsMade, above, key_of, joi
 use crate::expressions::function;
 use crate::lists::one_exp;
 use crate::part::{Found, Range};
-use std::alloc::{AllocError, Global};
+use int_core::Allocated;
+use std::alloc::Global;
 use tree_core::{Arm, Block, Body, Declared, Exp, Name, Stat, StatNode};
 
 /// A statement with this many levels.
@@ -50,7 +51,7 @@ pub fn function_stat(
     line: u32,
     target: Found<Box<Exp>>,
     body: Found<Body>,
-) -> Result<Found<Stat>, AllocError>
+) -> Allocated<Found<Stat>>
     ensures { IfOk result (λ made. IsMade plain_stat made (tree.Assign line (tree.exps (plain_boxed target.node ∷ [])) (tree.exps (tree.Function line (plain_body body.node) ∷ []))) (max target.height body.height)) }
 {
     let targets = one_exp(alloc, target)?;
@@ -72,7 +73,7 @@ pub fn local_function(
     line: u32,
     name: Name,
     body: Found<Body>,
-) -> Result<Found<Stat>, AllocError>
+) -> Allocated<Found<Stat>>
     ensures { IfOk result (λ made. IsMade plain_stat made (tree.LocalFunction line name (plain_body body.node)) body.height) }
 {
     let node = StatNode::LocalFunction(name, Box::new(alloc, body.node)?);
@@ -80,7 +81,7 @@ pub fn local_function(
 }
 
 /// A block that stands alone.
-pub fn do_stat(alloc: Global, line: u32, block: Found<Block>) -> Result<Found<Stat>, AllocError>
+pub fn do_stat(alloc: Global, line: u32, block: Found<Block>) -> Allocated<Found<Stat>>
     ensures { IfOk result (λ made. IsMade plain_stat made (tree.Do line (plain_block block.node)) block.height) }
 {
     let node = StatNode::Do(Box::new(alloc, block.node)?);
@@ -93,7 +94,7 @@ pub fn while_stat(
     line: u32,
     test: Found<Box<Exp>>,
     block: Found<Block>,
-) -> Result<Found<Stat>, AllocError>
+) -> Allocated<Found<Stat>>
     ensures { IfOk result (λ made. IsMade plain_stat made (tree.While line (plain_boxed test.node) (plain_block block.node)) (max test.height block.height)) }
 {
     let height = test.height.max(block.height);
@@ -107,7 +108,7 @@ pub fn repeat_stat(
     line: u32,
     block: Found<Block>,
     test: Found<Box<Exp>>,
-) -> Result<Found<Stat>, AllocError>
+) -> Allocated<Found<Stat>>
     requires { block.height < 1000 }
     ensures { IfOk result (λ made. IsMade plain_stat made (tree.Repeat line (plain_block block.node) (plain_boxed test.node)) (max (block.height + 1) test.height)) }
 {
@@ -131,7 +132,7 @@ pub fn arm(test: Found<Box<Exp>>, block: Found<Block>) -> Found<Arm>
 }
 
 /// The value in a box, where there is one.
-fn boxed<T: Drop>(alloc: Global, value: Option<T>) -> Result<Option<Box<T>>, AllocError>
+fn boxed<T: Drop>(alloc: Global, value: Option<T>) -> Allocated<Option<Box<T>>>
     ensures { IfOk result (λ made. option_map (λ b. b.value) made ≡ value) }
 {
     match value {
@@ -146,7 +147,7 @@ pub fn if_stat(
     line: u32,
     arms: Found<Vec<Arm>>,
     other: Found<Option<Block>>,
-) -> Result<Found<Stat>, AllocError>
+) -> Allocated<Found<Stat>>
     ensures { IfOk result (λ made. IsMade plain_stat made (if_of line (map plain_arm arms.node.items) (option_map plain_block other.node)) (max arms.height other.height)) }
 {
     let height = arms.height.max(other.height);
@@ -161,7 +162,7 @@ pub fn numeric_for(
     name: Name,
     range: Range,
     block: Found<Block>,
-) -> Result<Found<Stat>, AllocError>
+) -> Allocated<Found<Stat>>
     ensures { IfOk result (λ made. IsMade plain_stat made (num_for_of line name (plain_boxed range.first.node) (plain_boxed range.limit.node) (option_map plain_boxed range.step.node) (plain_block block.node)) (max (max range.first.height range.limit.height) (max range.step.height block.height))) }
 {
     let height = range
@@ -182,7 +183,7 @@ pub fn generic_for(
     names: Vec<Name>,
     values: Found<Vec<Exp>>,
     block: Found<Block>,
-) -> Result<Found<Stat>, AllocError>
+) -> Allocated<Found<Stat>>
     ensures { IfOk result (λ made. IsMade plain_stat made (tree.GenFor line names.items (tree.exps (plain_exps values.node.items)) (plain_block block.node)) (max values.height block.height)) }
 {
     let height = values.height.max(block.height);
