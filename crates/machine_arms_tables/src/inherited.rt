@@ -11,26 +11,53 @@ use table_core::{StrId, Table, TableId, Value};
 /// Longer chains of handlers are left to the step over the whole world.
 const MOST_LINKS: usize = 64;
 
-/// The field of a value that has a key: its own, or that of the first table with one which the handlers lead to. `None` where a handler that is no table
-/// may decide it, and where it is an error.
+/// How far a read looks for a field.
+#[derive(Clone, Copy, Debug)]
+pub(crate) enum Reach {
+    /// In the value itself.
+    Own,
+    /// In the tables that handlers lead to as well.
+    Inherited,
+}
+
+/// The field of a value that has a key: its own, or, where the reach is so far, that of the first table with one which the handlers lead to. `None` where
+/// something else may decide it, and where it is an error.
 #[inline(always)]
-pub(crate) fn field_or_inherited(
+pub(crate) fn field_within(
     strings: &Strings,
     tables: &Pool<Table>,
     object: Value,
     key: Value,
+    reach: Reach,
 ) -> Option<Value>
     ensures { IfSome result (λ v. Settles strings.now index (object ∷ key ∷ []) tables.now.objects tables.now.objects (v ∷ [])) }
 {
     let own = field(tables, object, key);
     match own {
         Some(v) => Some(v),
-        None => inherited(strings, tables, object, key),
+        None => field_above(strings, tables, object, key, reach),
     }
 }
 
 /// The field of a value that does not have it itself.
-#[inline(never)]
+#[inline(always)]
+fn field_above(
+    strings: &Strings,
+    tables: &Pool<Table>,
+    object: Value,
+    key: Value,
+    reach: Reach,
+) -> Option<Value>
+    requires { field_at_once tables.now.objects object key ≡ None }
+    ensures { IfSome result (λ v. Settles strings.now index (object ∷ key ∷ []) tables.now.objects tables.now.objects (v ∷ [])) }
+{
+    match reach {
+        Reach::Own => None,
+        Reach::Inherited => inherited(strings, tables, object, key),
+    }
+}
+
+/// The field that the handlers of a value lead to.
 fn inherited(strings: &Strings, tables: &Pool<Table>, object: Value, key: Value) -> Option<Value>
     requires { field_at_once tables.now.objects object key ≡ None }
     ensures { IfSome result (λ v. Settles strings.now index (object ∷ key ∷ []) tables.now.objects tables.now.objects (v ∷ [])) }

@@ -4,6 +4,7 @@ ghost use Rattle.machine_arms_tables.specs.Frame.{Leads, code, moment};
 ghost use Rattle.machine_view.specs.View.{IsAt};
 
 use crate::closure::Closure;
+use crate::inherited::Reach;
 use crate::lengths::get_length;
 use crate::making::new_table;
 use crate::reads::{get_element, get_field, get_integer, get_method, get_upvalue_field};
@@ -15,7 +16,7 @@ use object_pool::Pool;
 use table_core::{Table, Value};
 
 /// Does an instruction on the registers of its frame, on tables and on closed cells, and answers where the frame goes on. `None`, with all as
-/// before, where it takes more than that: a call, a handler that is no table, an error, an open cell, a spent budget, memory that is wanting.
+/// before, where it takes more than that: a call, a handler, an error, an open cell, a spent budget, memory that is wanting.
 #[inline(always)]
 pub fn run_instruction(
     op: Opcode,
@@ -71,17 +72,56 @@ fn run_on_objects(
     match op {
         Opcode::GetUpval => get_upvalue(closure, cells, registers, i, pc),
         Opcode::SetUpval => set_upvalue(closure, cells, registers, i, pc),
-        Opcode::GetTabUp => get_upvalue_field(closure, strings, tables, cells, registers, i, pc),
-        Opcode::GetTable => get_element(closure, strings, tables, registers, i, pc),
-        Opcode::GetI => get_integer(closure, strings, tables, registers, i, pc),
-        Opcode::GetField => get_field(closure, strings, tables, registers, i, pc),
+        Opcode::GetTabUp => get_upvalue_field(
+            closure,
+            strings,
+            tables,
+            cells,
+            registers,
+            i,
+            pc,
+            Reach::Own,
+        ),
+        Opcode::GetTable => get_element(closure, strings, tables, registers, i, pc, Reach::Own),
+        Opcode::GetI => get_integer(closure, strings, tables, registers, i, pc, Reach::Own),
+        Opcode::GetField => get_field(closure, strings, tables, registers, i, pc, Reach::Own),
         Opcode::SetTabUp => set_upvalue_field(closure, tables, cells, registers, i, pc),
         Opcode::SetTable => set_element(closure, tables, registers, i, pc),
         Opcode::SetI => set_integer(closure, tables, registers, i, pc),
         Opcode::SetField => set_field(closure, tables, registers, i, pc),
-        Opcode::OpSelf => get_method(closure, strings, tables, registers, i, pc),
+        Opcode::OpSelf => get_method(closure, strings, tables, registers, i, pc, Reach::Own),
         Opcode::Len => get_length(closure, strings, tables, registers, i, pc),
         Opcode::NewTable => new_table(closure, tables, registers, i, pc),
+        _ => None,
+    }
+}
+
+/// Reads a field that the value has itself or that handlers which are tables lead to, and answers where the frame goes on. `None`, with all as before, at any
+/// other instruction, where a handler that is no table may decide the field, and where it is an error.
+#[inline(never)]
+pub fn read_inherited(
+    op: Opcode,
+    closure: Closure,
+    strings: &Strings,
+    tables: &Pool<Table>,
+    cells: &Pool<Cell>,
+    registers: &mut [Value],
+    i: Instruction,
+    pc: usize,
+) -> Option<usize>
+    requires { IsAt op i closure.words.now closure.constants.now registers.old pc }
+    ensures goes { IfSome result (λ to. (fuel : ℕ) → Leads op i (code closure.entry strings.now) (moment tables.now.objects cells.now.objects registers.old pc fuel) (moment tables.now.objects cells.now.objects registers.new to fuel)) }
+    ensures kept { IfNone result (registers.new ≡ registers.old) }
+{
+    let far = Reach::Inherited;
+    match op {
+        Opcode::GetTabUp => {
+            get_upvalue_field(closure, strings, tables, cells, registers, i, pc, far)
+        }
+        Opcode::GetTable => get_element(closure, strings, tables, registers, i, pc, far),
+        Opcode::GetI => get_integer(closure, strings, tables, registers, i, pc, far),
+        Opcode::GetField => get_field(closure, strings, tables, registers, i, pc, far),
+        Opcode::OpSelf => get_method(closure, strings, tables, registers, i, pc, far),
         _ => None,
     }
 }

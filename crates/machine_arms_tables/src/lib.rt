@@ -13,4 +13,4 @@ mod upvalues;
 mod writes;
 
 pub use closure::{Closure, set_register};
-pub use instruction::run_instruction;
+pub use instruction::{read_inherited, run_instruction};

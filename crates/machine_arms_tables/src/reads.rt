@@ -6,7 +6,7 @@ ghost use Rattle.machine_arms_tables.specs.Frame.{Leads, code, moment};
 ghost use Rattle.machine_view.specs.View.{IsAt};
 
 use crate::closure::{Closure, register, set_register, spelled};
-use crate::inherited::field_or_inherited;
+use crate::inherited::{Reach, field_within};
 use crate::upvalues::upvalue;
 use code_core::Instruction;
 use lua_heap::{Cell, Strings};
@@ -23,6 +23,7 @@ pub(crate) fn get_upvalue_field(
     registers: &mut [Value],
     i: Instruction,
     pc: usize,
+    reach: Reach,
 ) -> Option<usize>
     requires { IsAt GetTabUp i closure.words.now closure.constants.now registers.old pc }
     ensures goes { IfSome result (λ to. (fuel : ℕ) → Leads GetTabUp i (code closure.entry strings.now) (moment tables.now.objects cells.now.objects registers.old pc fuel) (moment tables.now.objects cells.now.objects registers.new to fuel)) }
@@ -30,7 +31,7 @@ pub(crate) fn get_upvalue_field(
 {
     let object = upvalue(cells, closure.upvalues, i.b())?;
     let key = closure.constant(i.c() as usize);
-    let v = field_or_inherited(strings, tables, object, key)?;
+    let v = field_within(strings, tables, object, key, reach)?;
     Some(closure.store(registers, i, pc, v))
 }
 
@@ -43,6 +44,7 @@ pub(crate) fn get_element(
     registers: &mut [Value],
     i: Instruction,
     pc: usize,
+    reach: Reach,
 ) -> Option<usize>
     requires { IsAt GetTable i closure.words.now closure.constants.now registers.old pc }
     ensures goes { IfSome result (λ to. (cells : List Cell) (fuel : ℕ) → Leads GetTable i (code closure.entry strings.now) (moment tables.now.objects cells registers.old pc fuel) (moment tables.now.objects cells registers.new to fuel)) }
@@ -50,7 +52,7 @@ pub(crate) fn get_element(
 {
     let object = register(registers, i.b() as usize);
     let key = register(registers, i.c() as usize);
-    let v = field_or_inherited(strings, tables, object, key)?;
+    let v = field_within(strings, tables, object, key, reach)?;
     Some(closure.store(registers, i, pc, v))
 }
 
@@ -63,6 +65,7 @@ pub(crate) fn get_integer(
     registers: &mut [Value],
     i: Instruction,
     pc: usize,
+    reach: Reach,
 ) -> Option<usize>
     requires { IsAt GetI i closure.words.now closure.constants.now registers.old pc }
     ensures goes { IfSome result (λ to. (cells : List Cell) (fuel : ℕ) → Leads GetI i (code closure.entry strings.now) (moment tables.now.objects cells registers.old pc fuel) (moment tables.now.objects cells registers.new to fuel)) }
@@ -70,7 +73,7 @@ pub(crate) fn get_integer(
 {
     let object = register(registers, i.b() as usize);
     let key = spelled(i.c());
-    let v = field_or_inherited(strings, tables, object, key)?;
+    let v = field_within(strings, tables, object, key, reach)?;
     Some(closure.store(registers, i, pc, v))
 }
 
@@ -83,6 +86,7 @@ pub(crate) fn get_field(
     registers: &mut [Value],
     i: Instruction,
     pc: usize,
+    reach: Reach,
 ) -> Option<usize>
     requires { IsAt GetField i closure.words.now closure.constants.now registers.old pc }
     ensures goes { IfSome result (λ to. (cells : List Cell) (fuel : ℕ) → Leads GetField i (code closure.entry strings.now) (moment tables.now.objects cells registers.old pc fuel) (moment tables.now.objects cells registers.new to fuel)) }
@@ -90,7 +94,7 @@ pub(crate) fn get_field(
 {
     let object = register(registers, i.b() as usize);
     let key = closure.constant(i.c() as usize);
-    let v = field_or_inherited(strings, tables, object, key)?;
+    let v = field_within(strings, tables, object, key, reach)?;
     Some(closure.store(registers, i, pc, v))
 }
 
@@ -103,6 +107,7 @@ pub(crate) fn get_method(
     registers: &mut [Value],
     i: Instruction,
     pc: usize,
+    reach: Reach,
 ) -> Option<usize>
     requires { IsAt OpSelf i closure.words.now closure.constants.now registers.old pc }
     ensures goes { IfSome result (λ to. (cells : List Cell) (fuel : ℕ) → Leads OpSelf i (code closure.entry strings.now) (moment tables.now.objects cells registers.old pc fuel) (moment tables.now.objects cells registers.new to fuel)) }
@@ -110,7 +115,7 @@ pub(crate) fn get_method(
 {
     let object = register(registers, i.b() as usize);
     let key = closure.operand(registers, i);
-    let v = field_or_inherited(strings, tables, object, key)?;
+    let v = field_within(strings, tables, object, key, reach)?;
     let a = i.a() as usize;
     set_register(registers, a + 1, object);
     set_register(registers, a, v);

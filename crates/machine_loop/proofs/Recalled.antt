@@ -1,5 +1,5 @@
--- A GETUPVAL of a variable of a frame below is a step that writes its value to a register.
-use Rattle.std.proofs.Common.{◌≡◌, ℕ, ◌+◌, List, [], ◌∷◌, ◌++◌, map, Option, Some, None, refl, ap, sym, subst, ◌∙◌}
+-- A GETUPVAL of a variable of a frame below is a step that writes its value to a register, and reads of the loop that look around are steps.
+use Rattle.std.proofs.Common.{◌≡◌, ◌⊎◌, inl, inr, ℕ, ◌+◌, List, [], ◌∷◌, ◌++◌, map, Option, Some, None, refl, ap, sym, subst, ◌∙◌}
 use Rattle.std.specs.Prelude.{IfSome, slice_get, slice_set}
 use Rattle.std.proofs.lemmas.Option.{IfSome_then}
 use Rattle.code_core.specs.Instruction.{a_of, b_of}
@@ -27,9 +27,10 @@ use Rattle.table_core.specs.declared.value.CellId.{CellId}
 use Rattle.table_core.specs.declared.value.CoroId.{CoroId}
 use Rattle.table_core.specs.declared.value.Value.{Value as Kept}
 use Rattle.machine_arms_tables.specs.Frame.{AreOpenAlike, Code, IsReadyAt, Moment, StepsOn, moment, world_at}
-use Rattle.machine_arms_tables.proofs.Steps.{at_opcode, stepped_run, steps_when}
+use Rattle.machine_arms_tables.proofs.Steps.{at_opcode, stepped_by, stepped_run, steps_on, steps_when}
 use Rattle.machine_loop.specs.declared.memo.Known.{Known}
 use Rattle.machine_loop.specs.declared.memo.Memo.{Memo}
+use Rattle.machine_loop.specs.Around.{GoesAround, ReadsAbove}
 use Rattle.machine_loop.specs.Knowing.{Adds, AllHold, HasValue, ReadsKnown, Remembers, Tells, by_first, by_second, by_third, to_first, to_second, to_third}
 use Rattle.machine_loop.specs.Running.{IsStep, Running}
 use Rattle.machine_loop.proofs.Alike.{still_open}
@@ -150,20 +151,41 @@ module _ (g : Running) (k : Code) (m : Moment) (here : IsReadyAt g.around g.stri
     known_steps : StepsOn g.around g.string_metatable k m (moment m.tables m.cells q to m.fuel)
     known_steps = steps_when g.around g.string_metatable k m here (moment m.tables m.cells q to m.fuel) refl (known_one.is g.around.rows)
 
+  module _ (q : List Kept) (to : ℕ) (x : ReadsAbove k m.tables m.cells m.registers q m.pc to) where
+    at_above : IsAt x.op x.word k.words k.constants m.registers m.pc
+    at_above = at_opcode g.around g.string_metatable k m here x.word x.op x.at_pc x.is_opcode
+
+    above_one : IsStep g m (moment m.tables m.cells q to m.fuel)
+    above_one = record { is = λ rows. stepped_by g.around g.string_metatable k m here rows (moment m.tables m.cells q to m.fuel) x.op x.word at_above (x.leads m.fuel) }
+
+    above_steps : StepsOn g.around g.string_metatable k m (moment m.tables m.cells q to m.fuel)
+    above_steps = steps_on g.around g.string_metatable k m here (moment m.tables m.cells q to m.fuel) x.op x.word at_above (x.leads m.fuel)
+
+  module _ (memo : Memo) (holds : AllHold g.around k.upvalues m.cells memo) (q : List Kept) (to : ℕ) where
+    around_one : GoesAround k m.tables m.cells memo m.registers q m.pc to → IsStep g m (moment m.tables m.cells q to m.fuel)
+    around_one (inl x) = known_one memo holds q to x
+    around_one (inr x) = above_one q to x
+
+    around_steps : GoesAround k m.tables m.cells memo m.registers q m.pc to → StepsOn g.around g.string_metatable k m (moment m.tables m.cells q to m.fuel)
+    around_steps (inl x) = known_steps memo holds q to x
+    around_steps (inr x) = above_steps q to x
+
   -- where an instruction was tried that left all as it was
   module _ (memo : Memo) (holds : AllHold g.around k.upvalues m.cells memo) (o : Option ℕ) (ts : List Contents) (cs : List KeptCell) (r q : List Kept) (left : ℕ)
-      (t : ts ≡ m.tables) (c : cs ≡ m.cells) (e : r ≡ m.registers) (l : left ≡ m.fuel) (x : IfSome o (λ to. ReadsKnown k.words memo r q m.pc to)) where
-    reads_now : IfSome o (λ to. ReadsKnown k.words memo m.registers q m.pc to)
-    reads_now = subst (λ r. IfSome o (λ to. ReadsKnown k.words memo r q m.pc to)) e x
+      (t : ts ≡ m.tables) (c : cs ≡ m.cells) (e : r ≡ m.registers) (l : left ≡ m.fuel) (x : IfSome o (λ to. GoesAround k ts cs memo r q m.pc to)) where
+    goes_now : IfSome o (λ to. GoesAround k m.tables m.cells memo m.registers q m.pc to)
+    goes_now =
+        subst (λ ts. IfSome o (λ to. GoesAround k ts m.cells memo m.registers q m.pc to)) t
+        (subst (λ cs. IfSome o (λ to. GoesAround k ts cs memo m.registers q m.pc to)) c (subst (λ r. IfSome o (λ to. GoesAround k ts cs memo r q m.pc to)) e x))
 
     pub steps_then : IfSome o (λ to. StepsOn g.around g.string_metatable k m (moment ts cs q to left))
     steps_then =
         subst (λ ts. IfSome o (λ to. StepsOn g.around g.string_metatable k m (moment ts cs q to left))) (sym t)
         (subst (λ cs. IfSome o (λ to. StepsOn g.around g.string_metatable k m (moment m.tables cs q to left))) (sym c)
-        (subst (λ left. IfSome o (λ to. StepsOn g.around g.string_metatable k m (moment m.tables m.cells q to left))) (sym l) (IfSome_then o reads_now (λ to y. known_steps memo holds q to y))))
+        (subst (λ left. IfSome o (λ to. StepsOn g.around g.string_metatable k m (moment m.tables m.cells q to left))) (sym l) (IfSome_then o goes_now (λ to y. around_steps memo holds q to y))))
 
     pub one_then : IfSome o (λ to. IsStep g m (moment ts cs q to left))
     one_then =
         subst (λ ts. IfSome o (λ to. IsStep g m (moment ts cs q to left))) (sym t)
         (subst (λ cs. IfSome o (λ to. IsStep g m (moment m.tables cs q to left))) (sym c)
-        (subst (λ left. IfSome o (λ to. IsStep g m (moment m.tables m.cells q to left))) (sym l) (IfSome_then o reads_now (λ to y. known_one memo holds q to y))))
+        (subst (λ left. IfSome o (λ to. IsStep g m (moment m.tables m.cells q to left))) (sym l) (IfSome_then o goes_now (λ to y. around_one memo holds q to y))))

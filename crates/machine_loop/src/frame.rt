@@ -4,8 +4,9 @@ ghost use Rattle.machine_arms_tables.specs.Frame.{IsReadyAt, AreOpenAlike, RunsT
 ghost use Rattle.machine_loop.specs.Knowing.{AllHold};
 ghost use Rattle.machine_loop.specs.Running.{IsStep, Running};
 
+use crate::around::go_around;
 use crate::decoding::opcode_in;
-use crate::memo::{Memo, read_known};
+use crate::memo::Memo;
 use code_core::fetch;
 use lua_heap::{Cell, Strings};
 use machine_arms_tables::{Closure, run_instruction};
@@ -38,8 +39,8 @@ fn step_frame(
     run_instruction(op, closure, strings, tables, cells, registers, i, pc, fuel)
 }
 
-/// Runs one instruction, or reads a variable of a frame below whose value is known, and answers where the frame goes on. `None`, with all as before, at any
-/// other instruction.
+/// Runs one instruction, or does a read that looks beyond the frame or beyond a table, and answers where the frame goes on. `None`, with all as before, at
+/// any other instruction.
 #[inline(always)]
 fn go_on(
     closure: Closure,
@@ -63,13 +64,14 @@ fn go_on(
 {
     match step_frame(closure, strings, tables, cells, registers, pc, fuel) {
         Some(to) => Some(to),
-        None => read_known(closure, registers, memo, pc),
+        None => go_around(closure, strings, tables, cells, registers, memo, pc),
     }
 }
 
 /// Runs instructions of the frame on top from the place `start` on, and tells where it stops: at one that takes more than the frame. It does stop, since each
 /// step of the machine comes nearer to the end of the turn. The world's frame stands there, and is ready for a step of any kind: what the loop did is some
-/// steps. Of variables in frames below, of which it has no registers, it reads those whose values are known.
+/// steps. Of variables in frames below, of which it has no registers, it reads those whose values are known, and of fields those that handlers which are tables
+/// lead to as well.
 #[inline(never)]
 pub fn run_frame(
     closure: Closure,

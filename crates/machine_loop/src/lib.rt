@@ -2,6 +2,7 @@
 //! (Lua 5.4's `luaV_execute`). Each is one step of the machine's meaning.
 #![tactic(auto)]
 
+mod around;
 mod decoding;
 mod frame;
 mod memo;

@@ -1,0 +1,66 @@
+// Reads that the loop does beside the instructions of the frame by itself: of variables of frames below whose values are known, and of fields that handlers
+// which are tables lead to.
+ghost use Rattle.std.specs.Prelude.{◌≡◌, IfNone, IfSome};
+ghost use Rattle.machine_arms_tables.specs.Frame.{code};
+ghost use Rattle.machine_loop.specs.Around.{GoesAround, ReadsAbove};
+ghost use Rattle.machine_view.specs.Law.{HasInstruction};
+
+use crate::decoding::opcode_in;
+use crate::memo::{Memo, read_known};
+use code_core::{Opcode, fetch};
+use lua_heap::{Cell, Strings};
+use machine_arms_tables::{Closure, read_inherited};
+use object_pool::Pool;
+use table_core::{Table, Value};
+
+/// Does such a read, and answers where the frame goes on. `None`, with all as before, at any other instruction.
+#[inline(always)]
+pub(crate) fn go_around(
+    closure: Closure,
+    strings: &Strings,
+    tables: &Pool<Table>,
+    cells: &Pool<Cell>,
+    registers: &mut [Value],
+    memo: &Memo,
+    pc: usize,
+) -> Option<usize>
+    requires { HasInstruction closure.words.now closure.constants.now registers.old pc }
+    ensures goes { IfSome result (λ to. GoesAround (code closure.entry strings.now) tables.now.objects cells.now.objects memo.now registers.old registers.new pc to) }
+    ensures kept { IfNone result (registers.new ≡ registers.old) }
+{
+    match read_known(closure, registers, memo, pc) {
+        Some(to) => Some(to),
+        None => read_above(closure, strings, tables, cells, registers, pc),
+    }
+}
+
+/// Reads a field that handlers lead to.
+#[inline(always)]
+fn read_above(
+    closure: Closure,
+    strings: &Strings,
+    tables: &Pool<Table>,
+    cells: &Pool<Cell>,
+    registers: &mut [Value],
+    pc: usize,
+) -> Option<usize>
+    requires { HasInstruction closure.words.now closure.constants.now registers.old pc }
+    ensures reads { IfSome result (λ to. ReadsAbove (code closure.entry strings.now) tables.now.objects cells.now.objects registers.old registers.new pc to) }
+    ensures kept { IfNone result (registers.new ≡ registers.old) }
+{
+    let i = fetch(closure.words, pc);
+    let op = opcode_in(i)?;
+    if !reads_field(op) {
+        return None;
+    }
+    read_inherited(op, closure, strings, tables, cells, registers, i, pc)
+}
+
+/// Whether an instruction reads a field.
+#[inline(always)]
+fn reads_field(op: Opcode) -> bool {
+    matches!(
+        op,
+        Opcode::GetTabUp | Opcode::GetTable | Opcode::GetI | Opcode::GetField | Opcode::OpSelf
+    )
+}
