@@ -25,7 +25,7 @@ pub record Closed (prelude : Prototype) (Runs : List (List ℕ) → Run → Type
   pub prints : run.printed ≡ printed
   pub left : IsLeft prelude run save files status
 
--- the output had these bytes, and so much is written behind them
+-- the output had these bytes, and so much is written after them
 grown : (before printed more : List ℕ) (had has : Option (List ℕ)) → had ≡ Some before → has ≡ Some (before ++ printed) → has ≡ option_map (λ text. text ++ more) had → more ≡ printed
 grown before printed more had has is now by =
     let both : Some (before ++ more) ≡ Some (before ++ printed) = sym (by ∙ ap (λ (o : Option (List ℕ)). option_map (λ text. text ++ more) o) is) ∙ now in

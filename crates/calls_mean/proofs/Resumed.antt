@@ -1,4 +1,4 @@
--- A call of `resume` behind calls on a script writes the rest of what the script means.
+-- A call of `resume` after calls on a script writes the rest of what the script means.
 use Rattle.std.proofs.Common.{◌≡◌, ◌≢◌, ℕ, ◌≤◌, true, List, [], ◌∷◌, ◌++◌, length, Option, Some, refl, ap, sym, subst, ◌∙◌, append_assoc}
 use Rattle.std.specs.Option.{option_map}
 use Rattle.int_core.specs.Value.{greatest_string}

@@ -1,4 +1,4 @@
--- Behind calls on a script no call of `resume` finds the prelude changed.
+-- After calls on a script no call of `resume` finds the prelude changed.
 use Rattle.std.proofs.Common.{◌≡◌, ◌≢◌, ℕ, ◌≤◌, List, [], length, Option, Some, refl, sym, subst, ◌∙◌, arith}
 use Rattle.code_core.specs.Prototype.{Prototype}
 use Rattle.prelude_code.specs.Prelude.{IsPreludeCode}

@@ -8,7 +8,7 @@ use Rattle.program.specs.Meaning.{has_ended}
 use Rattle.program.specs.Program.{IsCall}
 use Rattle.program.specs.declared.session.Session.{Session}
 
--- a call of the program whose devices tell: the file of the name holds the content, the input the text, and the printed bytes go behind what the output held
+-- a call of the program whose devices tell: the file of the name holds the content, the input the text, and the printed bytes go after what the output held
 pub record Called (command : Command) (name content text printed : List ℕ) (status : ℕ) : Type 0 where
   pub files : Device FileMap
   pub input : Device (List ℕ)

@@ -74,7 +74,7 @@ SavedGoesOn =
     (session : List ℕ) → IsSavedByCall session → (budget : ℕ) (text : List ℕ) (out : Device (List ℕ)) (status : ℕ) (call : ResumesCalmly budget session text out status) → (IsSome call.save → status ≢ 12)
     → AsRead (λ builds. IsResumed builds budget session text out status call.save call.files)
 
--- Behind calls on a script or a chunk no call of `resume` answers 12, whatever its words and its devices are: no code has changed what saving looks at
+-- After calls on a script or a chunk no call of `resume` answers 12, whatever its arguments and its devices are: no code has changed what saving looks at
 abbrev pub SavedIsUnchanged : Type 0
 SavedIsUnchanged =
     (name content : List ℕ) (budget : ℕ) (texts : List (List ℕ)) (printed session : List ℕ) → SavedCalls budget name content texts printed session → length name ≤ 65536 → AreShort (all_lines texts)

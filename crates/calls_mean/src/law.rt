@@ -23,8 +23,8 @@ pub fn calls_do_as_they_mean()
 }
 
 /// What a call of `run` or `resume` saved, no call of `resume` answers with 8: its session does something on any lines that strings can hold and with any
-/// budget, which by the clauses of `resume` is what is written and answered. Behind calls on a script or a chunk, each of which resumed what the one before saved,
-/// none answers 12 either: no code changes what saving looks at of the libraries. So behind calls on a script a call whose words, files and devices are right and
+/// budget, which by the clauses of `resume` is what is written and answered. After calls on a script or a chunk, each of which resumed what the one before saved,
+/// none answers 12 either: no code changes what saving looks at of the libraries. So after calls on a script a call whose arguments, files and devices are right and
 /// which keeps within the limits and its memory writes exactly what is left of what the script means on all lines, and its status is that of how the script ends
 /// by its meaning.
 pub fn saved_calls_resume()

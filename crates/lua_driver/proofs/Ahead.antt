@@ -77,7 +77,7 @@ module _ (falls : StepsFall) (build : Row) (most : ℕ) (within : FallsWithin mo
           (λ (x : Within most U × measure most at U < measure most e W). let k = h at U p f x.0 in (k.0, let l = x.1 in let m = k.1 in omega (arith, l, m)))
           (falls build most within e at W U w q)
 
--- the step behind an ending, at once or behind what a Lua frame does by itself
+-- the step after an ending, at once or after what a Lua frame does by itself
 
 pub ready_to_go : {W : Memory} {ending : Kept} → ending ≡ Go → IsReady (length all_entries) (ending_of ending) W → IsReady (length all_entries) go W
 ready_to_go {W} e r = subst (λ e. IsReady (length all_entries) (ending_of e) W) e r

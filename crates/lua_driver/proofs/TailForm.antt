@@ -1,4 +1,4 @@
--- The form of a TAILCALL at which a frame runs, and a step behind what changed nothing.
+-- The form of a TAILCALL at which a frame runs, and a step after what changed nothing.
 use Rattle.std.proofs.Common.{◌≡◌, ℕ, Some, true, length, ap, refl, sym, subst, ◌∙◌}
 use Rattle.code_core.specs.Instruction.{a_of, b_of, opcode_of}
 use Rattle.code_core.specs.declared.opcode.Opcode.TheVariants.{TailCall as TailCalls}

@@ -32,7 +32,7 @@ pub(crate) enum Returned {
     More,
 }
 
-/// Does the step behind `Ending::Go` at this word of the Lua frame on top, and that of the Lua frame below where it comes to it by a return of a value or of
+/// Does the step after `Ending::Go` at this word of the Lua frame on top, and that of the Lua frame below where it comes to it by a return of a value or of
 /// none.
 pub(crate) fn step_on(world: &mut World, budget: &mut u64, here: Here) -> Result<Ending, AllocError>
     requires ready { IsReady (length all_entries) go world.old }

@@ -38,7 +38,7 @@ pub fn run(world: &mut World, budget: &mut u64, begun: Ending) -> Result<Ending,
     Ok(ending)
 }
 
-/// Does the step behind an ending. Where a Lua frame goes on, it first runs as long as it does so by itself.
+/// Does the step after an ending. Where a Lua frame goes on, it first runs as long as it does so by itself.
 fn go_further(world: &mut World, budget: &mut u64, ending: Ending) -> Result<Ending, AllocError>
     requires { IsReady (length all_entries) (ending_of ending) world.old }
     ensures goes { IfOk result (λ next. AsRead (λ builds. GoesFurther (library builds) (ending_of ending) world.old budget.old world.new budget.new (ending_of next))) }

@@ -19,7 +19,7 @@ use machine_step::step_from;
 use running_frame::Here;
 use std::alloc::AllocError;
 
-/// A call in place of a frame, as its instruction tells it: the register of what is called, and one more than the number of the arguments behind it or 0 for
+/// A call in place of a frame, as its instruction tells it: the register of what is called, and one more than the number of the arguments after it or 0 for
 /// those up to the end of the open list.
 #[derive(Clone, Copy, Debug)]
 pub(crate) struct TailCallAt {

@@ -28,7 +28,7 @@ take_longer : (xs ys : List ℕ) (n : ℕ) → take (longer xs n) (xs ++ ys) ≡
 take_longer [] ys n = refl
 take_longer (x ∷ xs) ys n = ap (λ l. x ∷ l) (take_longer xs ys n)
 
--- a front of a text is one of a longer text
+-- a prefix of a text is one of a longer text
 take_more : (n : ℕ) (xs ys : List ℕ) → (k : ℕ) × (take n xs ≡ take k (xs ++ ys))
 take_more zero xs ys = (0, refl)
 take_more (suc n) [] ys = (0, refl)
@@ -240,7 +240,7 @@ fed_last rows budget start text before first now mid rest after later taken e f 
       leaves = record { left = t.left; is = refl };
     }
 
--- a run that waits for a line behind what was used
+-- a run that waits for a line after what was used
 module _ (rows : ℕ → Row) (budget : ℕ) (start : Memory) (text before : Option (List ℕ)) (first : ℕ) (now mid : Memory) (rest after later : Option (List ℕ)) (taken : ℕ)
     (f : Feeding rows budget start text before first now rest after taken) (t : Turns rows now mid budget main_yielded) (grown : later ≡ option_map (λ t. t ++ turn_text main_yielded (plain mid 0)) after) where
   abbrev waiting : Run
@@ -308,7 +308,7 @@ module _ (rows : ℕ → Row) (budget : ℕ) (start : Memory) (text before : Opt
     grown = grew;
   }
 
--- where it stops at a fault, a front of what a run prints was written
+-- where it stops at a fault, a prefix of what a run prints was written
 
 pub front_of_turn : (rows : ℕ → Row) (budget : ℕ) (now mid : Memory) (after later : Option (List ℕ)) (e : Ending) → Turns rows now mid budget e → is_end e ≡ true
     → GrowsByFront (turn_text e (plain mid 0)) after later → IsFront rows (plain now 0) budget after later

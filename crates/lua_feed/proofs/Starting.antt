@@ -91,7 +91,7 @@ may_go_on sound idle begins turns prelude code W V p q o e order =
       may = subst MayTurn (sym (e 0)) (turns (plain W 0) code still);
     }
 
--- where nothing was written, that is a front
+-- where nothing was written, that is a prefix
 pub unfed_front : (Runs : List (List ℕ) → Run → Type 0) (taken : ℕ) (text before after : Option (List ℕ)) → after ≡ before → IsFedFront Runs taken text before after
 unfed_front Runs taken None before after e = record { is = tt }
 unfed_front Runs taken (Some b) before after e = record { is = λ r x. front_none r.printed before after e }

@@ -62,11 +62,11 @@ pub record IsBrokenOff (Runs : List (List ℕ) → Run → Type 0) (taken : ℕ)
   pub waits : run.close ≡ is_suspended
   pub grown : after ≡ option_map (λ written. written ++ run.printed) before
 
--- whatever the lines are, the output has grown by a front of what a run on them prints
+-- whatever the lines are, the output has grown by a prefix of what a run on them prints
 pub record IsFront (rows : ℕ → Row) (W : World) (budget : ℕ) (before after : Option (List ℕ)) : Type 0 where
   pub is : (lines : List (List ℕ)) (run : Run) → CodeRun rows W lines budget run → GrowsByFront run.printed before after
 
--- the output has grown by a front of what any run on the lines of the input before the first past the limits prints
+-- the output has grown by a prefix of what any run on the lines of the input before the first past the limits prints
 pub record IsFedFront (Runs : List (List ℕ) → Run → Type 0) (taken : ℕ) (text before after : Option (List ℕ)) : Type 0 where
   pub is : IfSome text (λ bytes. (run : Run) → Runs (usable_lines taken bytes) run → GrowsByFront run.printed before after)
 

@@ -25,6 +25,6 @@ IsCutOffOf prelude code budget taken text before after = AsRead (λ builds. IsCu
 abbrev pub IsBrokenOffOf : (prelude code : Prototype) (budget taken : ℕ) (text before after : Option (List ℕ)) → Type 0
 IsBrokenOffOf prelude code budget taken text before after = AsRead (λ builds. IsBrokenOff (Does (library builds) (started prelude code) budget) taken text before after)
 
--- the output has grown by a front of what the script prints on the lines of the input
+-- the output has grown by a prefix of what the script prints on the lines of the input
 abbrev pub IsFrontOf : (prelude code : Prototype) (budget taken : ℕ) (text before after : Option (List ℕ)) → Type 0
 IsFrontOf prelude code budget taken text before after = AsRead (λ builds. IsFedFront (Does (library builds) (started prelude code) budget) taken text before after)

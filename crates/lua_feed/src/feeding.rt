@@ -37,7 +37,7 @@ pub enum Close {
 ///
 /// # Errors
 ///
-/// `Input` and `Output` where a device fails, `Limit` where the script waits for a line that is too long, or up to whose end the input is, and `Memory`. A front
+/// `Input` and `Output` where a device fails, `Limit` where the script waits for a line that is too long, or up to whose end the input is, and `Memory`. A prefix
 /// of what the run on the lines prints was written then, at `Limit` all that it prints up to that line, at `Input` all that it prints on the lines that were
 /// taken, and the script cannot be resumed any more.
 pub fn feed<S: Source, K: Sink>(

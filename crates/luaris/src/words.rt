@@ -1,9 +1,9 @@
-// The words that the system starts the program with.
+// The arguments that the system starts the program with.
 use program::Fault;
 use std::env;
 use std::io::ErrorKind;
 
-/// The words behind the program's name. A word that is no UTF-8 text is wrong.
+/// The arguments after the program's name. One that is no UTF-8 text is wrong.
 pub fn program_words(rt: &HostRuntime) -> Result<Vec<String>, Fault> {
     let args = match env::args(rt) {
         Ok(args) => args,

@@ -51,7 +51,7 @@ pub(crate) fn take_answer(
     }
 }
 
-/// The frame on top, which runs again, takes results to its registers and goes on behind its call. A refusal changes nothing that stands there.
+/// The frame on top, which runs again, takes results to its registers and goes on after its call. A refusal changes nothing that stands there.
 fn go_on(
     world: &mut World,
     here: Here,

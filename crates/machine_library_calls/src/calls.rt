@@ -26,7 +26,7 @@ use machine_primitives::library_function;
 use running_frame::Here;
 use std::alloc::AllocError;
 
-/// A call, as its instruction tells it: the register of what is called, one more than the number of the arguments behind it or 0 for those up to the end of
+/// A call, as its instruction tells it: the register of what is called, one more than the number of the arguments after it or 0 for those up to the end of
 /// the open list, the register from which on the frame gives its registers up, and whether an iterator is called.
 #[derive(Clone, Copy, Debug)]
 pub struct CallAt {
@@ -37,7 +37,7 @@ pub struct CallAt {
 }
 
 /// Does a call of a primitive with at most six arguments, for a unit of the budget. Where it is a function of the libraries that looks at values and
-/// tables alone and gives results, these go to their registers as well, and the frame goes on behind its instruction. Another primitive, and one
+/// tables alone and gives results, these go to their registers as well, and the frame goes on after its instruction. Another primitive, and one
 /// that refuses its arguments, is left for the next step. `None`, with all as before, where another value is called, where there are more arguments,
 /// where the budget is spent, and where values move. After a refusal the world is in order.
 pub fn call_library(

@@ -30,7 +30,7 @@ use std::alloc::AllocError;
 use table_core::Value;
 
 /// Does a call of a primitive with at most six arguments in place of the Lua frame on top, for a unit of the budget. Where it is a function of the libraries
-/// that looks at values and tables alone and gives results, and a Lua frame is below, that frame takes them and goes on behind its instruction. Another
+/// that looks at values and tables alone and gives results, and a Lua frame is below, that frame takes them and goes on after its instruction. Another
 /// primitive, and one that refuses its arguments, is left for the next step. `None`, with all as before, where another value is called, where there are more
 /// arguments, where the budget is spent, and where values move. After a refusal the world is in order.
 pub fn tail_call_library(

@@ -70,7 +70,7 @@ pub record GoesOnSo (old new : Memory) (word : Instruction) (wait : KeptWait) (c
   pub leads : (place : Place) → place_of (plain old 0) ≡ Some place → (op : Opcode) → opcode_of word ≡ Some op
       → Leads (left_row old wait place op word) (told_so old wait came) old new to
 
--- MMBIN and its kin, whose value goes to the register of the instruction in front
+-- MMBIN and its kin, whose value goes to the register of the instruction before it
 abbrev pub is_handled : Option Opcode → Bool
 is_handled (Some MmBin) = true
 is_handled (Some MmBinI) = true

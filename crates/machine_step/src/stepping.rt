@@ -57,7 +57,7 @@ fn go_from(world: &mut World, budget: &mut u64) -> Result<Ending, AllocError>
     step_from(world, budget, here)
 }
 
-/// Does the step behind `Ending::Go` where it is known at which word the Lua frame on top is. After a refusal all is as `step` says.
+/// Does the step after `Ending::Go` where it is known at which word the Lua frame on top is. After a refusal all is as `step` says.
 pub fn step_from(world: &mut World, budget: &mut u64, here: Here) -> Result<Ending, AllocError>
     requires ready { IsReady (length all_entries) go world.old }
     requires here { IsHere world.old here }

@@ -193,7 +193,7 @@ module _ (builds : Builds Body) (sources : BuildsSources builds) (one : RunIsOne
       whole : GrowsByFront (run.printed ++ line_of_work count) before after
       whole = grows_by_all (run.printed ++ line_of_work count) before after grown
 
-  -- it stops, and a front is written
+  -- it stops, and a prefix is written
   stopped_work : (k k' : ℕ) (before after : Option (List ℕ)) (last : Option Session) (status : ℕ) → IsCause builds count (stream_of k k' before after) last status → (has_ended status ≡ true → ⊥) → (¬ (Rose k k') → status ≢ 9 → ⊥) → (k < k' → status ≡ 6)
       → ((run : Run) → Goes run → GrowsByFront (run.printed ++ line_of_work count) before after) → OnlyGrows before after → IsWork builds count (stream_of k k' before after) last status
   stopped_work k k' before after last status cause unended never fault front grows = record {

@@ -1,4 +1,4 @@
--- What the program does with its words, its files, its input and what it writes.
+-- What the program does with its arguments, its files, its input and what it writes.
 use Rattle.std.specs.Prelude.{◌≡◌, ℕ, List, Option, Some, None}
 use Rattle.load_rows.specs.Loading.{Builds}
 use Rattle.tree_core.specs.Tree.{Body}
@@ -12,7 +12,7 @@ use Rattle.program.specs.Compiling.{IsCompilation}
 use Rattle.program.specs.Working.{IsWork}
 use Rattle.program.specs.declared.session.Session.{Session}
 
--- wrong words have status 2, and nothing is read or written
+-- wrong arguments have status 2, and nothing is read or written
 pub record IsNoWork (files : Device FileMap) (out : Device (List ℕ)) (status : ℕ) : Type 0 where
   pub wrong_words : status ≡ 2
   pub files_same : IsUntouched files

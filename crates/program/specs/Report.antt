@@ -149,7 +149,7 @@ pub data IsErrorLine (command : Option Command) (files : Option FileMap) (left :
   none : (status : ℕ) → is_quiet status ≡ true → IsErrorLine command files left status []
   of_fault : (reason : Fault) → FitsFor command files reason → LimitFitsFor command left reason → IsErrorLine command files left (status_of_fault reason) (line_of_fault reason)
 
--- standard error grows by exactly the line of the status where no write to it fails, and else by a front of it; and no write follows one that failed
+-- standard error grows by exactly the line of the status where no write to it fails, and else by a prefix of it; and no write follows one that failed
 pub record IsReported (command : Option Command) (files : Option FileMap) (left : Option (List ℕ)) (err : Device (List ℕ)) (status : ℕ) : Type 0 where
   pub line : List ℕ
   pub line_is : IsErrorLine command files left status line

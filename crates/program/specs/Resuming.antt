@@ -67,7 +67,7 @@ pub record IsResume (builds : Builds Body) (name : List ℕ) (budget : ℕ) (sav
   -- where the input failed, all is written that its first lines give, up to one for which the session waits then
   pub cut_short : (content text : List ℕ) → Holds files.content name content → input.content ≡ Some text → GrewIn input
       → IsCutShort (λ lines run. ResumesOn builds content lines budget run) text out
-  -- whatever the status is, a front is written of what the lines give that are not past the limits
+  -- whatever the status is, a prefix is written of what the lines give that are not past the limits
   pub front : (content text : List ℕ) (run : Run) → Holds files.content name content → input.content ≡ Some text → ResumesOn builds content (usable_lines 0 text) budget run
       → GrowsByFront run.printed out.content out.content'
   pub grows : OnlyGrows out.content out.content'

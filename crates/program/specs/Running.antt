@@ -107,7 +107,7 @@ pub record IsRun (builds : Builds Body) (name : List ℕ) (budget : ℕ) (save :
       → IsCutShort (λ lines run. RunsOn builds name content lines budget run) text out
   pub meant_cut_short : (content text : List ℕ) → Holds files.content name content → begins_chunk content ≡ false → input.content ≡ Some text → GrewIn input
       → IsMeantShort builds name content text budget out
-  -- whatever the status is, a front is written of what the lines give that are not past the limits
+  -- whatever the status is, a prefix is written of what the lines give that are not past the limits
   pub front : (content text : List ℕ) (run : Run) → Holds files.content name content → input.content ≡ Some text → RunsOn builds name content (usable_lines 0 text) budget run
       → GrowsByFront run.printed out.content out.content'
   pub meant_front : (content text : List ℕ) (m : Meaning Body State) → Holds files.content name content → input.content ≡ Some text

@@ -28,7 +28,7 @@ use Rattle.program.specs.Meaning.{EndsWith, has_ended}
 use Rattle.program.specs.Sessions.{status_of_close, IsSessionOf}
 
 -- What the script means by the letter of the manual, under the name `work` and with lines: in the world of the libraries, whose Lua functions are those of the
--- prelude's text, on no line of input. Each turn has the budget that a call has where its words name none
+-- prelude's text, on no line of input. Each turn has the budget that a call has where its arguments name none
 pub record WorkMeans (builds : Builds Body) (count : ℕ) (m : Meaning Body State) : Type 0 where
   pub tree : Block
   pub is_source : IsSource (work_script count) tree

@@ -19,9 +19,9 @@ use command_words::{Command, read_words};
 use io_edge::{Files, Sink, Source};
 use std::alloc::Global;
 
-/// Does what the words ask for: runs the script or the chunk in a file on the lines of the input, goes on with the session whose image is in a file, checks
+/// Does what the arguments ask for: runs the script or the chunk in a file on the lines of the input, goes on with the session whose image is in a file, checks
 /// the chunk in a file, compiles the script in a file into the chunk of another one, or runs a script that is work alone. A session that waits for a line at the end of the input is saved in
-/// the file that is named for that. Answers the status: 0 where the script returned or the work was done, 1 where the script failed, 2 for wrong words,
+/// the file that is named for that. Answers the status: 0 where the script returned or the work was done, 1 where the script failed, 2 for wrong arguments,
 /// 3 where the script waits for a line and there is none, 4 where a turn has spent its budget, 5 for a refused source, 6 for a device fault, 7 for input
 /// past the limits on lines or an image that would be too large, 8 for a refused chunk or image, 9 for want of memory, 11 where there is no such file, and
 /// 12 where the prelude is refused, or is not as it was made in an image that no call has written, and the session that went on is to be saved. What the
@@ -52,7 +52,7 @@ pub fn luaris<F: Files, S: Source, K: Sink, E: Sink>(
     }
 }
 
-/// Does what the words ask for, and answers a status that has no line on standard error.
+/// Does what the arguments ask for, and answers a status that has no line on standard error.
 fn perform<F: Files, S: Source, K: Sink>(
     alloc: Global,
     words: &[String],

@@ -17,7 +17,7 @@ use thiserror::Error;
 /// Why a call has a line on standard error.
 #[derive(Debug, Drop, Error)]
 pub enum Fault {
-    /// The words are no command.
+    /// The arguments are no command.
     #[error("wrong words")]
     Words,
     /// There is no file of that name.

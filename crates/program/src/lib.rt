@@ -1,4 +1,4 @@
-//! The program over its devices: what its words ask for, and what it answers (`lua.c` and `luac.c` of Lua's sources).
+//! The program over its devices: what its arguments ask for, and what it answers (`lua.c` and `luac.c` of Lua's sources).
 #![tactic(auto)]
 
 mod call;

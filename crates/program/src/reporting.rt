@@ -10,7 +10,7 @@ use graph_core::PermanentKey;
 use io_edge::{Failed, Sink, write_all};
 use itoa::Buffer;
 
-/// Writes the line of a fault, without taking memory. A failed write leaves a front of the line.
+/// Writes the line of a fault, without taking memory. A failed write leaves a prefix of the line.
 pub fn report<E: Sink>(err: &mut E, fault: &Fault) -> Result<(), Failed>
     ensures cause { HasCause (E.faults err.old) (E.faults err.new) (is_err result) }
     ensures written { OnOk result (E.written err.new ≡ option_map (λ text. text ++ line_of_fault fault.now) (E.written err.old)) }

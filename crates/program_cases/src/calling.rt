@@ -41,7 +41,7 @@ fn numbers(alloc: Global, calls: &[u64]) -> Result<Numbers, AllocError> {
     Ok(Numbers::of(calls.to_vec(alloc)?))
 }
 
-/// The words of a line, with a space between two of them.
+/// The arguments of a line, with a space between two of them.
 fn words(alloc: Global, line: &str) -> Result<Vec<String>, AllocError> {
     let mut words = Vec::new(alloc);
     for word in line.split(' ') {
@@ -68,7 +68,7 @@ fn answer(
     (status, state)
 }
 
-/// Calls the program with the words of a line.
+/// Calls the program with the arguments of a line.
 pub(crate) fn call(
     alloc: Global,
     line: &str,
@@ -124,7 +124,7 @@ pub(crate) fn check(rt: &impl Abort, outcome: &Outcome, status: u8, out: &[u8], 
     assert!(rt; outcome.err.as_slice() == err.as_bytes());
 }
 
-/// Calls the program with the words of a line over such files, and looks at what it gives.
+/// Calls the program with the arguments of a line over such files, and looks at what it gives.
 pub(crate) fn check_call(
     rt: &impl Abort,
     alloc: Global,

@@ -69,7 +69,7 @@ static CHAINS: [Chain; 9] = [
     },
 ];
 
-/// The words of a session.
+/// The arguments of a session.
 fn words_of(is_first: bool) -> &'static str {
     if is_first {
         "run s.lua --save img"

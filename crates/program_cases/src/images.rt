@@ -13,7 +13,7 @@ const COUNTING: &[u8] =
 /// Yields the length of each line.
 const LENGTHS: &[u8] = b"local s=0 while true do local l=coroutine.yield(s) s=#l end";
 
-/// The image of the script that counts, saved behind one line.
+/// The image of the script that counts, saved after one line.
 fn counting_image(alloc: Global) -> Result<Vec<u8>, Fail> {
     let mut files = files_with(alloc, "s.lua", COUNTING, &[])?;
     call(

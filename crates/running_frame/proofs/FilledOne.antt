@@ -128,7 +128,7 @@ module _ (g : Running) (k : Code) (s : KeptStack) (ts : List Contents) (cs : Lis
   fills_heap : filled_table now.heap (object a_table x.id.0) (c_of w) (meant x.item ∷ []) ≡ Some heap_after
   fills_heap = x.fills.fills g.around.texts g.string_metatable r.may.closure.code.apart r.may.closure.code.short
 
-  -- the frame goes on behind
+  -- the frame goes on after
 
   abbrev after : Activation
   after = record mine { registers = take ctx.closure.code.own.stack mine.registers; opened = 0; pc = mine.pc + 1 }

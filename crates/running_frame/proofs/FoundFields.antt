@@ -117,7 +117,7 @@ module _ (g : Running) (k : Code) (m : Moment) (here : IsReadyAt g.around g.stri
       (settles g.around kept cs m.registers m.pc m.fuel {op = index} {xs = read 0 ∷ read 1 ∷ []} {wait = for_value} {env = both} d
       (puts g.around kept cs m.registers m.pc m.fuel {env = value texts v ∷ []} {x = read 0} (a_of w) 1 v here.ready.code (at_next h refl p) (register_there h 0 (a_of w) refl) refl f p)).is
 
-  -- SELF: the receiver goes to the register behind A before the field goes to A
+  -- SELF: the receiver goes to the register after A before the field goes to A
   prepared_gets : (object key v : Kept) (a : ℕ) → a + 1 < length m.registers → Finds texts m.tables g.string_metatable object key v
       → run (expand (gets (read 0) (read 1) (write_register (a + 1) (read 0) ∷ []) a)) (value texts object ∷ value texts key ∷ []) (world ctx now)
       ≡ run (expand (to_register a (read 0))) (value texts v ∷ []) (world ctx (held_with (slice_set m.registers (a + 1) object) m.pc))

@@ -190,7 +190,7 @@ module _ (d : Context) (t : Taker) (H : Held) where
       ap (λ b. cond b (local d next (vs ++ []) (held_own d (write_registers t.register t.count 0) vs H)) None) there
       ∙ ap (λ (o : Option Instruction). elim o as (λ _. Option Held) [ None ↦ None | Some _ ↦ Some (with_pc written (H.own.pc + 1)) ]) behind_is
 
-  -- the values from a register on, and the frame behind its instruction
+  -- the values from a register on, and the frame after its instruction
   abbrev put_at : (register count : ℕ) → List Value → Option Held
   put_at register count vs = Some (record H { own = record H.own { registers = write_all register (range 0 count vs) H.own.registers; pc = H.own.pc + 1 } })
 

@@ -120,7 +120,7 @@ module _ {g : Running} {k : Code} {s : KeptStack} {ts : List Contents} {cs : Lis
   pub stays_so : HasLuaTop (with_top s w)
   stays_so = stays_on_top g k s ts cs fuel x.may r pc x.runs (sym x.at_pc) values_are w lent long
 
-  -- and what the loop has done, where its place is set behind that
+  -- and what the loop has done, where its place is set after that
   module _ (u : KeptStack) (ts' : List Contents) (cs' : List Cell) (to left : ℕ) (b : TopBecomes (with_top s w) u (λ f t. with_pc to t)) where
     set_behind : frames (value g.around.texts) u ≡ g.around.context.below ++ lua (with_pc to (with_registers (map (value g.around.texts) w) x.may.top)) ∷ []
     set_behind =

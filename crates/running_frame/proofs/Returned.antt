@@ -46,7 +46,7 @@ use Rattle.running_frame.proofs.TakenVarargs.{written_varargs_so}
 map_without : {A B : Type 0} (f : A → B) (xs : List A) → map f (without_last xs) ≡ without_last (map f xs)
 map_without f xs = map_take f (length xs - 1) xs ∙ ap (λ n. take (n - 1) (map f xs)) (sym (length-map xs f))
 
--- the row of a return, behind what it reads first
+-- the row of a return, after what it reads first
 record RowReturns (c : Context) (h : Held) (w : Instruction) (count : ℕ) (o : Option Opcode) : Type 0 where
   op : Opcode
   is : o ≡ Some op

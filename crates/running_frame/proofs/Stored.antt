@@ -42,7 +42,7 @@ pub store_is : (o : Option Opcode) → is_store o ≡ true → o ≡ Some SetUpv
 store_is (Some SetUpval) h = refl
 store_is _ h = absurd (cc)
 
--- a list with another one of its front
+-- a write before the last item of a list
 set_front : {A : Type 0} (xs : List A) (x y : A) (n : ℕ) → n < length xs → slice_set (xs ++ x ∷ []) n y ≡ slice_set xs n y ++ x ∷ []
 set_front [] x y n l = absurd (omega (arith, l))
 set_front (z ∷ xs) x y zero l = refl
@@ -141,7 +141,7 @@ module _ (g : Running) (k : Code) (s : KeptStack) (ts : List Contents) (cs : Lis
       ∙ ap (λ (l : List Frame). record all { coroutines = slice_set all.coroutines ctx.coroutine (in_progress l) }) (set_front ctx.below (lua (top ctx mine)) written n (get_within ctx.below n frame_there.0 frame_there.1))
       ∙ ap (λ (cs : List Coroutine). record all { coroutines = cs }) (set_set ctx.base.coroutines ctx.coroutine (in_progress fs) (in_progress (held_frames beside mine)))
 
-  -- the frame goes on behind
+  -- the frame goes on after
 
   abbrev behind : Held
   behind = held_with_pc now (mine.pc + 1)

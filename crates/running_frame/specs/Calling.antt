@@ -38,7 +38,7 @@ one_less (suc n) = Some n
 pub record HaveCode (funcs : List Func) (codes : Codes) : Type 0 where
   pub code_there : (n : ℕ) (f : Func) → slice_get funcs n ≡ Some f → f.code.0 < length codes.list.items
 
--- a Lua function stands in a register, with so many registers behind it
+-- a Lua function stands in a register, with so many registers after it
 pub record HoldsCallee (registers : List Kept) (register given : ℕ) (id : FuncId) : Type 0 where
   pub holds : slice_get registers register ≡ Some (a_func id)
   pub room : register + 1 + given ≤ length registers
@@ -52,7 +52,7 @@ pub record HasShapeIn (funcs : List Func) (codes : Codes) (id : FuncId) (shape :
   pub is : shape ≡ record { params = code.params; vararg = code.vararg; stack = code.stack }
   pub params : shape.params ≤ shape.stack
 
--- the Lua function in a register is entered with the values of those behind it
+-- the Lua function in a register is entered with the values of those after it
 pub record EntersIn (s u : KeptStack) (size : ℕ) (funcs : List Func) (codes : Codes) (w : Instruction) : Type 0 where
   pub given : ℕ
   pub wants : b_of w ≡ suc given
@@ -71,7 +71,7 @@ pub record CallsIn (s u : KeptStack) (size : ℕ) (funcs : List Func) (codes : C
   pub paid : fuel ≡ suc left
   pub enters : EntersIn s u size funcs codes w
 
--- the Lua function in a register is entered with the values of the two behind it, which the frame keeps
+-- the Lua function in a register is entered with the values of the two after it, which the frame keeps
 pub record IteratesOver (s u : KeptStack) (size : ℕ) (funcs : List Func) (codes : Codes) (w : Instruction) : Type 0 where
   pub id : FuncId
   pub registers : List Kept

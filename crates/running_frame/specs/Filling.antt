@@ -24,12 +24,12 @@ abbrev pub is_set_list : Option Opcode → Bool
 is_set_list (Some SetList) = true
 is_set_list _ = false
 
--- a value stands behind an index of a table, whatever the strings are
+-- a value stands after an index of a table, whatever the strings are
 pub record FillsTable (ts ts' : List Contents) (id : TableId) (last : ℕ) (item : Kept) : Type 0 where
   pub fills : (texts : List (List ℕ)) (meta : Option ℕ) → AreApart texts → AreShort texts
       → filled_table (heap texts ts meta) (object a_table id.0) last (meant texts item ∷ []) ≡ Some (heap texts ts' meta)
 
--- the one behind a table's register does, no list is open, and the frame on top goes on behind
+-- the one after a table's register does, no list is open, and the frame on top goes on after
 pub record FillsOne (s u : KeptStack) (ts ts' : List Contents) (size : ℕ) (words : List Instruction) (pc : ℕ) (w : Instruction) : Type 0 where
   pub is_list : opcode_of w ≡ Some SetList
   pub near : k_of w ≡ false

@@ -14,7 +14,7 @@ abbrev pub is_list : Option Opcode → Bool
 is_list (Some VarArg) = true
 is_list _ = false
 
--- the arguments beyond the parameters are a list that is open from a register on, and the frame on top goes on behind
+-- the arguments beyond the parameters are a list that is open from a register on, and the frame on top goes on after
 pub record ListsVarargs (s u : KeptStack) (words : List Instruction) (pc : ℕ) (w : Instruction) : Type 0 where
   pub is_vararg : opcode_of w ≡ Some VarArg
   pub all : c_of w ≡ 0
@@ -29,7 +29,7 @@ abbrev pub taken_of : Option Opcode → (c : ℕ) → Option ℕ
 taken_of (Some VarArg) c = one_less c
 taken_of _ c = None
 
--- so many of them, nil where there are fewer, stand in the registers from one on, and the frame on top goes on behind
+-- so many of them, nil where there are fewer, stand in the registers from one on, and the frame on top goes on after
 pub record TakesVarargs (s u : KeptStack) (words : List Instruction) (pc : ℕ) (w : Instruction) : Type 0 where
   pub count : ℕ
   pub is : taken_of (opcode_of w) (c_of w) ≡ Some count

@@ -55,21 +55,21 @@ pub record IsCaller (s : KeptStack) (c : LuaState) : Type 0 where
   pub at : last (without_last s.frames) ≡ Some (kept_lua frame)
   pub knows : IsCallerIn frame c
 
--- an operator whose operands are no integers: it stands behind the instruction for which it works
+-- an operator whose operands are no integers: it stands after the instruction for which it works
 abbrev pub is_operator : Opcode → Bool
 is_operator MmBin = true
 is_operator MmBinI = true
 is_operator MmBinK = true
 is_operator _ = false
 
--- the instruction in front of a place
+-- the instruction before a place
 pub record IsInFront (words : List Instruction) (pc : ℕ) (before : Instruction) : Type 0 where
   pub front : ℕ
   pub next : pc ≡ suc front
   pub there : slice_get words front ≡ Some before
 
--- what the instruction at a place wants for which a frame waits: a CALL one value fewer than it says, a TFORCALL as many, in the registers behind its own four, an
--- instruction that a handler gives its value that one in its register, or an operator in that of the instruction in front, and a store nothing
+-- what the instruction at a place wants for which a frame waits: a CALL one value fewer than it says, a TFORCALL as many, in the registers after its own four, an
+-- instruction that a handler gives its value that one in its register, or an operator in that of the instruction before it, and a store nothing
 pub data Wants (words : List Instruction) (pc : ℕ) (w : Instruction) (t : Taker) : KeptWait → Type 0 where
   by_call : opcode_of w ≡ Some Call → t.register ≡ a_of w → c_of w ≡ suc t.count → Wants words pc w t ForCall
   by_iterator : opcode_of w ≡ Some TForCall → t.register ≡ a_of w + 4 → t.count ≡ c_of w → Wants words pc w t ForIterator

@@ -28,7 +28,7 @@ pub record StandsBelow (co : ℕ) (upvalues : List CellId) (depth : ℕ) (cells 
   pub holds : slice_get cells o.cell.0 ≡ Some (Open coroutine o.frame o.register)
   pub deep : o.frame + 1 < depth
 
--- the variable gets the value of a register of the frame on top, which goes on behind; all else stays
+-- the variable gets the value of a register of the frame on top, which goes on after; all else stays
 pub record StoresOpen (co : ℕ) (upvalues : List CellId) (words : List Instruction) (s u : KeptStack) (cells : List Cell) (pc : ℕ) (w : Instruction) : Type 0 where
   pub is_store : opcode_of w ≡ Some SetUpval
   pub registers : List Kept

@@ -71,7 +71,7 @@ fn enter(
     }
 }
 
-/// The Lua function in a register, where so many registers are behind it.
+/// The Lua function in a register, where so many registers are after it.
 pub(crate) fn callee(registers: &[Value], register: usize, given: usize) -> Option<FuncId>
     ensures { IfSome result (λ id. HoldsCallee registers.now register given id) }
 {

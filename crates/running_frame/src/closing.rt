@@ -37,7 +37,7 @@ pub(crate) fn pass_close(
     Some(to)
 }
 
-/// The place behind a CLOSE A, where from a register on nothing is to be closed and A is at that register or above.
+/// The place after a CLOSE A, where from a register on nothing is to be closed and A is at that register or above.
 fn behind_close(
     words: &[Instruction],
     i: Instruction,

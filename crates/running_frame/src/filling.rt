@@ -17,7 +17,7 @@ use lua_stack::Stack;
 use object_pool::Pool;
 use table_core::{Key, Table, TableId, Value};
 
-/// A SETLIST of one value: it goes to the table's index behind C, no list is open any more, and the frame on top goes on behind it. `size` is the number of
+/// A SETLIST of one value: it goes to the table's index after C, no list is open any more, and the frame on top goes on after it. `size` is the number of
 /// registers of its code. `None`, with all as before, at any other instruction, where the register has no table, and where memory runs out. From the register
 /// `closed` of the stop on nothing of the frame is open or to be closed.
 pub(crate) fn fill_one(
@@ -75,7 +75,7 @@ fn table_in(registers: &[Value], register: usize) -> Option<TableId>
     }
 }
 
-/// Puts a value behind an index of a table. `None`, with all as before, where there is no such table, and where memory runs out.
+/// Puts a value after an index of a table. `None`, with all as before, where there is no such table, and where memory runs out.
 fn fill_behind(tables: &mut Pool<Table>, id: TableId, last: u8, item: Value) -> Option<()>
     ensures fills { IfSome result (λ _. FillsTable tables.old.objects tables.new.objects id last item) }
     ensures kept { IfNone result (tables.new.objects ≡ tables.old.objects) }
@@ -88,7 +88,7 @@ fn fill_behind(tables: &mut Pool<Table>, id: TableId, last: u8, item: Value) -> 
     put_row(tables.get_mut(id.0), key, item)
 }
 
-/// The integer behind a place.
+/// The integer after a place.
 fn integer_behind(at: usize) -> Value
     requires { at < 2 ^ 63 - 1 }
     ensures { result ≡ Int (pos (at + 1)) }

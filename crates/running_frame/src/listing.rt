@@ -11,7 +11,7 @@ use crate::taking::first_two;
 use code_core::{Instruction, Opcode};
 use lua_stack::Stack;
 
-/// A VARARG: the arguments beyond the parameters are written to registers, all as an open list or at most two of them, and the frame goes on behind it. `None`, with
+/// A VARARG: the arguments beyond the parameters are written to registers, all as an open list or at most two of them, and the frame goes on after it. `None`, with
 /// all as before, at any other instruction, where more are wanted, and where memory runs out.
 pub(crate) fn write_varargs(stack: &mut Stack, words: &[Instruction], here: Here) -> Option<()>
     requires top { HasLuaTop stack.old }
@@ -89,7 +89,7 @@ fn list_varargs(stack: &mut Stack, words: &[Instruction], here: Here) -> Option<
     }
 }
 
-/// The place behind one, where there is a word.
+/// The place after one, where there is a word.
 pub(crate) fn behind(words: &[Instruction], pc: usize) -> Option<usize>
     ensures { IfSome result (λ to. (to ≡ pc + 1) × (to < length words.now)) }
 {

@@ -32,7 +32,7 @@ pub(crate) struct Given {
 }
 
 /// A return to a Lua frame whose CALL or TFORCALL wants at most two values, or that waits for a handler of a value, an operator or a store: that frame runs again,
-/// behind its instruction. `None`, with all as before, at any other instruction, where more are wanted, and where the return takes more than the stack. From the
+/// after its instruction. `None`, with all as before, at any other instruction, where more are wanted, and where the return takes more than the stack. From the
 /// register `closed` on nothing of the frame on top is open or to be closed.
 pub(crate) fn return_values(
     stack: &mut Stack,
@@ -107,7 +107,7 @@ fn returned_from(registers: &[Value], register: usize, count: usize) -> Option<G
     Some(Given { first, second })
 }
 
-/// The value of the register behind one.
+/// The value of the register after one.
 pub(crate) fn second_of(registers: &[Value], register: usize) -> Option<Value>
     ensures { IfSome result (λ v. slice_get registers.now (register + 1) ≡ Some v) }
 {
@@ -135,7 +135,7 @@ pub(crate) fn taker_of(funcs: &Pool<Func>, codes: &Codes, caller: LuaState) -> O
     taker_in(&code.words, caller)
 }
 
-/// What the instruction at its place in these words wants.
+/// What the instruction at its place in these instructions wants.
 #[inline(always)]
 fn taker_in(words: &[Instruction], caller: LuaState) -> Option<Taker>
     ensures { IfSome result (λ t. IsTaker words.now caller t) }
@@ -271,7 +271,7 @@ fn is_operator(opcode: Opcode) -> bool
     }
 }
 
-/// The instruction in front of a place.
+/// The instruction before a place.
 fn in_front(words: &[Instruction], pc: usize) -> Option<Instruction>
     requires { pc < length words.now }
     ensures { IfSome result (λ before. IsInFront words.now pc before) }

@@ -15,7 +15,7 @@ use lua_stack::{OpenCell, Stack};
 use object_pool::Pool;
 use table_core::{CellId, CoroId};
 
-/// SETUPVAL of a variable that stands in a register of a frame below: UpValue[B] := R[A], and the frame on top goes on behind it. `None`, with all as before, at
+/// SETUPVAL of a variable that stands in a register of a frame below: UpValue[B] := R[A], and the frame on top goes on after it. `None`, with all as before, at
 /// any other instruction, and where the variable stands elsewhere.
 pub(crate) fn store_open(
     stack: &mut Stack,

@@ -90,7 +90,7 @@ pub(crate) fn is_read(i: Instruction) -> bool
     }
 }
 
-/// The place behind.
+/// The place after.
 #[inline(always)]
 pub(crate) fn next(words: &[Instruction], pc: usize) -> usize
     requires { pc + 1 < length words.now }

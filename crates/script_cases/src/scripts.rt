@@ -20,7 +20,7 @@ fn no_failures(alloc: Global) -> Numbers {
     Numbers::of(Vec::new(alloc))
 }
 
-/// The words that run `s.lua` with these options.
+/// The arguments that run `s.lua` with these options.
 fn words(alloc: Global, options: &str) -> Result<Vec<String>, Fail> {
     let mut words = Vec::new(alloc);
     words.push(String::from_str(alloc, "run")?)?;

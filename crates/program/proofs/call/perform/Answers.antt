@@ -1,4 +1,4 @@
--- What words ask for is one thing.
+-- What arguments ask for is one thing.
 use Rattle.std.proofs.Common.{rules, ◌≡◌, Option, Some, IfErr, map, string_bytes, subst}
 use Rattle.command_words.specs.Kept.{asked}
 use Rattle.command_words.specs.Words.{Command as Asked, IsAsked}

@@ -17,7 +17,7 @@ returns-clause-written g c =
     (then_text _ _ _ (codes " key ") _ c.in_ok-write_all-2.ensures.written
     (then_text _ _ _ (key_text c.args.key.now) (codes "\n") c.in_ok-write_key.ensures.written last)))) c.write_all-3.ensures.written
 
--- a front of the line, where a write fails
+-- a prefix of the line, where a write fails
 
 pub returns-in_err-write_all-clause-front : goal.returns-in_err-write_all-clause-front
 returns-in_err-write_all-clause-front g c =

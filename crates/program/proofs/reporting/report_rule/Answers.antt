@@ -17,7 +17,7 @@ returns-clause-written g c =
     (then_text _ _ _ (decimal c.args.function) _ c.in_ok-write_number-2.ensures.written
     (then_text _ _ _ (codes " pc ") (decimal c.args.pc ++ codes "\n") c.in_ok-write_all-3.ensures.written last))))) c.write_end.ensures.written
 
--- a front of the line, where a write fails
+-- a prefix of the line, where a write fails
 
 pub returns-in_err-write_all-clause-front : goal.returns-in_err-write_all-clause-front
 returns-in_err-write_all-clause-front g c =

@@ -15,7 +15,7 @@ returns-clause-written g c =
     (then_text _ _ _ (decimal c.args.rule) _ rule
     (then_text _ _ _ (codes " at line ") (decimal c.args.line ++ codes "\n") c.in_ok-write_all-2.ensures.written last))) c.write_end.ensures.written
 
--- a front of the line, where a write fails
+-- a prefix of the line, where a write fails
 
 pub returns-in_err-write_all-clause-front : goal.returns-in_err-write_all-clause-front
 returns-in_err-write_all-clause-front g c =

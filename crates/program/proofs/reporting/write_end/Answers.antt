@@ -5,7 +5,7 @@ use Rattle.lua_feed.proofs.Fed.{front_behind, front_more}
 use Rattle.program.proofs.ReportLemmas.{at_fault}
 use Rattle.program.proofs.reporting.write_end.Goals as goal
 
--- a front of the line, where a write fails
+-- a prefix of the line, where a write fails
 
 pub returns-in_err-write_number-clause-front : goal.returns-in_err-write_number-clause-front
 returns-in_err-write_number-clause-front g c =

@@ -9,7 +9,7 @@ pub returns-clause-written : goal.returns-clause-written
 returns-clause-written g c =
     on_ok_weaker c.write_end.result (λ last. then_text _ _ _ c.args.text.now (decimal c.args.number ++ codes "\n") c.in_ok-write_all.ensures.written last) c.write_end.ensures.written
 
--- a front of the line, where a write fails
+-- a prefix of the line, where a write fails
 
 pub returns-in_err-write_all-clause-front : goal.returns-in_err-write_all-clause-front
 returns-in_err-write_all-clause-front g c =
