@@ -1,4 +1,5 @@
-// Fields that are found by handlers of `__index` which are no functions: methods of classes and of strings (luaV_finishget of lvm.c; Lua 5.4 manual, 2.4).
+// Fields that handlers of `__index` lead to without a call, where the loop over instructions does not follow them: methods of strings (luaV_finishget of lvm.c;
+// Lua 5.4 manual, 2.4).
 ghost use Rattle.std.specs.Prelude.{◌≡◌, IfNone, IfSome, Some, slice_get};
 ghost use Rattle.code_core.specs.Instruction.{opcode_of};
 ghost use Rattle.code_core.specs.declared.opcode.Opcode.TheVariants.{GetField, OpSelf};

@@ -110,9 +110,9 @@ fn run_on_top(
     here_at(closure.words, pc, true)
 }
 
-/// Runs it from the place `start` on, and tells where it stops. The loop over instructions has the frame's own registers alone, follows no handlers and closes
-/// nothing, so what stands in a register of a frame below, and fields that handlers lead to, are read between two rounds of it, and a CLOSE is passed there.
-/// Nothing that is done here changes a frame below, so values that stand there are remembered.
+/// Runs it from the place `start` on, and tells where it stops. The loop over instructions has the frame's own registers alone, follows handlers from tables to
+/// tables and closes nothing, so what stands in a register of a frame below, and what other handlers lead to, is read between two rounds of it, and a CLOSE is
+/// passed there. Nothing that is done here changes a frame below, so values that stand there are remembered.
 fn run_rounds(
     stack: &mut Stack,
     closure: Closure,
