@@ -47,14 +47,14 @@ go_on-requires-in-Two-clause-solid g c =
     let X = c.args.world.now in
     let law = c.loading_is_safe.ensures.safe in
     solid_with c.requires law (listed X (c.in-Two.first ∷ c.in-Two.second ∷ []) (two_are_few c.in-Two.first c.in-Two.second)) (ap shape_told c.in-Two.is) (ap (values_told X) c.in-Two.is) c.set_wait-in-Two.new.world
-    c.set_wait-in-Two.ensures.waits c.set_wait-in-Two.ensures.rest (c.set_wait-in-Two.ensures.listed (listed_there c.requires law))
+    c.set_wait-in-Two.ensures.waits c.set_wait-in-Two.ensures.stays.rest (c.set_wait-in-Two.ensures.stays.listed (listed_there c.requires law))
 
 pub go_on-requires-in-Two-clause-awake : goal.go_on-requires-in-Two-clause-awake
 go_on-requires-in-Two-clause-awake g c =
     let X = c.args.world.now in
     let law = c.loading_is_safe.ensures.safe in
     awake_with c.requires law (listed X (c.in-Two.first ∷ c.in-Two.second ∷ []) (two_are_few c.in-Two.first c.in-Two.second)) (ap shape_told c.in-Two.is) (ap (values_told X) c.in-Two.is) c.set_wait-in-Two.new.world
-    c.set_wait-in-Two.ensures.waits c.set_wait-in-Two.ensures.rest (c.set_wait-in-Two.ensures.listed (listed_there c.requires law))
+    c.set_wait-in-Two.ensures.waits c.set_wait-in-Two.ensures.stays.rest (c.set_wait-in-Two.ensures.stays.listed (listed_there c.requires law))
 
 pub returns-in-Two-clause-comes : goal.returns-in-Two-clause-comes
 returns-in-Two-clause-comes g c =
@@ -63,7 +63,7 @@ returns-in-Two-clause-comes g c =
     IfOk-weaker c.go_on-in-Two.result _ _
     (λ ending q builds are.
     comes_with c.requires law (listed X (c.in-Two.first ∷ c.in-Two.second ∷ []) (two_are_few c.in-Two.first c.in-Two.second)) (ap shape_told c.in-Two.is) (ap (values_told X) c.in-Two.is) c.set_wait-in-Two.new.world
-    c.set_wait-in-Two.ensures.waits c.set_wait-in-Two.ensures.rest (c.set_wait-in-Two.ensures.listed (listed_there c.requires law)) c.go_on-in-Two.new.world ending q builds)
+    c.set_wait-in-Two.ensures.waits c.set_wait-in-Two.ensures.stays.rest (c.set_wait-in-Two.ensures.stays.listed (listed_there c.requires law)) c.go_on-in-Two.new.world ending q builds)
     c.go_on-in-Two.ensures.goes
 
 pub go_on-requires-in-Gives-clause-solid : goal.go_on-requires-in-Gives-clause-solid
