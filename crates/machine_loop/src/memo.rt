@@ -105,8 +105,8 @@ fn recall_third(memo: &Memo, upvalue: u8) -> Option<Value>
     value_of(memo.third, upvalue)
 }
 
-/// R[A] := UpValue[B], where the value is known.
-#[inline(always)]
+/// R[A] := UpValue[B], where the value is known. Out of line: in place, each entry into the loop would keep the addresses of the three values.
+#[inline(never)]
 fn read_value(
     closure: Closure,
     registers: &mut [Value],
