@@ -16,7 +16,7 @@ use Rattle.lua_stack.specs.Frames.{KeptFrame, KeptLua, KeptStack, OnTop, TopBeco
 use Rattle.lua_heap.specs.declared.codes.Code.{Code}
 use Rattle.lua_heap.specs.declared.codes.Codes.{Codes}
 use Rattle.lua_heap.specs.declared.world.Func.{Func}
-use Rattle.running_frame.specs.Calling.{CallsOn, TailCallsIn, one_less}
+use Rattle.running_frame.specs.Calling.{CallsIn, CallsOn, TailCallsIn, one_less}
 use Rattle.running_frame.specs.Listing.{WritesVarargs}
 use Rattle.running_frame.specs.Standing.{IsClosedFrom}
 use Rattle.running_frame.specs.declared.returning.Given.{Given}
@@ -139,3 +139,7 @@ GoesOn s u funcs codes words pc w fuel left = (WritesVarargs s u words pc w × (
 -- one of these, or a call
 abbrev pub Crosses : (s u : KeptStack) (size : ℕ) → List Func → Codes → List Instruction → (pc : ℕ) → Instruction → (fuel left : ℕ) → Type 0
 Crosses s u size funcs codes words pc w fuel left = CallsOn s u size funcs codes w fuel left ⊎ GoesOn s u funcs codes words pc w fuel left
+
+-- a CALL or a return
+abbrev pub CallsOrReturns : (s u : KeptStack) (size : ℕ) → List Func → Codes → Instruction → (fuel left : ℕ) → Type 0
+CallsOrReturns s u size funcs codes w fuel left = CallsIn s u size funcs codes w fuel left ⊎ (ReturnsIn s u funcs codes w × (left ≡ fuel))

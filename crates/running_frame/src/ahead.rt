@@ -11,6 +11,7 @@ ghost use Rattle.step_laws.specs.Steps.{IsReady};
 ghost use Rattle.running_frame.specs.Here.{IsHere};
 ghost use Rattle.running_frame.specs.Standing.{IsApart};
 
+use crate::crossing::cross_frame;
 use crate::frames::run_frame_on_top;
 use crate::place::{Here, find_here};
 use crate::taking::is_taken;
@@ -47,6 +48,7 @@ fn run_frames(world: &mut World, budget: &mut u64) -> Here
     ensures here { IsHere world.new result }
 {
     for _ in 0..u64::MAX {
+        cross_frames(world, budget);
         if let Some(here) = run_frame(world, budget) {
             return here;
         }
@@ -54,7 +56,81 @@ fn run_frames(world: &mut World, budget: &mut u64) -> Here
     find_here(world)
 }
 
+/// Goes from frame to frame, in a world in which nothing moves, as long as each stops at a call or a return that takes no more than the stack.
+fn cross_frames(world: &mut World, budget: &mut u64)
+    ghost rows: { ℕ → Row }
+    requires safe { PrimitivesSafe (length all_entries) rows }
+    requires ready { IsReady (length all_entries) go world.old }
+    requires still { world.old.moving.items ≡ [] }
+    ensures reaches { Reaches rows (plain world.old budget.old) (plain world.new budget.new) }
+    ensures ready { IsReady (length all_entries) go world.new }
+    ensures still { world.new.moving.items ≡ [] }
+{
+    for _ in 0..u64::MAX {
+        let crossed = cross_over(world, budget);
+        if !crossed {
+            return;
+        }
+    }
+}
+
+/// Runs the frame on top as far as it needs nothing but its own registers, and does the call or the return that stands there: another frame is on top then. `false`
+/// where it waits, or something else stands there.
+#[inline(always)]
+fn cross_over(world: &mut World, budget: &mut u64) -> bool
+    ghost rows: { ℕ → Row }
+    requires safe { PrimitivesSafe (length all_entries) rows }
+    requires ready { IsReady (length all_entries) go world.old }
+    requires still { world.old.moving.items ≡ [] }
+    ensures reaches { Reaches rows (plain world.old budget.old) (plain world.new budget.new) }
+    ensures ready { IsReady (length all_entries) go world.new }
+    ensures still { world.new.moving.items ≡ [] }
+{
+    match cross_top(world, budget) {
+        Some(()) => true,
+        None => false,
+    }
+}
+
+/// Does so, held apart from that world.
+#[inline(always)]
+fn cross_top(world: &mut World, budget: &mut u64) -> Option<()>
+    ghost g: { Running }
+    requires { IsApart g world.old }
+    ensures reaches { Reaches g.around.rows (plain world.old budget.old) (plain world.new budget.new) }
+    ensures order { InOrder world.new }
+    ensures still { world.new.moving ≡ world.old.moving }
+{
+    checked_code_is_there();
+    world.strings.len();
+    let co = running(world);
+    match world.coros.get_mut(co.0) {
+        Coro::Running(stack) => {
+            let function = world.funcs.get(stack.function().0);
+            let code = world.codes.get(function.code);
+            let closure = Closure {
+                words: &code.words,
+                constants: &code.constants,
+                upvalues: &function.cells,
+            };
+            cross_frame(
+                stack,
+                closure,
+                code.stack as usize,
+                &world.strings,
+                &world.funcs,
+                &world.codes,
+                &mut world.tables,
+                &mut world.cells,
+                budget,
+            )
+        }
+        _ => unreachable!(),
+    }
+}
+
 /// Runs the frame on top of a world in which nothing moves. `None` where another frame is on top then.
+#[inline(never)]
 fn run_frame(world: &mut World, budget: &mut u64) -> Option<Here>
     ghost rows: { ℕ → Row }
     requires safe { PrimitivesSafe (length all_entries) rows }

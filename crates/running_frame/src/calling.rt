@@ -14,6 +14,7 @@ use table_core::{FuncId, Value};
 /// A CALL that gives a Lua function its arguments in registers, for a unit of the budget: the function's frame is on top. `size` is the number of registers
 /// of the caller's code. `None`, with all as before, at any other instruction, and where the call takes more than the stack. From the register `closed` on
 /// nothing of the frame on top is open or to be closed.
+#[inline(always)]
 pub(crate) fn call_function(
     stack: &mut Stack,
     size: usize,
@@ -40,6 +41,7 @@ pub(crate) fn call_function(
 }
 
 /// Enters it.
+#[inline(always)]
 fn enter(
     stack: &mut Stack,
     size: usize,
@@ -72,6 +74,7 @@ fn enter(
 }
 
 /// The Lua function in a register, where so many registers are after it.
+#[inline(always)]
 pub(crate) fn callee(registers: &[Value], register: usize, given: usize) -> Option<FuncId>
     ensures { IfSome result (λ id. HoldsCallee registers.now register given id) }
 {
@@ -86,6 +89,7 @@ pub(crate) fn callee(registers: &[Value], register: usize, given: usize) -> Opti
 }
 
 /// The value of a register, where it is there.
+#[inline(always)]
 pub(crate) fn register_of(registers: &[Value], register: usize) -> Option<Value>
     ensures { result ≡ slice_get registers.now register }
 {
@@ -93,6 +97,7 @@ pub(crate) fn register_of(registers: &[Value], register: usize) -> Option<Value>
 }
 
 /// What a call needs to know of a function's code.
+#[inline(always)]
 pub(crate) fn shape_of(funcs: &Pool<Func>, codes: &Codes, id: FuncId) -> Option<Shape>
     requires { HaveCode funcs.now.objects codes.now }
     ensures { IfSome result (λ shape. HasShapeIn funcs.now.objects codes.now id shape) }
@@ -112,6 +117,7 @@ pub(crate) fn shape_of(funcs: &Pool<Func>, codes: &Codes, id: FuncId) -> Option<
 }
 
 /// Whether the frame on top may give its registers from one on up: it has all those of its code, and nothing is open from the register `free` on.
+#[inline(always)]
 pub(crate) fn may_give_up(
     stack: &Stack,
     register: usize,
@@ -138,6 +144,7 @@ pub(crate) fn may_give_up(
 }
 
 /// One less than a number of values that is counted from one, as instructions count them.
+#[inline(always)]
 pub(crate) fn one_less(n: u8) -> Option<usize>
     ensures { result ≡ one_less n }
 {
@@ -148,6 +155,7 @@ pub(crate) fn one_less(n: u8) -> Option<usize>
 }
 
 /// Whether an instruction is a CALL.
+#[inline(always)]
 pub(crate) fn is_call(i: Instruction) -> bool
     ensures { result ≡ is_call (opcode_of i) }
 {

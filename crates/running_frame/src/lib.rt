@@ -6,6 +6,7 @@ mod ahead;
 mod asking;
 mod calling;
 mod closing;
+mod crossing;
 mod filling;
 mod frames;
 mod inherited;

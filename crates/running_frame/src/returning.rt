@@ -34,6 +34,7 @@ pub(crate) struct Given {
 /// A return to a Lua frame whose CALL or TFORCALL wants at most two values, or that waits for a handler of a value, an operator or a store: that frame runs again,
 /// after its instruction. `None`, with all as before, at any other instruction, where more are wanted, and where the return takes more than the stack. From the
 /// register `closed` on nothing of the frame on top is open or to be closed.
+#[inline(always)]
 pub(crate) fn return_values(
     stack: &mut Stack,
     funcs: &Pool<Func>,
@@ -61,6 +62,7 @@ pub(crate) fn return_values(
 }
 
 /// How many values an instruction returns, where it says so.
+#[inline(always)]
 fn count_returned(i: Instruction) -> Option<usize>
     ensures { result ≡ count_of (opcode_of i) (b_of i) }
 {
@@ -73,6 +75,7 @@ fn count_returned(i: Instruction) -> Option<usize>
 }
 
 /// Whether this is the first register.
+#[inline(always)]
 pub(crate) fn is_first(closed: Option<usize>) -> bool
     ensures { result ≡ true → closed ≡ Some 0 }
 {
@@ -83,6 +86,7 @@ pub(crate) fn is_first(closed: Option<usize>) -> bool
 }
 
 /// The first two of the values of `count` registers.
+#[inline(always)]
 fn returned_from(registers: &[Value], register: usize, count: usize) -> Option<Given>
     ensures { IfSome result (λ g. IsGiven registers.now register count g) }
 {
@@ -116,6 +120,7 @@ pub(crate) fn second_of(registers: &[Value], register: usize) -> Option<Value>
 }
 
 /// The frame below, where it is a Lua frame.
+#[inline(always)]
 fn caller_of(stack: &Stack) -> Option<LuaState>
     ensures { IfSome result (λ c. IsCaller stack.now c) }
 {
@@ -283,6 +288,7 @@ fn in_front(words: &[Instruction], pc: usize) -> Option<Instruction>
 }
 
 /// The Lua frame on top gets what it wants, and runs on.
+#[inline(always)]
 pub(crate) fn hand(stack: &mut Stack, taker: Taker, given: Given)
     requires few { taker.count ≤ 2 }
     requires room { HasKept stack.old (taker.register + taker.count) }

@@ -264,7 +264,7 @@ fn read_between(
 }
 
 /// One round of that loop. It needs no limit: between two units of the budget a frame goes ahead in its code.
-fn run_round(
+pub(crate) fn run_round(
     stack: &mut Stack,
     closure: Closure,
     strings: &Strings,
@@ -291,7 +291,8 @@ fn run_round(
 }
 
 /// From which register on no cell of the frame on top is open. None is said where a variable there is still to be closed.
-fn closed_from(stack: &mut Stack) -> Option<usize>
+#[inline(always)]
+pub(crate) fn closed_from(stack: &mut Stack) -> Option<usize>
     requires { HasLuaTop stack.old }
     ensures kept { stack.new ≡ stack.old }
     ensures closed { IfSome result (λ register. IsClosedFrom stack.new register) }
@@ -309,6 +310,7 @@ fn closed_from(stack: &mut Stack) -> Option<usize>
 }
 
 /// The register above that of the last open cell, where it is one of this frame; else the first register.
+#[inline(always)]
 fn above_last(cells: &[OpenCell], frame: usize) -> Option<usize>
     ensures { IfSome result (λ register. IsAboveLast cells.now frame register) }
 {

@@ -6,6 +6,9 @@ use Rattle.machine_focus.specs.Focus.{Reaches}
 use Rattle.step_laws.specs.Steps.{IsReady}
 use Rattle.running_frame.proofs.ahead.run_frames.Given as goal
 
+abbrev pub ghost-cross_frames : goal.ghost-cross_frames
+ghost-cross_frames g a = g.rows
+
 abbrev pub ghost-run_frame : goal.ghost-run_frame
 ghost-run_frame g a = g.rows
 

@@ -1,0 +1,157 @@
+// Calls of Lua functions and returns from them, which most frames stop at (OP_CALL, OP_RETURN, OP_RETURN0 and OP_RETURN1 of lvm.c).
+ghost use Rattle.std.specs.Prelude.{◌≡◌, IfNone, IfSome};
+ghost use Rattle.lua_stack.specs.Frames.{HasLuaTop};
+ghost use Rattle.machine_arms_tables.specs.Frame.{AreOpenAlike, code};
+ghost use Rattle.machine_focus.specs.Focus.{Reaches};
+ghost use Rattle.machine_loop.specs.Running.{Running};
+ghost use Rattle.running_frame.specs.Calling.{AreFunctions, CallsIn, HaveCode};
+ghost use Rattle.running_frame.specs.Returning.{CallsOrReturns, ReturnsIn};
+ghost use Rattle.running_frame.specs.Standing.{MayRun, RunsAt, standing};
+
+use crate::calling::{call_function, is_call};
+use crate::place::is_none;
+use crate::returning::return_values;
+use crate::stack::{closed_from, run_round};
+use code_core::{Instruction, Opcode, fetch};
+use lua_heap::{Cell, Codes, Func, Strings};
+use lua_stack::Stack;
+use machine_arms_tables::Closure;
+use machine_loop::Memo;
+use object_pool::Pool;
+use table_core::Table;
+
+/// Runs the frame on top as far as it needs nothing but its own registers, and does the call or the return that stands there. `None` where it waits, or something
+/// else stands there. `size` is the number of registers of its code.
+#[inline(always)]
+pub(crate) fn cross_frame(
+    stack: &mut Stack,
+    closure: Closure,
+    size: usize,
+    strings: &Strings,
+    funcs: &Pool<Func>,
+    codes: &Codes,
+    tables: &mut Pool<Table>,
+    cells: &mut Pool<Cell>,
+    budget: &mut u64,
+) -> Option<()>
+    ghost g: { Running }
+    requires may { MayRun g (code closure strings.now) stack.old tables.old.objects cells.old.objects budget.old }
+    requires functions { AreFunctions g.around.context.base.functions funcs.now.objects codes.now }
+    requires size { size ≡ g.around.context.closure.code.own.stack }
+    ensures reaches { Reaches g.around.rows (standing g stack.old tables.old.objects cells.old.objects budget.old) (standing g stack.new tables.new.objects cells.new.objects budget.new) }
+    ensures opened { AreOpenAlike cells.old.objects cells.new.objects }
+    ensures listed { stack.new.open_cells ≡ stack.old.open_cells }
+{
+    let start = stack.pc();
+    let runs = is_none(stack.wait());
+    if !runs {
+        return None;
+    }
+    run_and_cross(
+        stack, closure, size, strings, funcs, codes, tables, cells, budget, start,
+    )
+}
+
+/// Does so where it runs, from its place on.
+#[inline(always)]
+fn run_and_cross(
+    stack: &mut Stack,
+    closure: Closure,
+    size: usize,
+    strings: &Strings,
+    funcs: &Pool<Func>,
+    codes: &Codes,
+    tables: &mut Pool<Table>,
+    cells: &mut Pool<Cell>,
+    budget: &mut u64,
+    start: usize,
+) -> Option<()>
+    ghost g: { Running }
+    requires runs { RunsAt g (code closure strings.now) stack.old tables.old.objects cells.old.objects budget.old start }
+    requires functions { AreFunctions g.around.context.base.functions funcs.now.objects codes.now }
+    requires size { size ≡ g.around.context.closure.code.own.stack }
+    ensures reaches { Reaches g.around.rows (standing g stack.old tables.old.objects cells.old.objects budget.old) (standing g stack.new tables.new.objects cells.new.objects budget.new) }
+    ensures opened { AreOpenAlike cells.old.objects cells.new.objects }
+    ensures listed { stack.new.open_cells ≡ stack.old.open_cells }
+{
+    let memo = Memo {
+        first: None,
+        second: None,
+        third: None,
+    };
+    let pc = run_round(stack, closure, strings, tables, cells, budget, &memo, start);
+    let i = fetch(closure.words, pc);
+    cross_at(stack, size, funcs, codes, budget, i)
+}
+
+/// A CALL or a return at which the frame on top stands. `None`, with all as before, at any other instruction, and where it takes more than the stack.
+#[inline(always)]
+fn cross_at(
+    stack: &mut Stack,
+    size: usize,
+    funcs: &Pool<Func>,
+    codes: &Codes,
+    budget: &mut u64,
+    i: Instruction,
+) -> Option<()>
+    requires top { HasLuaTop stack.old }
+    requires codes { HaveCode funcs.now.objects codes.now }
+    ensures crosses { IfSome result (λ _. CallsOrReturns stack.old stack.new size funcs.now.objects codes.now i budget.old budget.new) }
+    ensures kept { IfNone result ((stack.new ≡ stack.old) × (budget.new ≡ budget.old)) }
+    ensures listed { stack.new.open_cells ≡ stack.old.open_cells }
+{
+    match call_at(stack, size, funcs, codes, budget, i) {
+        Some(()) => Some(()),
+        None => return_at(stack, funcs, codes, i),
+    }
+}
+
+/// A CALL.
+#[inline(always)]
+fn call_at(
+    stack: &mut Stack,
+    size: usize,
+    funcs: &Pool<Func>,
+    codes: &Codes,
+    budget: &mut u64,
+    i: Instruction,
+) -> Option<()>
+    requires top { HasLuaTop stack.old }
+    requires codes { HaveCode funcs.now.objects codes.now }
+    ensures calls { IfSome result (λ _. CallsIn stack.old stack.new size funcs.now.objects codes.now i budget.old budget.new) }
+    ensures kept { IfNone result ((stack.new ≡ stack.old) × (budget.new ≡ budget.old)) }
+    ensures listed { stack.new.open_cells ≡ stack.old.open_cells }
+{
+    if !is_call(i) {
+        return None;
+    }
+    let closed = closed_from(stack);
+    call_function(stack, size, funcs, codes, budget, i, closed)
+}
+
+/// A return.
+#[inline(always)]
+fn return_at(stack: &mut Stack, funcs: &Pool<Func>, codes: &Codes, i: Instruction) -> Option<()>
+    requires top { HasLuaTop stack.old }
+    requires codes { HaveCode funcs.now.objects codes.now }
+    ensures returns { IfSome result (λ _. ReturnsIn stack.old stack.new funcs.now.objects codes.now i) }
+    ensures kept { IfNone result (stack.new ≡ stack.old) }
+    ensures listed { stack.new.open_cells ≡ stack.old.open_cells }
+{
+    if !is_return(i) {
+        return None;
+    }
+    let closed = closed_from(stack);
+    return_values(stack, funcs, codes, i, closed)
+}
+
+/// Whether it is a return.
+#[inline(always)]
+fn is_return(i: Instruction) -> bool {
+    match i.opcode() {
+        Some(Opcode::Return) => true,
+        Some(Opcode::Return0) => true,
+        Some(Opcode::Return1) => true,
+        _ => false,
+    }
+}
