@@ -24,10 +24,14 @@ use Rattle.step_laws.proofs.Unpaid.{IsUnpaid}
 use Rattle.step_laws.proofs.Small.{forms_are_small, forms_are_within}
 use Rattle.step_laws.proofs.Stepping.{instruction_is_safe, instruction_is_step, unpaid_is_step}
 use Rattle.machine_step.specs.Step.{Goes, Passes}
-use Rattle.machine_step.specs.Places.{RunsForm}
+use Rattle.machine_step.specs.Places.{MayRun, RunsForm}
 use Rattle.machine_call_rows.specs.Rows.{MayKeep}
 use Rattle.machine_operations.specs.Copying.{CanCopy}
 use Rattle.machine_objects.specs.Filling.{FrameRuns}
+
+-- the form of what may run is known
+pub may_run : {W : Memory} {pc : ℕ} {form known : Form} → MayRun W pc form → form ≡ known → MayRun W pc known
+may_run {W} {pc} m e = subst (MayRun W pc) e m
 
 module _ {W : Memory} {pc : ℕ} {form : Form} (r : RunsForm W pc form) where
   pub stands : StandsAt W pc
@@ -60,14 +64,14 @@ module _ {W : Memory} {pc : ℕ} {form : Form} (r : RunsForm W pc form) where
         (subst (λ n. Steps (expand (text_of r.runs.place.function.code n form)) [] W fuel new left to) (sym r.at) s);
   }
 
-  pub passes : {new : Memory} {to : Ending} → (is_spent to → ⊥) → Leads (expand (text_of r.runs.place.function.code pc form)) [] W new to
-      → Passes go W new to
-  passes n l = record { is = λ rows fuel. (does (steps_of fuel n l)).is rows }
+  pub passes : {new : Memory} {fuel : ℕ} {to : Ending} → (is_spent to → ⊥) → Leads (expand (text_of r.runs.place.function.code pc form)) [] W new to
+      → Goes W fuel new fuel to
+  passes {fuel = fuel} n l = does (steps_of fuel n l)
 
-  pub unpaid : {new : Memory} {to : Ending} → IsUnpaid (text_of r.runs.place.function.code pc form)
-      → Leads (expand (text_of r.runs.place.function.code pc form)) [] W new to → Passes go W new to
-  unpaid {new} {to} u l = record {
-    is = λ rows fuel. unpaid_is_step rows W new fuel to form r.runs r.has
+  pub unpaid : {new : Memory} {fuel : ℕ} {to : Ending} → IsUnpaid (text_of r.runs.place.function.code pc form)
+      → Leads (expand (text_of r.runs.place.function.code pc form)) [] W new to → Goes W fuel new fuel to
+  unpaid {new} {fuel} {to} u l = record {
+    is = λ rows. unpaid_is_step rows W new fuel to form r.runs r.has
         (subst (λ n. IsUnpaid (text_of r.runs.place.function.code n form)) (sym r.at) u)
         (subst (λ n. Leads (expand (text_of r.runs.place.function.code n form)) [] W new to) (sym r.at) l);
   }

@@ -1,14 +1,8 @@
 //! A step of the machine on a world in memory: a script is one step after another (luaV_execute of lvm.c, luaD_throw and luaD_poscall of ldo.c of Lua 5.4).
 #![tactic(auto)]
 
-mod calling;
-mod computing;
 mod going_on;
 mod instructions;
-mod jumping;
-mod loading;
-mod objects;
-mod returning;
 mod stepping;
 
 pub use going_on::go_on_with;

@@ -1,6 +1,6 @@
 use Rattle.std.proofs.lemmas.Result.{IfOk-weaker}
 use Rattle.machine_step.proofs.ByForm.{begins, safe, does}
-use Rattle.machine_step.proofs.returning.run_close.Goals as goal
+use Rattle.machine_step.proofs.instructions.close_from.Goals as goal
 
 pub close_variables-requires : goal.close_variables-requires
 close_variables-requires c = record { stands = begins c.requires.runs c.requires.sound; safe = safe c.requires.runs c.requires.sound }
