@@ -3,7 +3,7 @@ ghost use Rattle.std.specs.Prelude.{◌≡◌};
 ghost use Rattle.lua_feed.specs.Faults.{fault_of_line};
 
 use io_edge::{Failed, LineFault};
-use std::alloc::{AllocError, AllocFailed};
+use std::alloc::AllocError;
 use thiserror::Error;
 
 /// Why it is not known how the run on an input's lines closes.
@@ -51,16 +51,6 @@ impl From<AllocError> for FeedFault {
     ghost from_gives = { λ _ made. made ≡ Memory };
 
     fn from(_: AllocError) -> FeedFault {
-        FeedFault::Memory
-    }
-}
-
-impl<T: Drop> From<AllocFailed<T>> for FeedFault {
-    ghost use Rattle.lua_feed.specs.declared.fault.FeedFault.TheVariants.{Memory};
-
-    ghost from_gives = { λ _ made. made ≡ Memory };
-
-    fn from(_: AllocFailed<T>) -> FeedFault {
         FeedFault::Memory
     }
 }
