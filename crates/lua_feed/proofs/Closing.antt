@@ -6,7 +6,6 @@ use Rattle.machine_runs.specs.Runs.{is_end, is_suspended}
 use Rattle.lua_feed.specs.declared.feeding.Close.{Close as Kept}
 use Rattle.lua_feed.specs.declared.feeding.Close.TheVariants.{Returned, Failed, Spent}
 use Rattle.lua_feed.specs.Closes.{close_of, closing}
-use Rattle.lua_feed.proofs.Runs.{close_at, is_last}
 
 pub yields : (e : Ending) → is_end e ≡ true → closing e ≡ None → e ≡ main_yielded
 yields main_yielded h c = refl
@@ -15,18 +14,7 @@ yields main_failed h c = absurd (cc)
 yields spent h c = absurd (cc)
 yields _ h c = absurd (cc)
 
-pub record Last (e : Ending) (k : Kept) : Type 0 where
-  pub last : is_last e ≡ true
-  pub close : close_at e ≡ close_of k
-
-pub last : (e : Ending) (k : Kept) → closing e ≡ Some k → Last e k
-last main_returned k c = record { last = refl; close = ap close_of (some_same Returned k c) }
-last main_failed k c = record { last = refl; close = ap close_of (some_same Failed k c) }
-last spent k c = record { last = refl; close = ap close_of (some_same Spent k c) }
-last main_yielded k c = absurd (cc)
-last _ k c = absurd (cc)
-
--- such an end is no suspension
+-- an end that no line follows is no suspension
 pub ended_otherwise : (e : Ending) (k : Kept) → closing e ≡ Some k → close_of k ≡ is_suspended → ⊥
 ended_otherwise main_returned k c s = let is = ap close_of (some_same Returned k c) ∙ s in absurd (cc)
 ended_otherwise main_failed k c s = let is = ap close_of (some_same Failed k c) ∙ s in absurd (cc)

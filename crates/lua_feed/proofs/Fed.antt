@@ -3,7 +3,7 @@ use Rattle.std.proofs.Common.{◌≡◌, ℕ, zero, suc, ◌+◌, true, false, L
 use Rattle.std.specs.Prelude.{option_map, IfSome}
 use Rattle.list_laws.proofs.Items.{some_same}
 use Rattle.machine_core.specs.World.{World}
-use Rattle.machine_core.specs.Moves.{Ending, main_yielded, main_returned, main_failed, spent, Row}
+use Rattle.machine_core.specs.Moves.{Ending, main_yielded, Row}
 use Rattle.machine_sound.specs.Sound.{Each}
 use Rattle.machine_sound.proofs.Lists.{each_none, each_append, each_push}
 use Rattle.machine_runs.specs.Opening.{handed_line}
@@ -13,10 +13,13 @@ use Rattle.lua_heap.specs.Plain.{plain}
 use Rattle.io_edge.specs.Content.{GrowsByFront}
 use Rattle.io_edge.specs.Lines.{lines_of, TakesLine, BeginsPastLimits, IsWithinLimits}
 use Rattle.lua_driver.specs.Turns.{Turns}
+use Rattle.lua_feed.specs.declared.feeding.Close.{Close as Kept}
+use Rattle.lua_feed.specs.Closes.{close_of, closing}
 use Rattle.lua_feed.specs.Feeding.{Does, IsBrokenOff, IsCutOff, IsFedTo, IsFront, IsFedFront, OnlyGrows}
 use Rattle.lua_feed.specs.Limits.{lines_within, pass_limits, usable_lines, passes_limits}
 use Rattle.lua_feed.proofs.Limits.{keeps_within, passes_on, none_usable, passes_now, none_left, none_past}
-use Rattle.lua_feed.proofs.Runs.{close_at, is_last, Comes, GoesOn, PrintsFirst, comes_none, comes_on, ends_here, suspends_here, turn_prints}
+use Rattle.lua_feed.proofs.Closing.{ended_otherwise}
+use Rattle.lua_feed.proofs.Runs.{Comes, GoesOn, PrintsFirst, comes_none, comes_on, ends_here, suspends_here, turn_prints}
 
 -- fronts
 
@@ -211,31 +214,25 @@ fed_on rows budget start text before first now mid new rest next after later tak
       short = each_push Short f.used line f.short within.short_line;
     }
 
-last_ends : (e : Ending) → is_last e ≡ true → close_at e ≡ is_suspended → ⊥
-last_ends main_returned h c = absurd (cc)
-last_ends main_failed h c = absurd (cc)
-last_ends spent h c = absurd (cc)
-last_ends _ h c = absurd (cc)
-
 -- it closes by a turn that no line follows
-pub fed_last : (rows : ℕ → Row) (budget : ℕ) (start : Memory) (text before : Option (List ℕ)) (first : ℕ) (now mid : Memory) (rest after later : Option (List ℕ)) (taken : ℕ) (e : Ending)
-    → Feeding rows budget start text before first now rest after taken → Turns rows now mid budget e → is_last e ≡ true → later ≡ option_map (λ t. t ++ turn_text e (plain mid 0)) after
-    → IsFedTo (Does rows (plain start 0) budget) first text before later (close_at e) mid
-fed_last rows budget start text before first now mid rest after later taken e f t h grown =
-    let r : Run = closes e (close_at e) (plain mid t.left) in
+pub fed_last : (rows : ℕ → Row) (budget : ℕ) (start : Memory) (text before : Option (List ℕ)) (first : ℕ) (now mid : Memory) (rest after later : Option (List ℕ)) (taken : ℕ) (e : Ending) (k : Kept)
+    → Feeding rows budget start text before first now rest after taken → Turns rows now mid budget e → closing e ≡ Some k → later ≡ option_map (λ t. t ++ turn_text e (plain mid 0)) after
+    → IsFedTo (Does rows (plain start 0) budget) first text before later (close_of k) mid
+fed_last rows budget start text before first now mid rest after later taken e k f t h grown =
+    let r : Run = closes e (close_of k) (plain mid t.left) in
     record {
       fed = record {
         lines = f.used ++ all_rest rest;
         are = all_lines rows budget start before first now after taken text rest f;
         run = behind f.printed r;
-        runs = f.comes.goes (all_rest rest) r (ends_here rows budget (plain now 0) (plain mid t.left) t.count e (all_rest rest) h t.is);
+        runs = f.comes.goes (all_rest rest) r (ends_here rows budget (plain now 0) (plain mid t.left) t.count e k (all_rest rest) h t.is);
         closes = refl;
         grown = grows_twice f.printed (turn_text e (plain mid 0)) before after later f.grown grown;
-        within = told_within (λ ls. CodeRun rows (plain start 0) ls budget (behind f.printed r)) (λ bytes. close_at e ≡ is_suspended → passes_limits first bytes ≡ false) first (f.used ++ rest_lines taken rest) text
+        within = told_within (λ ls. CodeRun rows (plain start 0) ls budget (behind f.printed r)) (λ bytes. close_of k ≡ is_suspended → passes_limits first bytes ≡ false) first (f.used ++ rest_lines taken rest) text
             (are_lines rows budget start before first now after taken text rest f)
-            (f.comes.goes (rest_lines taken rest) r (ends_here rows budget (plain now 0) (plain mid t.left) t.count e (rest_lines taken rest) h t.is))
-            (told_all (λ bytes. close_at e ≡ is_suspended → passes_limits first bytes ≡ false) text (λ bytes c. absurd (last_ends e h c)));
-        short = λ c. absurd (last_ends e h c);
+            (f.comes.goes (rest_lines taken rest) r (ends_here rows budget (plain now 0) (plain mid t.left) t.count e k (rest_lines taken rest) h t.is))
+            (told_all (λ bytes. close_of k ≡ is_suspended → passes_limits first bytes ≡ false) text (λ bytes c. absurd (ended_otherwise e k h c)));
+        short = λ c. absurd (ended_otherwise e k h c);
       };
       leaves = record { left = t.left; is = refl };
     }

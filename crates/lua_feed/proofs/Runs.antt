@@ -1,5 +1,5 @@
 -- Runs by their turns: what a run on lines has done so far, and how it goes on.
-use Rattle.std.proofs.Common.{◌≡◌, ℕ, ◌+◌, Bool, true, false, List, [], ◌∷◌, ◌++◌, Option, Some, None, refl, sym, ◌∙◌, ap, arith, append_assoc, append-nil, subst}
+use Rattle.std.proofs.Common.{◌≡◌, ℕ, ◌+◌, true, List, [], ◌∷◌, ◌++◌, Option, Some, None, refl, sym, ◌∙◌, ap, arith, append_assoc, append-nil, subst}
 use Rattle.std.specs.Prelude.{option_map}
 use Rattle.list_laws.proofs.Items.{some_same}
 use Rattle.machine_core.specs.World.{World}
@@ -7,20 +7,9 @@ use Rattle.machine_core.specs.Moves.{Ending, main_yielded, main_returned, main_f
 use Rattle.machine_runs.specs.Opening.{handed_line}
 use Rattle.machine_runs.specs.Runs.{turn, is_end, has_ended, Close, has_returned, has_failed, has_spent, is_suspended, Run, behind, suspends, turn_text, closes, at_end, run_from, CodeRun}
 use Rattle.machine_runs.proofs.Runs.{turn_within, given_within}
-
--- how a run closes whose last turn ends so
-abbrev pub close_at : Ending → Close
-close_at main_returned = has_returned
-close_at main_failed = has_failed
-close_at main_yielded = is_suspended
-close_at _ = has_spent
-
--- an end that no line follows
-abbrev pub is_last : Ending → Bool
-is_last main_returned = true
-is_last main_failed = true
-is_last spent = true
-is_last _ = false
+use Rattle.lua_feed.specs.declared.feeding.Close.{Close as Kept}
+use Rattle.lua_feed.specs.declared.feeding.Close.TheVariants.{Returned, Failed, Spent}
+use Rattle.lua_feed.specs.Closes.{close_of, closing}
 
 -- what a run prints first
 pub record PrintsFirst (text : List ℕ) (r : Run) : Type 0 where
@@ -91,17 +80,19 @@ module _ (rows : ℕ → Row) (budget : ℕ) where
 
   -- the last turn: lines past the last one that is used do not matter
 
-  at_last : (e : Ending) (V : World) (goes : World → Option Run) → is_last e ≡ true → at_end (ends e V) goes ≡ Some (closes e (close_at e) V)
-  at_last main_returned V goes h = refl
-  at_last main_failed V goes h = refl
-  at_last spent V goes h = refl
-  at_last _ V goes h = absurd (cc)
+  at_last : (e : Ending) (k : Kept) (V : World) (goes : World → Option Run) → closing e ≡ Some k → at_end (ends e V) goes ≡ Some (closes e (close_of k) V)
+  at_last main_returned k V goes h = ap (λ (k : Kept). Some (closes main_returned (close_of k) V)) (some_same Returned k h)
+  at_last main_failed k V goes h = ap (λ (k : Kept). Some (closes main_failed (close_of k) V)) (some_same Failed k h)
+  at_last spent k V goes h = ap (λ (k : Kept). Some (closes spent (close_of k) V)) (some_same Spent k h)
+  at_last main_yielded k V goes h = absurd (cc)
+  at_last _ k V goes h = absurd (cc)
 
-  pub ends_here : (now V : World) (count : ℕ) (e : Ending) (more : List (List ℕ)) → is_last e ≡ true → turn rows count now budget ≡ ends e V → CodeRun rows now more budget (closes e (close_at e) V)
-  ends_here now V count e [] h t = record { count = count; gives = ap (λ o. at_end o suspends) t ∙ at_last e V suspends h }
-  ends_here now V count e (line ∷ more) h t =
+  pub ends_here : (now V : World) (count : ℕ) (e : Ending) (k : Kept) (more : List (List ℕ)) → closing e ≡ Some k → turn rows count now budget ≡ ends e V
+      → CodeRun rows now more budget (closes e (close_of k) V)
+  ends_here now V count e k [] h t = record { count = count; gives = ap (λ o. at_end o suspends) t ∙ at_last e k V suspends h }
+  ends_here now V count e k (line ∷ more) h t =
       let goes : World → Option Run = λ V. run_from rows count (handed_line V line) more budget in
-      record { count = count; gives = ap (λ o. at_end o goes) t ∙ at_last e V goes h }
+      record { count = count; gives = ap (λ o. at_end o goes) t ∙ at_last e k V goes h }
 
   pub suspends_here : (now V : World) (count : ℕ) → turn rows count now budget ≡ ends main_yielded V
       → CodeRun rows now [] budget (behind (turn_text main_yielded V) (record { printed = []; close = is_suspended; last = V }))

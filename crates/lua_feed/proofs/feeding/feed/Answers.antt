@@ -9,15 +9,13 @@ use Rattle.lua_stack.proofs.Called.{on_err}
 use Rattle.machine_core.specs.Moves.{Ending, main_yielded}
 use Rattle.machine_moves.specs.Ending.{ending_of}
 use Rattle.machine_runs.specs.Opening.{handed_line}
-use Rattle.machine_runs.specs.Runs.{Close, turn_text}
+use Rattle.machine_runs.specs.Runs.{turn_text}
 use Rattle.loaded_code.specs.Laws.{library}
-use Rattle.source_builds.specs.Readings.{AsRead}
 use Rattle.source_builds.proofs.Knowing.{read_all, read_both}
 use Rattle.source_builds.proofs.Lookups.{read_some}
 use Rattle.lua_feed.specs.Faults.{fault_of_line, is_input_fault, is_output_fault}
-use Rattle.lua_feed.specs.Feeding.{Does, IsFedTo}
 use Rattle.lua_feed.proofs.Causes.{cause_since, line_input, line_limit, line_no_output, no_input, no_limit, not_failed, same_output, unfailed, untouched}
-use Rattle.lua_feed.proofs.Closing.{yields, last, ended_otherwise}
+use Rattle.lua_feed.proofs.Closing.{yields, ended_otherwise}
 use Rattle.lua_feed.proofs.Fed.{fed_none, fed_on, fed_last, fed_suspended, fed_cut, fed_broken, fed_front, front_written, only_grown, only_twice}
 use Rattle.lua_feed.proofs.feeding.feed.Goals as goal
 
@@ -76,10 +74,8 @@ returns-in-Some-clause-fed g c =
     let e = ending_of c.in_ok-ending.ending in
     let before = g.K.Sink.written c.args.out.now in
     let text = ahead c.args.reader.now (g.S.Source.left c.args.input.now) in
-    let l = last e c.in-Some.close (sym c.close_at.ensures ∙ c.in-Some.is) in
-    subst (λ (k : Close). AsRead (λ builds. IsFedTo (Does (library builds) (plain c.args.world.now 0) c.args.budget) c.args.reader.now.taken text before (g.K.Sink.written c.write_turn.new.out) k c.write_turn.new.world)) l.close
-    (read_both (λ builds are f t. fed_last (library builds) c.args.budget c.args.world.now text before c.args.reader.now.taken c.turns.world c.write_turn.new.world (ahead c.turns.reader (g.S.Source.left c.turns.input))
-    (g.K.Sink.written c.turns.out) (g.K.Sink.written c.write_turn.new.out) c.turns.reader.taken e f t l.last c.in_ok-ending.ensures.written) c.turns.invariant.so_far c.in_ok-ending.ensures.turns)
+    read_both (λ builds are f t. fed_last (library builds) c.args.budget c.args.world.now text before c.args.reader.now.taken c.turns.world c.write_turn.new.world (ahead c.turns.reader (g.S.Source.left c.turns.input))
+    (g.K.Sink.written c.turns.out) (g.K.Sink.written c.write_turn.new.out) c.turns.reader.taken e c.in-Some.close f t (sym c.close_at.ensures ∙ c.in-Some.is) c.in_ok-ending.ensures.written) c.turns.invariant.so_far c.in_ok-ending.ensures.turns
 
 -- no line was read
 
