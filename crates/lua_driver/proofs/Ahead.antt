@@ -1,7 +1,9 @@
 -- Steps that end in no end of the turn bring that end no further away.
-use Rattle.std.proofs.Common.{ℕ, zero, suc, ◌+◌, ◌<◌, ◌≤◌, ◌≡◌, ◌⊎◌, ⊎_elim, refl, ap, sym, ◌∙◌, subst, Bool, true, false, arith}
-use Rattle.std.specs.Prelude.{cond, length}
+use Rattle.std.proofs.Common.{ℕ, zero, suc, ◌+◌, ◌<◌, ◌≤◌, ◌≡◌, ◌⊎◌, ⊎_elim, refl, ap, sym, ◌∙◌, subst, Bool, true, false, Option, Some, None, arith}
+use Rattle.std.specs.Prelude.{cond, length, IfNone, IfSome}
+use Rattle.tree_core.specs.Tree.{Body}
 use Rattle.library_rows.specs.Library.{all_entries}
+use Rattle.load_rows.specs.Loading.{Builds}
 use Rattle.machine_core.specs.World.{World}
 use Rattle.machine_core.specs.Moves.{Ending, go, spent, main_yielded, main_returned, main_failed, Row, Outcome, trapped, ends}
 use Rattle.machine_core.specs.MachineStep.{step, steps, and_then}
@@ -15,6 +17,10 @@ use Rattle.machine_focus.specs.Focus.{Reaches as PlainReaches}
 use Rattle.machine_moves.specs.Ending.{ending_of}
 use Rattle.machine_moves.specs.declared.ending.Ending.{Ending as Kept}
 use Rattle.machine_moves.specs.declared.ending.Ending.TheVariants.{Go}
+use Rattle.loaded_code.specs.Laws.{library}
+use Rattle.source_builds.specs.Builds.{BuildsSources}
+use Rattle.source_builds.specs.Readings.{AsRead}
+use Rattle.source_builds.proofs.Knowing.{read_all}
 use Rattle.machine_library_calls.specs.Calls.{Comes}
 use Rattle.step_laws.specs.Steps.{Does, IsReady}
 use Rattle.running_frame.proofs.Chained.{steps_then}
@@ -87,6 +93,18 @@ at_once {from = from} {old = old} {fuel = fuel} r d = record { mid = old; rest =
 
 pub further_so : {rows : ℕ → Row} {to : Ending} {old new : Memory} {fuel left : ℕ} → Comes rows old fuel new left to → GoesFurther rows go old fuel new left to
 further_so c = record { mid = c.mid; rest = c.rest; at = c.at; goes_on = λ h. c.goes_on; reaches = record { count = c.count; is = c.is }; ready = c.ready; does = c.does }
+
+-- what a function of the libraries did at once, and that all is as before where it is none
+pub done_here : {old new : Memory} {fuel left : ℕ} {done : Option Kept} {ending : Kept} → done ≡ Some ending
+    → IfSome done (λ ending. (builds : Builds Body) → BuildsSources builds → Comes (library builds) old fuel new left (ending_of ending))
+    → AsRead (λ builds. GoesFurther (library builds) go old fuel new left (ending_of ending))
+done_here {old} {new} {fuel} {left} {done} {ending} e h =
+    let comes : (builds : Builds Body) → BuildsSources builds → Comes (library builds) old fuel new left (ending_of ending) =
+    subst (λ o. IfSome o (λ ending. (builds : Builds Body) → BuildsSources builds → Comes (library builds) old fuel new left (ending_of ending))) e h in
+    read_all (λ builds are. further_so (comes builds are))
+
+pub nothing_done : {old new : Memory} {fuel left : ℕ} {done : Option Kept} → done ≡ None → IfNone done ((new ≡ old) × (left ≡ fuel)) → (new ≡ old) × (left ≡ fuel)
+nothing_done {old} {new} {fuel} {left} e h = subst (λ o. IfNone o ((new ≡ old) × (left ≡ fuel))) e h
 
 pub went_further : {rows : ℕ → Row} {ending : Kept} {to : Ending} {old mid new : Memory} {fuel rest left : ℕ} → ending ≡ Go → PlainReaches rows (plain old fuel) (plain mid rest) → GoesFurther rows go mid rest new left to
     → GoesFurther rows (ending_of ending) old fuel new left to

@@ -1,7 +1,8 @@
 -- Where a frame that runs at a return of one value or of none returns.
-use Rattle.std.proofs.Common.{◌≡◌, ℕ, suc, ◌-◌, ◌≤◌, List, [], length, Option, None, Bool, true, false, refl, ap, sym, subst, ◌∙◌, arith}
+use Rattle.std.proofs.Common.{◌≡◌, ℕ, suc, ◌-◌, ◌≤◌, List, [], length, Option, Some, None, Bool, true, false, refl, ap, sym, subst, ◌∙◌, arith}
 use Rattle.std.specs.Prelude.{cond, map, not, ◌==◌}
-use Rattle.code_core.specs.Instruction.{a_of}
+use Rattle.code_core.specs.declared.opcode.Opcode.{Opcode}
+use Rattle.code_core.specs.Instruction.{a_of, opcode_of}
 use Rattle.code_core.specs.Prototype.{Prototype}
 use Rattle.int_core.specs.Value.{Value, Shape, is_known, nil}
 use Rattle.machine_core.specs.Text.{Text, read_registers}
@@ -11,12 +12,15 @@ use Rattle.machine_core.specs.Moves.{Ending, on_own}
 use Rattle.machine_sound.proofs.OpcodesCalls.{not_zero}
 use Rattle.table_core.specs.declared.value.Value.{Value as Kept}
 use Rattle.instruction_forms.specs.declared.form.Form.{Form}
+use Rattle.instruction_forms.specs.declared.form.Form.TheVariants.{ReturnSome}
 use Rattle.instruction_forms.specs.Forms.{text_of}
+use Rattle.instruction_forms.specs.Waiting.{form_at}
 use Rattle.lua_heap.specs.declared.world.World.{World as Memory}
 use Rattle.lua_heap.specs.Reading.{value}
 use Rattle.move_laws.specs.Memory.{CanDo, IsSafe, IsSound, Makes, Steps}
 use Rattle.move_laws.proofs.Rows.{can_do}
 use Rattle.machine_returns.proofs.Closed.{SeesPending, seen_none, steps_first}
+use Rattle.step_laws.specs.Steps.{HasForm}
 use Rattle.running_frame.specs.declared.place.Here.{Here}
 use Rattle.running_frame.specs.Here.{IsHere}
 use Rattle.machine_step.specs.Places.{RunsForm}
@@ -29,6 +33,11 @@ use Rattle.lua_driver.specs.Returning.{Returns, ReturnsFew, ReturnsFrom, by_numb
 pub waits_where : (b : Bool) → not b ≡ true → b ≡ false
 waits_where true e = absurd (cc)
 waits_where false e = refl
+
+-- a frame runs at an instruction that is told how many values it returns
+pub returns_some : {here : Here} (op : Opcode) (count : ℕ) → here.runs ≡ true → opcode_of here.word ≡ Some op → form_at op here.word ≡ Some (ReturnSome (a_of here.word) count)
+    → HasForm op here.word (ReturnSome (a_of here.word) count) → ReturnsFew here count
+returns_some {here} op count r o f h = record { runs = r; opcode = op; is_opcode = o; form = ReturnSome (a_of here.word) count; is_form = f; has = h; returns = without_number }
 
 -- the row of a RETURN reads the values, and returns them
 

@@ -1,9 +1,6 @@
-use Rattle.std.proofs.Common.{◌≡◌, [], length, sym, subst, arith}
-use Rattle.std.specs.Prelude.{IfNone, IfSome}
+use Rattle.std.proofs.Common.{[], length, sym, subst, arith}
 use Rattle.std.proofs.lemmas.Result.{IfOk-weaker}
-use Rattle.tree_core.specs.Tree.{Body}
 use Rattle.library_rows.specs.Library.{all_entries}
-use Rattle.load_rows.specs.Loading.{Builds}
 use Rattle.instruction_forms.specs.Forms.{text_of}
 use Rattle.instruction_forms.specs.declared.form.Form.TheVariants.{Call}
 use Rattle.machine_core.specs.FrameRows.{expand}
@@ -12,11 +9,9 @@ use Rattle.machine_moves.specs.Ending.{ending_of}
 use Rattle.machine_call_rows.specs.Rows.{MayKeep}
 use Rattle.step_laws.proofs.Ready.{ready_is_sound}
 use Rattle.loaded_code.specs.Laws.{library}
-use Rattle.source_builds.specs.Builds.{BuildsSources}
 use Rattle.source_builds.proofs.Knowing.{read_all}
-use Rattle.machine_library_calls.specs.Calls.{Comes}
 use Rattle.machine_step.proofs.ByForm.{does, keeps, safe, small}
-use Rattle.lua_driver.proofs.Ahead.{at_once, further_so}
+use Rattle.lua_driver.proofs.Ahead.{at_once, done_here, nothing_done}
 use Rattle.lua_driver.proofs.CallForm.{form_here}
 use Rattle.lua_driver.proofs.calling.call_here.Goals as goal
 
@@ -24,53 +19,32 @@ pub call_library-requires-clause-runs : goal.call_library-requires-clause-runs
 call_library-requires-clause-runs c = form_here (ready_is_sound (length all_entries) _ c.args.world.now c.requires.ready) c.requires.here c.requires.calls
 
 pub returns-in-Some-clause-goes : goal.returns-in-Some-clause-goes
-returns-in-Some-clause-goes c =
-    let comes : (builds : Builds Body) → BuildsSources builds → Comes (library builds) c.args.world.now c.args.budget.now c.call_library.new.world c.call_library.new.budget (ending_of c.in-Some.ending) =
-    subst (λ o. IfSome o (λ ending. (builds : Builds Body) → BuildsSources builds
-    → Comes (library builds) c.args.world.now c.args.budget.now c.call_library.new.world c.call_library.new.budget (ending_of ending))) c.in-Some.is c.in_ok-done.ensures.comes in
-    read_all (λ builds are. further_so (comes builds are))
+returns-in-Some-clause-goes c = done_here c.in-Some.is c.in_ok-done.ensures.comes
 
-pub call-requires-clause-sound : goal.call-requires-clause-sound
-call-requires-clause-sound c =
+pub call-requires : goal.call-requires
+call-requires c =
     let s = ready_is_sound (length all_entries) _ c.args.world.now c.requires.ready in
-    let k : (c.call_library.new.world ≡ c.args.world.now) × (c.call_library.new.budget ≡ c.args.budget.now) =
-    subst (λ o. IfNone o ((c.call_library.new.world ≡ c.args.world.now) × (c.call_library.new.budget ≡ c.args.budget.now))) c.in-None.is c.in_ok-done.ensures.kept in
-    subst IsSound (sym k.0) s
-
-pub call-requires-clause-keeps : goal.call-requires-clause-keeps
-call-requires-clause-keeps c =
-    let s = ready_is_sound (length all_entries) _ c.args.world.now c.requires.ready in
-    let k : (c.call_library.new.world ≡ c.args.world.now) × (c.call_library.new.budget ≡ c.args.budget.now) =
-    subst (λ o. IfNone o ((c.call_library.new.world ≡ c.args.world.now) × (c.call_library.new.budget ≡ c.args.budget.now))) c.in-None.is c.in_ok-done.ensures.kept in
-    subst (λ W. MayKeep W c.args.at.keeps) (sym k.0) (keeps (form_here s c.requires.here c.requires.calls))
-
-pub call-requires-clause-near : goal.call-requires-clause-near
-call-requires-clause-near c =
-    let s = ready_is_sound (length all_entries) _ c.args.world.now c.requires.ready in
-    let l = (small (form_here s c.requires.here c.requires.calls)).0 in
-    omega (arith, l)
-
-pub call-requires-clause-safe : goal.call-requires-clause-safe
-call-requires-clause-safe c =
-    let s = ready_is_sound (length all_entries) _ c.args.world.now c.requires.ready in
-    let k : (c.call_library.new.world ≡ c.args.world.now) × (c.call_library.new.budget ≡ c.args.budget.now) =
-    subst (λ o. IfNone o ((c.call_library.new.world ≡ c.args.world.now) × (c.call_library.new.budget ≡ c.args.budget.now))) c.in-None.is c.in_ok-done.ensures.kept in
-    λ p pc. subst (λ W. IsSafe (expand (text_of p pc (Call c.args.at.function c.args.at.count c.args.at.keeps c.args.at.iterates))) [] W) (sym k.0) (safe (form_here s c.requires.here c.requires.calls) s)
+    let r = form_here s c.requires.here c.requires.calls in
+    let k = nothing_done c.in-None.is c.in_ok-done.ensures.kept in
+    let l = (small r).0 in
+    record {
+      sound = subst IsSound (sym k.0) s;
+      keeps = subst (λ W. MayKeep W c.args.at.keeps) (sym k.0) (keeps r);
+      near = omega (arith, l);
+      safe = λ p pc. subst (λ W. IsSafe (expand (text_of p pc (Call c.args.at.function c.args.at.count c.args.at.keeps c.args.at.iterates))) [] W) (sym k.0) (safe r s);
+    }
 
 pub returns-in-None-clause-goes : goal.returns-in-None-clause-goes
 returns-in-None-clause-goes c =
     let W = c.args.world.now in
     let V = c.call.new.world in
     let left = c.call.new.budget in
-    let s = ready_is_sound (length all_entries) _ W c.requires.ready in
-    let k : (c.call_library.new.world ≡ W) × (c.call_library.new.budget ≡ c.args.budget.now) =
-    subst (λ o. IfNone o ((c.call_library.new.world ≡ W) × (c.call_library.new.budget ≡ c.args.budget.now))) c.in-None.is c.in_ok-done.ensures.kept in
-    let r = form_here s c.requires.here c.requires.calls in
-    let p = r.runs.place.function.code in
-    let row = expand (text_of p c.args.here.pc (Call c.args.at.function c.args.at.count c.args.at.keeps c.args.at.iterates)) in
+    let r = form_here (ready_is_sound (length all_entries) _ W c.requires.ready) c.requires.here c.requires.calls in
+    let k = nothing_done c.in-None.is c.in_ok-done.ensures.kept in
+    let row = expand (text_of r.runs.place.function.code c.args.here.pc (Call c.args.at.function c.args.at.count c.args.at.keeps c.args.at.iterates)) in
     IfOk-weaker c.call.result _ _
     (λ next t.
     let steps : Steps row [] W c.args.budget.now V left (ending_of next) =
-    subst (λ fuel. Steps row [] W fuel V left (ending_of next)) k.1 (subst (λ X. Steps row [] X c.call_library.new.budget V left (ending_of next)) k.0 (t p c.args.here.pc)) in
+    subst (λ fuel. Steps row [] W fuel V left (ending_of next)) k.1 (subst (λ X. Steps row [] X c.call_library.new.budget V left (ending_of next)) k.0 (t r.runs.place.function.code c.args.here.pc)) in
     read_all (λ builds are. at_once c.requires.ready ((does r steps).is (library builds))))
     c.call.ensures.steps
