@@ -2,7 +2,7 @@
 use Rattle.std.proofs.Common.{◌≡◌, ℕ, zero, suc, List, [], ◌∷◌, ◌++◌, Bool, true, false, Option, Some, None, length, refl, ap, sym, subst}
 use Rattle.std.specs.Prelude.{codes, ℤ, pos, negsuc, cond, drop}
 use Rattle.int_core.specs.Limits.{stack_overflow}
-use Rattle.int_core.specs.Value.{a_table, a_function, a_coroutine, Value, Shape, is_known, is_object}
+use Rattle.int_core.specs.Value.{a_coroutine, Value, Shape, is_object}
 use Rattle.machine_core.specs.World.{World}
 use Rattle.machine_core.specs.Moves.{create, Told, Made, move, CallShape, is_entered, is_primitive, not_paid, not_entered, ResumeShape, resumed, refused, resumes, closes_coroutine, Ending, Row, traps, stop, only, act, Outcome, trapped, ends, run}
 use Rattle.machine_core.specs.Text.{Arg, read}
@@ -103,9 +103,7 @@ resumes_so (refused text) f = λ n t c. hands_over
 
 resumed_so : (n : ℕ) (s : Shape) → Unspent (Rattle.machine_core.specs.MachineStep.resumes s n)
 resumed_so n (is_object a_coroutine) = λ a s f. resumes_so s f
-resumed_so n (is_object a_table) = blames_so []
-resumed_so n (is_object a_function) = blames_so []
-resumed_so n (is_known p) = blames_so []
+resumed_so n _ = blames_so []
 
 resume_so : Unspent resume_row
 resume_so n t c = λ m s d. resumed_so n s
@@ -128,9 +126,7 @@ closes_so (refused text) f = blames_so text
 
 closed_so : (n : ℕ) (s : Shape) → Unspent (Rattle.machine_core.specs.MachineStep.closes_coroutine s n)
 closed_so n (is_object a_coroutine) = λ a s f. closes_so s f
-closed_so n (is_object a_table) = blames_so []
-closed_so n (is_object a_function) = blames_so []
-closed_so n (is_known p) = blames_so []
+closed_so n _ = blames_so []
 
 close_so : Unspent close_row
 close_so n t c = λ m s d. closed_so n s
@@ -144,9 +140,7 @@ create_so n t c = λ m s d. creates_so n (wrong_type 1 (codes "create") (codes "
 
 statuses_so : (n : ℕ) (s : Shape) → Unspent (sees_status s n)
 statuses_so n (is_object a_coroutine) = λ a s f. gives_so []
-statuses_so n (is_object a_table) = blames_so []
-statuses_so n (is_object a_function) = blames_so []
-statuses_so n (is_known p) = blames_so []
+statuses_so n _ = blames_so []
 
 status_so : Unspent status_row
 status_so n t c = λ m s d. statuses_so n s
