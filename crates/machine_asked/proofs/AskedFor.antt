@@ -1,5 +1,5 @@
 -- A value that was asked for is called.
-use Rattle.std.proofs.Common.{◌≡◌, ℕ, zero, suc, ◌-◌, List, [], ◌∷◌, ◌++◌, length, Option, Some, None, refl, ap, sym, subst, ◌∙◌, arith, true, false}
+use Rattle.std.proofs.Common.{◌≡◌, ℕ, zero, suc, ◌-◌, List, [], ◌∷◌, ◌++◌, length, Option, Some, None, refl, ap, sym, subst, ◌∙◌, arith, true, false, Result, IfOk}
 use Rattle.std.specs.Prelude.{drop, map, slice_get}
 use Rattle.std.specs.Option.{option_map}
 use Rattle.int_core.specs.Limits.{stack_overflow}
@@ -7,13 +7,14 @@ use Rattle.int_core.specs.Operations.{Callee, callee, not_callable, callee_of, g
 use Rattle.int_core.specs.Value.{Value, known, nil, primitive, object, a_function, nth, bind, last}
 use Rattle.machine_core.specs.World.{Function, leaving, LuaFrame, Frame, lua, lua_frame, in_progress, World, Stack, Place, place_of, stack_of, push, put_top, put_frames}
 use Rattle.machine_core.specs.Text.{close_cells, keep_pending}
-use Rattle.machine_core.specs.Moves.{Made, made, CallShape, is_entered, enters, enters_paid, has_room, push_all, new_frame, with_own, TopShape, lua_top, handler_top, blamed, top_now, see_top, take_moving, go, calls_primitive, raised, unwinding, spent, Ending, stop, act, Outcome, trapped, ends, run, move}
+use Rattle.machine_core.specs.Moves.{Made, made, CallShape, is_entered, enters, enters_paid, has_room, push_all, new_frame, with_own, TopShape, lua_top, handler_top, blamed, runs_main, top_now, see_top, take_moving, go, calls_primitive, raised, unwinding, spent, Ending, stop, act, Outcome, trapped, ends, run, move}
 use Rattle.machine_core.specs.FrameRows.{asked_row, blames, gives_up, raises, refused_under}
 use Rattle.machine_core.specs.MachineStep.{from_world}
 use Rattle.machine_sound.proofs.Lists.{bind_some, get_map}
 use Rattle.table_core.specs.declared.value.Value.{Value as Kept}
 use Rattle.table_core.specs.declared.value.Value.TheVariants.{Nil}
 use Rattle.lua_stack.specs.Frames.{frame_of, lua_of}
+use Rattle.lua_stack.specs.declared.frame.Top.{Top}
 use Rattle.lua_stack.specs.declared.frame.Top.TheVariants.{Lua}
 use Rattle.lua_stack.proofs.Seen.{lua_seen}
 use Rattle.lua_heap.specs.declared.world.World.{World as Memory}
@@ -22,8 +23,11 @@ use Rattle.lua_heap.specs.Plain.{plain, coroutine}
 use Rattle.lua_heap.specs.Reading.{value}
 use Rattle.move_laws.specs.Memory.{HasFrame, IsSafe, IsSound, Leads, Makes, Steps}
 use Rattle.move_laws.proofs.Running.{last_there}
-use Rattle.machine_moves.specs.Tops.{TopIs}
-use Rattle.machine_moves.proofs.OnTop.{kept_as, stack_kept}
+use Rattle.machine_moves.specs.declared.ending.Ending.{Ending as KeptEnding}
+use Rattle.machine_moves.specs.declared.ending.Ending.TheVariants.{Raised}
+use Rattle.machine_moves.specs.Ending.{ending_of}
+use Rattle.machine_moves.specs.Tops.{TopIs, shape_of}
+use Rattle.machine_moves.proofs.OnTop.{if_ok, kept_as, stack_kept}
 use Rattle.machine_errors.specs.Protected.{first_of}
 use Rattle.machine_asked.specs.Asked.{RefusesAsked, follows_asked, EntersAsked}
 use Rattle.machine_errors.specs.Asking.{taken}
@@ -111,6 +115,18 @@ refused_other old new text shape b m l = record {
   is = λ fuel env W.
       ap (from_world W) (sees_row (plain old fuel) shape text env (seen (plain old fuel) shape [] (m.is fuel)) ∙ ap (λ r. run r (env ++ []) (taken old fuel)) (under_other shape text b) ∙ blames_taken text (env ++ []) [] (plain old fuel) ∙ (l []).is fuel);
 }
+
+pub refused_blame : (old new : Memory) (text : List ℕ) {shape : TopShape} {E : Type 0} (r : Result KeptEnding E) → Makes old old see_top [] [] shape → is_blamed shape
+    → IfOk r (λ ending. (env : List Value) → Leads (blames text) env old new (ending_of ending)) → IfOk r (λ ending. ending ≡ Raised) → IfOk r (λ ending. RefusesAsked old new text (ending_of ending))
+refused_blame old new text r m b leads was =
+    if_ok r leads was (λ ending l q.
+    subst (λ (e : KeptEnding). RefusesAsked old new text (ending_of e)) (sym q)
+    (refused_other old new text _ b m (subst (λ (e : KeptEnding). (env : List Value) → Leads (blames text) env old new (ending_of e)) q l)))
+
+-- what is seen on top is told
+pub seen_as : {W : Memory} {top told : Top} → top ≡ told → ((env : List Value) → Makes W W see_top env [] (shape_of (runs_main (plain W 0)) top))
+    → Makes W W see_top [] [] (shape_of (runs_main (plain W 0)) told)
+seen_as {W} e m = subst (λ (top : Top). Makes W W see_top [] [] (shape_of (runs_main (plain W 0)) top)) e (m [])
 
 abbrev place_made : Stack → LuaFrame → Function → Place
 place_made s top f = record { stack = s; number = length s.frames - 1; top = top; function = f }
