@@ -12,12 +12,12 @@ ghost use Rattle.lua_driver.specs.Calling.{CallsHere};
 ghost use Rattle.lua_driver.specs.Turns.{GoesFurther};
 
 use code_core::Opcode;
+use int_core::Allocated;
 use lua_heap::World;
 use machine_call_rows::call;
 use machine_library_calls::{CallAt, call_library};
 use machine_moves::Ending;
 use running_frame::Here;
-use std::alloc::AllocError;
 
 /// The call at which a frame runs.
 pub(crate) fn call_at(here: Here) -> Option<CallAt>
@@ -51,7 +51,7 @@ pub(crate) fn call_here(
     budget: &mut u64,
     here: Here,
     at: CallAt,
-) -> Result<Ending, AllocError>
+) -> Allocated<Ending>
     requires ready { IsReady (length all_entries) go world.old }
     requires here { IsHere world.old here }
     requires calls { CallsHere here at }

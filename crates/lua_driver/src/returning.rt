@@ -14,6 +14,7 @@ ghost use Rattle.lua_driver.specs.Turns.{GoesFurther};
 use crate::calling::{call_at, call_here};
 use crate::tail_calling::{tail_call_at, tail_call_here};
 use code_core::Opcode;
+use int_core::Allocated;
 use lua_heap::World;
 use lua_stack::{Top, Wait};
 use machine_calls::drop_frame;
@@ -21,7 +22,6 @@ use machine_moves::{Ending, read_registers, see_pending, see_top};
 use machine_returns::{handed, set_wait, wait_on_top};
 use machine_step::{go_on_with, step_from};
 use running_frame::{Here, find_here};
-use std::alloc::AllocError;
 use table_core::Value;
 
 /// What a frame returns.
@@ -34,7 +34,7 @@ pub(crate) enum Returned {
 
 /// Does the step after `Ending::Go` at this word of the Lua frame on top, and that of the Lua frame below where it comes to it by a return of a value or of
 /// none.
-pub(crate) fn step_on(world: &mut World, budget: &mut u64, here: Here) -> Result<Ending, AllocError>
+pub(crate) fn step_on(world: &mut World, budget: &mut u64, here: Here) -> Allocated<Ending>
     requires ready { IsReady (length all_entries) go world.old }
     requires here { IsHere world.old here }
     ensures goes { IfOk result (λ next. AsRead (λ builds. GoesFurther (library builds) go world.old budget.old world.new budget.new (ending_of next))) }
@@ -47,7 +47,7 @@ pub(crate) fn step_on(world: &mut World, budget: &mut u64, here: Here) -> Result
 }
 
 /// Does so where the word is no call over the frame.
-fn tail_call_or_step(world: &mut World, budget: &mut u64, here: Here) -> Result<Ending, AllocError>
+fn tail_call_or_step(world: &mut World, budget: &mut u64, here: Here) -> Allocated<Ending>
     requires ready { IsReady (length all_entries) go world.old }
     requires here { IsHere world.old here }
     ensures goes { IfOk result (λ next. AsRead (λ builds. GoesFurther (library builds) go world.old budget.old world.new budget.new (ending_of next))) }
@@ -60,7 +60,7 @@ fn tail_call_or_step(world: &mut World, budget: &mut u64, here: Here) -> Result<
 }
 
 /// Does so where the word is no call.
-fn return_or_step(world: &mut World, budget: &mut u64, here: Here) -> Result<Ending, AllocError>
+fn return_or_step(world: &mut World, budget: &mut u64, here: Here) -> Allocated<Ending>
     requires ready { IsReady (length all_entries) go world.old }
     requires here { IsHere world.old here }
     ensures goes { IfOk result (λ next. AsRead (λ builds. GoesFurther (library builds) go world.old budget.old world.new budget.new (ending_of next))) }
@@ -99,12 +99,7 @@ fn few_of(told: u8) -> Option<usize>
 }
 
 /// The frame on top returns so many values. Where one of its variables is to be closed first, that is a step as any other.
-fn return_few(
-    world: &mut World,
-    budget: &mut u64,
-    here: Here,
-    count: usize,
-) -> Result<Ending, AllocError>
+fn return_few(world: &mut World, budget: &mut u64, here: Here, count: usize) -> Allocated<Ending>
     requires ready { IsReady (length all_entries) go world.old }
     requires here { IsHere world.old here }
     requires few { ReturnsFew here count }
@@ -140,7 +135,7 @@ fn told(values: &[Value]) -> Returned
 }
 
 /// The frame on top is left with these values. A Lua frame below that waits for them goes on.
-fn leave_with(world: &mut World, values: &[Value]) -> Result<Ending, AllocError>
+fn leave_with(world: &mut World, values: &[Value]) -> Allocated<Ending>
     requires ready { IsReady (length all_entries) go world.old }
     requires still { world.old.moving.items ≡ [] }
     requires returns { Returns world.old values.now }

@@ -10,18 +10,18 @@ ghost use Rattle.source_builds.specs.Readings.{AsRead};
 ghost use Rattle.lua_driver.specs.Turns.{GoesFurther, Reaches};
 
 use crate::returning::step_on;
+use int_core::Allocated;
 use loaded_code::loading_is_safe;
 use lua_heap::World;
 use machine_ends::steps_fall;
 use machine_moves::Ending;
 use machine_step::step;
 use running_frame::run_ahead;
-use std::alloc::AllocError;
 use step_laws::law::steps_stay_ready;
 
 /// Does steps until the turn ends. It ends, since each step makes a measure of the world smaller. Where memory runs out the world is in order, but not
 /// between two turns.
-pub fn run(world: &mut World, budget: &mut u64, begun: Ending) -> Result<Ending, AllocError>
+pub fn run(world: &mut World, budget: &mut u64, begun: Ending) -> Allocated<Ending>
     requires ready { IsReady (length all_entries) (ending_of begun) world.old }
     ensures reaches { IfOk result (λ ended. AsRead (λ builds. Reaches (library builds) (ending_of begun) world.old budget.old world.new budget.new (ending_of ended))) }
     ensures ends { IfOk result (λ ended. is_end (ending_of ended) ≡ true) }
@@ -39,7 +39,7 @@ pub fn run(world: &mut World, budget: &mut u64, begun: Ending) -> Result<Ending,
 }
 
 /// Does the step after an ending. Where a Lua frame goes on, it first runs as long as it does so by itself.
-fn go_further(world: &mut World, budget: &mut u64, ending: Ending) -> Result<Ending, AllocError>
+fn go_further(world: &mut World, budget: &mut u64, ending: Ending) -> Allocated<Ending>
     requires { IsReady (length all_entries) (ending_of ending) world.old }
     ensures goes { IfOk result (λ next. AsRead (λ builds. GoesFurther (library builds) (ending_of ending) world.old budget.old world.new budget.new (ending_of next))) }
     ensures order { InOrder world.new }

@@ -12,12 +12,12 @@ ghost use Rattle.lua_driver.specs.TailCalling.{TailCallsHere};
 ghost use Rattle.lua_driver.specs.Turns.{GoesFurther};
 
 use code_core::Opcode;
+use int_core::Allocated;
 use lua_heap::World;
 use machine_library_calls::tail_call_library;
 use machine_moves::Ending;
 use machine_step::step_from;
 use running_frame::Here;
-use std::alloc::AllocError;
 
 /// A call in place of a frame, as its instruction tells it: the register of what is called, and one more than the number of the arguments after it or 0 for
 /// those up to the end of the open list.
@@ -48,7 +48,7 @@ pub(crate) fn tail_call_here(
     budget: &mut u64,
     here: Here,
     at: TailCallAt,
-) -> Result<Ending, AllocError>
+) -> Allocated<Ending>
     requires ready { IsReady (length all_entries) go world.old }
     requires here { IsHere world.old here }
     requires calls { TailCallsHere here at }

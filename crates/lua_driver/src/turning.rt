@@ -13,19 +13,19 @@ ghost use Rattle.source_builds.specs.Readings.{AsRead};
 ghost use Rattle.lua_driver.specs.Turns.{MayGoOn, Turns};
 
 use crate::running::run;
+use int_core::Allocated;
 use loaded_code::loading_is_safe;
 use lua_heap::World;
 use lua_session::resume_main;
 use machine_moves::Ending;
 use machine_runs::{turns_do_not_trap, yields_leave_main_waiting};
-use std::alloc::AllocError;
 
 /// One turn: the main coroutine is resumed with what moves, and steps are done until the turn ends. What is printed is the turn's own.
 ///
 /// # Errors
 ///
 /// Want of memory. The world is in order then, but the script cannot be resumed any more.
-pub fn turn(world: &mut World, budget: u64) -> Result<Ending, AllocError>
+pub fn turn(world: &mut World, budget: u64) -> Allocated<Ending>
     requires { MayGoOn world.old }
     ensures turns { IfOk result (λ ending. AsRead (λ builds. Turns (library builds) world.old world.new budget (ending_of ending))) }
     ensures ends { IfOk result (λ ending. is_end (ending_of ending) ≡ true) }

@@ -15,15 +15,16 @@ ghost use Rattle.lua_feed.specs.Running.{IsBrokenOffOf, IsCutOffOf, IsFrontOf, I
 use crate::fault::FeedFault;
 use crate::feeding::{Close, feed};
 use code_core::Checked;
+use int_core::Allocated;
 use io_edge::{LineReader, Sink, Source};
 use lua_heap::World;
 use lua_opening::open;
 use lua_session::begin;
 use machine_runs::sessions_are_sound;
-use std::alloc::{AllocError, Global};
+use std::alloc::Global;
 
 /// The world of the libraries over the prelude's code, in which a script with this code has begun.
-pub fn start(alloc: Global, prelude: Checked, code: Checked) -> Result<World, AllocError>
+pub fn start(alloc: Global, prelude: Checked, code: Checked) -> Allocated<World>
     requires { length (list_of prelude.inner) ≡ length prelude_functions }
     ensures begun { IfOk result (λ world. plain world 0 ≡ started prelude code) }
     ensures may { IfOk result (λ world. MayGoOn world) }

@@ -15,13 +15,13 @@ ghost use Rattle.loaded_code.specs.Laws.{library};
 ghost use Rattle.source_builds.specs.Readings.{AsRead};
 
 use crate::fault::FeedFault;
+use int_core::Allocated;
 use io_edge::{Sink, write_all};
 use lua_driver::turn;
 use lua_heap::World;
 use lua_heap::law::strings_are_there;
 use lua_session::report;
 use machine_moves::Ending;
-use std::alloc::AllocError;
 
 /// Does a turn, and writes what was printed and the line that reports the turn's end.
 pub(crate) fn write_turn<K: Sink>(
@@ -48,7 +48,7 @@ pub(crate) fn write_turn<K: Sink>(
 }
 
 /// What was printed in a turn, and the line that reports its end.
-fn text_of_turn(world: &World, ending: Ending) -> Result<Vec<u8>, AllocError>
+fn text_of_turn(world: &World, ending: Ending) -> Allocated<Vec<u8>>
     requires { HaveTexts world.now.strings world.now.moving.items }
     ensures { IfOk result (λ text. text.items ≡ turn_text (ending_of ending) (plain world.now 0)) }
 {

@@ -7,14 +7,14 @@ ghost use Rattle.move_laws.specs.Memory.{InOrder, IsSound};
 ghost use Rattle.lua_session.specs.Beginning.{kept_cells, outer_value as outer};
 
 use code_core::Checked;
+use int_core::Allocated;
 use lua_heap::law::cells_stay_listed;
 use lua_heap::{Cell, Coro, Func, World};
-use std::alloc::AllocError;
 use table_core::{CellId, TableId, Value};
 
 /// Gives a script's code to a new main coroutine. Of its outer variables the first is the table of globals, and any further ones are nil (Lua 5.4 manual,
 /// 2.2). Where memory is wanting no script can begin in the world any more.
-pub fn begin(world: &mut World, code: Checked) -> Result<(), AllocError>
+pub fn begin(world: &mut World, code: Checked) -> Allocated<()>
     requires { IsSound world.old }
     ensures begun { OnOk result ((fuel : ℕ) → plain world.new fuel ≡ begun (plain world.old fuel) code) }
     ensures order { OnOk result (InOrder world.new) }
@@ -31,7 +31,7 @@ pub fn begin(world: &mut World, code: Checked) -> Result<(), AllocError>
 }
 
 /// New cells of a main function's outer variables.
-fn main_cells(world: &mut World, count: usize) -> Result<Vec<CellId>, AllocError>
+fn main_cells(world: &mut World, count: usize) -> Allocated<Vec<CellId>>
     requires { CellsAreListed world.old }
     ensures cells { OnOk result (world.new.cells.objects ≡ kept_cells world.old.cells.objects world.old.globals count) }
     ensures ids { IfOk result (λ ids. map (λ id. id.0) ids.items ≡ numbers (length world.old.cells.objects) count) }

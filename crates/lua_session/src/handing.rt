@@ -7,9 +7,9 @@ ghost use Rattle.machine_runs.specs.Opening.{handed_line};
 ghost use Rattle.lua_heap.specs.Plain.{plain};
 ghost use Rattle.move_laws.specs.Memory.{InOrder, IsSound};
 
+use int_core::Allocated;
 use lua_heap::World;
 use machine_runs::sessions_are_sound;
-use std::alloc::AllocError;
 use table_core::Value;
 
 /// A line of input moves, for the main coroutine that waits to be resumed with it (`lua_resume` of Lua's ldo.c).
@@ -17,7 +17,7 @@ use table_core::Value;
 /// # Errors
 ///
 /// Want of memory, which changes nothing.
-pub fn hand_line(world: &mut World, line: &[u8]) -> Result<(), AllocError>
+pub fn hand_line(world: &mut World, line: &[u8]) -> Allocated<()>
     requires sound { IsSound world.old }
     requires may { MayTurn (plain world.old 0) }
     requires short { length line.now ≤ greatest_string }

@@ -7,15 +7,15 @@ ghost use Rattle.machine_runs.specs.Runs.{report as reports};
 ghost use Rattle.machine_moves.specs.Ending.{ending_of};
 ghost use Rattle.lua_session.specs.Report.{HaveTexts};
 
+use int_core::Allocated;
 use library_arguments::Digits;
 use lua_heap::World;
 use machine_moves::Ending;
-use std::alloc::AllocError;
 use table_core::Value;
 
 /// The line that reports how a turn ended: a word, and the texts of the values that move, without metamethods. Of a budget that is spent none
 /// reports.
-pub fn report(world: &World, ending: Ending) -> Result<Vec<u8>, AllocError>
+pub fn report(world: &World, ending: Ending) -> Allocated<Vec<u8>>
     requires { HaveTexts world.now.strings world.now.moving.items }
     ensures { IfOk result (λ line. line.items ≡ reports (ending_of ending) (map (value world.now.strings) world.now.moving.items)) }
 {
@@ -28,7 +28,7 @@ pub fn report(world: &World, ending: Ending) -> Result<Vec<u8>, AllocError>
 }
 
 /// A word and the values that move.
-fn line_of(world: &World, word: &[u8]) -> Result<Vec<u8>, AllocError>
+fn line_of(world: &World, word: &[u8]) -> Allocated<Vec<u8>>
     requires { HaveTexts world.now.strings world.now.moving.items }
     ensures { IfOk result (λ line. line.items ≡ word.now ++ report_values (map (value world.now.strings) world.now.moving.items)) }
 {
@@ -41,7 +41,7 @@ fn line_of(world: &World, word: &[u8]) -> Result<Vec<u8>, AllocError>
 }
 
 /// A tabulator and the text of a value.
-fn push_text(line: &mut Vec<u8>, world: &World, v: Value) -> Result<(), AllocError>
+fn push_text(line: &mut Vec<u8>, world: &World, v: Value) -> Allocated<()>
     requires { HasText world.now.strings v }
     ensures { OnOk result (line.new.items ≡ line.old.items ++ codes "\t" ++ report_text (value world.now.strings v)) }
 {

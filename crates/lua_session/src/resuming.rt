@@ -7,10 +7,10 @@ ghost use Rattle.machine_runs.specs.Laws.{MayTurn};
 ghost use Rattle.move_laws.specs.Memory.{InOrder, IsSound};
 ghost use Rattle.lua_session.specs.Resuming.{HasYielded, Resumes, body_in};
 
+use int_core::Allocated;
 use lua_heap::{Coro, World};
 use machine_calls::{Called, enter_callee};
 use machine_moves::{Ending, hand_over, take_moving};
-use std::alloc::AllocError;
 use table_core::{CoroId, Value};
 
 /// Resumes the main coroutine with what moves: a script begins, or goes on where it has yielded. The ending says what is to be done next.
@@ -18,7 +18,7 @@ use table_core::{CoroId, Value};
 /// # Errors
 ///
 /// Want of memory. The world is in order then, but the script cannot be resumed any more.
-pub fn resume_main(world: &mut World) -> Result<Ending, AllocError>
+pub fn resume_main(world: &mut World) -> Allocated<Ending>
     requires sound { IsSound world.old }
     requires may { MayTurn (plain world.old 0) }
     ensures resumes { IfOk result (λ ending. Resumes world.old world.new (ending_of ending)) }
@@ -44,7 +44,7 @@ fn body_of(coro: &Coro) -> Option<Value>
 }
 
 /// The main coroutine begins with its function, which is called with what moves, without a unit of the budget.
-fn begin_main(world: &mut World, main: CoroId, body: Value) -> Result<Ending, AllocError>
+fn begin_main(world: &mut World, main: CoroId, body: Value) -> Allocated<Ending>
     requires sound { IsSound world.old }
     requires main { world.old.main ≡ Some main }
     requires fresh { slice_get world.old.coros.objects main.0 ≡ Some (Fresh body) }
@@ -62,7 +62,7 @@ fn begin_main(world: &mut World, main: CoroId, body: Value) -> Result<Ending, Al
 }
 
 /// It goes on where it has yielded, and gets what moves.
-fn go_on_main(world: &mut World, main: CoroId) -> Result<Ending, AllocError>
+fn go_on_main(world: &mut World, main: CoroId) -> Allocated<Ending>
     requires sound { IsSound world.old }
     requires main { world.old.main ≡ Some main }
     requires yielded { HasYielded world.old main }

@@ -13,18 +13,18 @@ ghost use Rattle.machine_asked.specs.Asked.{EntersAsked, RefusesAsked};
 ghost use Rattle.machine_calls.specs.Calling.{CanEnter};
 ghost use Rattle.machine_calls.specs.Entering.{HasFunction};
 
+use int_core::Allocated;
 use lua_heap::World;
 use lua_stack::Top;
 use machine_calls::{enter_function, is_full, with_links};
 use machine_errors::{blame, give_up, raise};
 use machine_moves::{Ending, see_top, take_moving};
 use meta_ops::{Callee, Heap, callee_of};
-use std::alloc::AllocError;
 use table_core::{FuncId, Value};
 
 /// Calls the value that moves with the arguments behind it, for a unit of the budget. Where it cannot be called, that is an error of the frame on top.
 /// A refusal changes nothing.
-pub fn call_asked(world: &mut World, budget: &mut u64) -> Result<Ending, AllocError>
+pub fn call_asked(world: &mut World, budget: &mut u64) -> Allocated<Ending>
     requires sound { IsSound world.old }
     requires running { HasStack world.old }
     requires safe { IsSafe asked_row [] world.old }
@@ -60,7 +60,7 @@ fn asked_callee(world: &World) -> Callee
 }
 
 /// Its arguments, with what the links of `__call` put in front of them.
-fn asked_arguments(world: &World, links: usize) -> Result<Vec<Value>, AllocError>
+fn asked_arguments(world: &World, links: usize) -> Allocated<Vec<Value>>
     ensures { IfOk result (λ all. map (meant world.now.strings) all.items ≡ through links (plain world.now 0).heap (meant world.now.strings (first_of world.now.moving.items)) (map (meant world.now.strings) (drop 1 world.now.moving.items))) }
 {
     let heap = Heap {
@@ -84,11 +84,7 @@ fn split_asked(moving: &[Value]) -> (Value, &[Value])
 }
 
 /// Enters a function or a primitive that was asked for.
-fn enter_asked(
-    world: &mut World,
-    function: Value,
-    arguments: Vec<Value>,
-) -> Result<Ending, AllocError>
+fn enter_asked(world: &mut World, function: Value, arguments: Vec<Value>) -> Allocated<Ending>
     requires sound { IsSound world.old }
     requires running { HasStack world.old }
     requires function { CanEnter world.old (meant world.old.strings function) }
@@ -111,7 +107,7 @@ fn enter_asked_function(
     world: &mut World,
     function: FuncId,
     arguments: &[Value],
-) -> Result<Ending, AllocError>
+) -> Allocated<Ending>
     requires sound { IsSound world.old }
     requires running { HasStack world.old }
     requires function { HasFunction world.old function.0 }
@@ -130,7 +126,7 @@ fn enter_asked_function(
 }
 
 /// What was asked for cannot be called: that is an error of the frame on top. Over which a message handler is called, another error is given in its place.
-fn refuse_asked(world: &mut World, text: &[u8]) -> Result<Ending, AllocError>
+fn refuse_asked(world: &mut World, text: &[u8]) -> Allocated<Ending>
     requires sound { IsSound world.old }
     requires running { HasStack world.old }
     ensures refuses { IfOk result (λ ending. RefusesAsked world.old world.new text.now (ending_of ending)) }

@@ -12,6 +12,7 @@ ghost use Rattle.move_laws.specs.Memory.{HasStack, InOrder, IsSafe, IsSound, Lea
 ghost use Rattle.machine_moves.specs.Ending.{ending_of};
 ghost use Rattle.machine_primitives.specs.Primitives.{row_by};
 
+use int_core::Allocated;
 use lib_base::Function;
 use lib_base::math::Function as MathFunction;
 use lib_base::texts::Function as TextFunction;
@@ -21,7 +22,6 @@ use lua_heap::World;
 use machine_errors::{error, pcall, xpcall};
 use machine_library::{call_function, print};
 use machine_moves::Ending;
-use std::alloc::AllocError;
 
 /// A function of the libraries that is no Lua text.
 #[derive(Debug, Clone, Copy, PartialEq, Eq)]
@@ -124,7 +124,7 @@ fn at_place(table: &[Called], place: u16) -> Option<Called>
 
 /// Calls a function of the libraries by its number, with the values on their way. `load` reads the source that it is given, and what the call does is
 /// told wherever sources are built as it was read. No function costs a unit of the budget. Where memory is wanting, all reads as before.
-pub fn primitive(world: &mut World, number: u16) -> Result<Ending, AllocError>
+pub fn primitive(world: &mut World, number: u16) -> Allocated<Ending>
     requires sound { IsSound world.old }
     requires running { HasStack world.old }
     requires safe { (builds : Builds Body) → BuildsSources builds → IsSafe (library builds number) [] world.old }
@@ -142,7 +142,7 @@ pub fn primitive(world: &mut World, number: u16) -> Result<Ending, AllocError>
 }
 
 /// Calls a function with the values on their way.
-fn call(world: &mut World, called: Called) -> Result<Ending, AllocError>
+fn call(world: &mut World, called: Called) -> Allocated<Ending>
     requires sound { IsSound world.old }
     requires running { HasStack world.old }
     requires safe { (builds : Builds Body) → BuildsSources builds → IsSafe (row_by builds called) [] world.old }

@@ -11,17 +11,17 @@ ghost use Rattle.machine_step.specs.Step.{Passes};
 
 use code_core::{Instruction, Opcode};
 use instruction_forms::After;
+use int_core::Allocated;
 use lua_heap::World;
 use lua_stack::Wait;
 use machine_moves::Ending;
 use machine_operations::{join_on, take_value};
 use machine_returns::{go_on_called, wake};
-use std::alloc::AllocError;
 use table_core::Value;
 
 /// The Lua frame on top, which waits at this word, gets what moves and does what is left of the instruction. After a refusal the world is in order, and no
 /// more has been printed.
-pub(crate) fn go_on(world: &mut World, pc: usize, word: Instruction) -> Result<Ending, AllocError>
+pub(crate) fn go_on(world: &mut World, pc: usize, word: Instruction) -> Allocated<Ending>
     requires sound { IsSound world.old }
     requires waits { WaitsHere world.old pc word }
     ensures does { IfOk result (λ next. Passes go world.old world.new (ending_of next)) }
@@ -39,7 +39,7 @@ pub fn go_on_with(
     word: Instruction,
     wait: Wait,
     came: &[Value],
-) -> Result<Ending, AllocError>
+) -> Allocated<Ending>
     requires solid { IsSolid world.old }
     requires awake { IsAwake world.old pc word wait came.now }
     ensures goes { IfOk result (λ next. GoesOnSo world.old world.new word wait came.now (ending_of next)) }
@@ -104,7 +104,7 @@ fn join_with(
     word: Instruction,
     left: usize,
     came: &[Value],
-) -> Result<Ending, AllocError>
+) -> Allocated<Ending>
     requires awake { IsAwake world.old pc word (ForConcat left) came.now }
     ensures goes { IfOk result (λ next. GoesOnSo world.old world.new word (ForConcat left) came.now (ending_of next)) }
     ensures order { InOrder world.new }

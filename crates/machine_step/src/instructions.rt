@@ -7,6 +7,7 @@ ghost use Rattle.machine_step.specs.Places.{MayRun};
 ghost use Rattle.machine_step.specs.Step.{Goes};
 
 use instruction_forms::Form;
+use int_core::Allocated;
 use lua_heap::World;
 use machine_call_rows::{call, tail_call};
 use machine_loops::{go_round, jump, loop_over, start_loop};
@@ -17,7 +18,6 @@ use machine_returns::{close_variables, mark, return_some, return_values};
 use machine_rows::{
     clear, go_on, load, load_far, negate, new_table, store_upvalue, test, test_set,
 };
-use std::alloc::AllocError;
 
 /// The Lua frame on top does the instruction at its place, which has this form. After a refusal the world is in order, and no more has been printed.
 pub(crate) fn run_instruction(
@@ -25,7 +25,7 @@ pub(crate) fn run_instruction(
     budget: &mut u64,
     pc: usize,
     form: Form,
-) -> Result<Ending, AllocError>
+) -> Allocated<Ending>
     requires { MayRun world.old pc form }
     ensures does { IfOk result (λ next. Goes world.old budget.old world.new budget.new (ending_of next)) }
     ensures order { InOrder world.new }
@@ -108,12 +108,7 @@ pub(crate) fn run_instruction(
 }
 
 /// Variables are closed (CLOSE).
-fn close_from(
-    world: &mut World,
-    budget: &mut u64,
-    pc: usize,
-    from: usize,
-) -> Result<Ending, AllocError>
+fn close_from(world: &mut World, budget: &mut u64, pc: usize, from: usize) -> Allocated<Ending>
     requires { MayRun world.old pc (Close from) }
     ensures does { IfOk result (λ next. Goes world.old budget.old world.new budget.new (ending_of next)) }
     ensures order { InOrder world.new }

@@ -13,6 +13,7 @@ use crate::going_on::go_on;
 use crate::instructions::run_instruction;
 use code_core::Instruction;
 use instruction_forms::form_of;
+use int_core::Allocated;
 use loaded_code::loading_is_safe;
 use lua_heap::World;
 use machine_asked::call_asked;
@@ -20,12 +21,11 @@ use machine_frame_rows::{catch_error, hand_results, unwind_top};
 use machine_moves::Ending;
 use machine_primitives::primitive;
 use running_frame::{Here, find_here};
-use std::alloc::AllocError;
 
 /// Does the step that follows an ending, and says how it ends. What ends a turn is no step. A step that costs a unit while none is left changes nothing. What
 /// `load` does is told wherever sources are built as it read them. After a refusal the world is in order and no more has been printed, but it does not stand
 /// between two steps.
-pub fn step(world: &mut World, budget: &mut u64, ending: Ending) -> Result<Ending, AllocError>
+pub fn step(world: &mut World, budget: &mut u64, ending: Ending) -> Allocated<Ending>
     requires ready { IsReady (length all_entries) (ending_of ending) world.old }
     ensures does { IfOk result (λ next. Did (ending_of ending) world.old budget.old world.new budget.new (ending_of next)) }
     ensures order { InOrder world.new }
@@ -47,7 +47,7 @@ pub fn step(world: &mut World, budget: &mut u64, ending: Ending) -> Result<Endin
 }
 
 /// The Lua frame on top does its instruction, or goes on with what moves.
-fn go_from(world: &mut World, budget: &mut u64) -> Result<Ending, AllocError>
+fn go_from(world: &mut World, budget: &mut u64) -> Allocated<Ending>
     requires ready { IsReady (length all_entries) go world.old }
     ensures does { IfOk result (λ next. Did go world.old budget.old world.new budget.new (ending_of next)) }
     ensures order { InOrder world.new }
@@ -58,7 +58,7 @@ fn go_from(world: &mut World, budget: &mut u64) -> Result<Ending, AllocError>
 }
 
 /// Does the step after `Ending::Go` where it is known at which word the Lua frame on top is. After a refusal all is as `step` says.
-pub fn step_from(world: &mut World, budget: &mut u64, here: Here) -> Result<Ending, AllocError>
+pub fn step_from(world: &mut World, budget: &mut u64, here: Here) -> Allocated<Ending>
     requires ready { IsReady (length all_entries) go world.old }
     requires here { IsHere world.old here }
     ensures does { IfOk result (λ next. Did go world.old budget.old world.new budget.new (ending_of next)) }
@@ -72,12 +72,7 @@ pub fn step_from(world: &mut World, budget: &mut u64, here: Here) -> Result<Endi
 }
 
 /// The instruction that this word is.
-fn run_word(
-    world: &mut World,
-    budget: &mut u64,
-    pc: usize,
-    word: Instruction,
-) -> Result<Ending, AllocError>
+fn run_word(world: &mut World, budget: &mut u64, pc: usize, word: Instruction) -> Allocated<Ending>
     requires sound { IsSound world.old }
     requires runs { RunsWord world.old pc word }
     ensures does { IfOk result (λ next. Goes world.old budget.old world.new budget.new (ending_of next)) }
