@@ -10,11 +10,11 @@ use Rattle.lib_base.proofs.Interning.{nothing, same_heap}
 use Rattle.lib_base.proofs.TextRows.{digits_shown, shown_is, shown_too_long}
 use Rattle.lib_base.proofs.text.integer_text.Goals as goal
 
-pub returns-then-len-gt-MAX_TEXT-clause-kept : goal.returns-then-len-gt-MAX_TEXT-clause-kept
-returns-then-len-gt-MAX_TEXT-clause-kept c = nothing c.args.world.now c.args.arguments.now c.requires.stands
+pub returns-then-bytes-gt-MAX_TEXT-clause-kept : goal.returns-then-bytes-gt-MAX_TEXT-clause-kept
+returns-then-bytes-gt-MAX_TEXT-clause-kept c = nothing c.args.world.now c.args.arguments.now c.requires.stands
 
-pub returns-then-len-gt-MAX_TEXT-clause-answers : goal.returns-then-len-gt-MAX_TEXT-clause-answers
-returns-then-len-gt-MAX_TEXT-clause-answers c =
+pub returns-then-bytes-gt-MAX_TEXT-clause-answers : goal.returns-then-bytes-gt-MAX_TEXT-clause-answers
+returns-then-bytes-gt-MAX_TEXT-clause-answers c =
     let W = c.args.world.now in
     let vs = map (value W.strings) c.args.arguments.now in
     let digits : c.as_slice-bytes.result.now ≡ integer_text c.args.n = search (rules, to_z-of_z w64 c.args.n c.ranges.n) in
