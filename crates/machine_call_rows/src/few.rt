@@ -1,5 +1,5 @@
 // Values that are few enough to stand in an array, so that they take no memory.
-ghost use Rattle.std.specs.Prelude.{◌≡◌, ◌≤◌, ◌++◌, IfSome, drop, length};
+ghost use Rattle.std.specs.Prelude.{◌≡◌, ◌≤◌, ◌++◌, [], IfSome, drop, length};
 
 use std::marker::Model;
 use table_core::Value;
@@ -23,17 +23,29 @@ impl Model for Few {
 }
 
 impl Few {
-    /// These values, where there are no more than six.
-    pub fn of(values: &[Value]) -> Option<Few>
-        ensures same { IfSome result (λ all. all ≡ values.now) }
-        ensures fits { IfSome result (λ all. length values.now ≤ 6) }
+    /// No values.
+    #[inline(always)]
+    pub fn new() -> Few
+        ensures { result ≡ [] }
+    {
+        Few {
+            values: [Value::Nil; 6],
+            count: 0,
+        }
+    }
+
+    /// Holds these values in the place of those before, where there are no more than six.
+    #[inline(always)]
+    pub fn hold(&mut self, values: &[Value]) -> Option<()>
+        ensures same { IfSome result (λ _. self.new ≡ values.now) }
+        ensures fits { IfSome result (λ _. length values.now ≤ 6) }
     {
         if values.len() > 6 {
             return None;
         }
-        let mut all = [Value::Nil; 6];
-        let count = put_first(&mut all, values);
-        Some(Few { values: all, count })
+        let count = put_first(&mut self.values, values);
+        self.count = count;
+        Some(())
     }
 
     /// The values, to read.

@@ -22,6 +22,17 @@ pub struct PrimitiveCall {
     pub arguments: Few,
 }
 
+impl PrimitiveCall {
+    /// A call that is yet to be told.
+    #[inline(always)]
+    pub fn new() -> PrimitiveCall {
+        PrimitiveCall {
+            number: 0,
+            arguments: Few::new(),
+        }
+    }
+}
+
 /// Does the call of `call` where the value is a primitive that is given at most six arguments: the frame on top waits, and the call is paid. The arguments
 /// do not move yet. `None`, with all as before, where it is another value, where there are more arguments, and where the budget is spent.
 pub fn call_primitive(
@@ -31,13 +42,14 @@ pub fn call_primitive(
     count: usize,
     keeps: usize,
     iterates: bool,
-) -> Option<PrimitiveCall>
+    told: &mut PrimitiveCall,
+) -> Option<()>
     requires sound { IsSound world.old }
     requires keeps { MayKeep world.old keeps }
     requires near { function + 1 < 2 ^ 64 }
     requires safe { (p : Prototype) (pc : ℕ) → IsSafe (expand (text_of p pc (Call function count keeps iterates))) [] world.old }
-    ensures calls { IfSome result (λ called. CallsPrimitive world.old world.new budget.old function count keeps iterates called.number called.arguments) }
-    ensures paid { IfSome result (λ called. budget.new ≡ budget.old - 1) }
+    ensures calls { IfSome result (λ _. CallsPrimitive world.old world.new budget.old function count keeps iterates told.new.number told.new.arguments) }
+    ensures paid { IfSome result (λ _. budget.new ≡ budget.old - 1) }
     ensures kept { IfNone result ((world.new ≡ world.old) × (budget.new ≡ budget.old)) }
     ensures order { InOrder world.new }
     ensures rest { world.new ≡ record world.old { cells = world.new.cells; coros = world.new.coros } }
@@ -49,12 +61,14 @@ pub fn call_primitive(
     if *budget == 0 {
         return None;
     }
-    let arguments = Few::of(read_values(world, function + 1, count))?;
+    told.arguments
+        .hold(read_values(world, function + 1, count))?;
     make_ready(
         world,
         wait_of_call(iterates),
         Prepared::GivenUp { register: keeps },
     );
     *budget -= 1;
-    Some(PrimitiveCall { number, arguments })
+    told.number = number;
+    Some(())
 }

@@ -8,7 +8,6 @@ ghost use Rattle.move_laws.specs.Memory.{InOrder, IsSafe, IsSound};
 ghost use Rattle.machine_call_rows.specs.Primitives.{TailCallsPrimitive};
 
 use crate::calls::read_values;
-use crate::few::Few;
 use crate::primitives::PrimitiveCall;
 use lua_heap::World;
 use machine_calls::drop_frame;
@@ -22,12 +21,13 @@ pub fn tail_call_primitive(
     budget: &mut u64,
     function: usize,
     count: usize,
-) -> Option<PrimitiveCall>
+    told: &mut PrimitiveCall,
+) -> Option<()>
     requires sound { IsSound world.old }
     requires near { function + 1 < 2 ^ 64 }
     requires safe { (p : Prototype) (pc : ℕ) → IsSafe (expand (text_of p pc (TailCall function count))) [] world.old }
-    ensures calls { IfSome result (λ called. TailCallsPrimitive world.old world.new budget.old function count called.number called.arguments) }
-    ensures paid { IfSome result (λ called. budget.new ≡ budget.old - 1) }
+    ensures calls { IfSome result (λ _. TailCallsPrimitive world.old world.new budget.old function count told.new.number told.new.arguments) }
+    ensures paid { IfSome result (λ _. budget.new ≡ budget.old - 1) }
     ensures kept { IfNone result ((world.new ≡ world.old) × (budget.new ≡ budget.old)) }
     ensures order { InOrder world.new }
     ensures rest { world.new ≡ record world.old { cells = world.new.cells; coros = world.new.coros } }
@@ -39,8 +39,10 @@ pub fn tail_call_primitive(
     if *budget == 0 {
         return None;
     }
-    let arguments = Few::of(read_values(world, function + 1, count))?;
+    told.arguments
+        .hold(read_values(world, function + 1, count))?;
     drop_frame(world);
     *budget -= 1;
-    Some(PrimitiveCall { number, arguments })
+    told.number = number;
+    Some(())
 }

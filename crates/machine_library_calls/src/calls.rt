@@ -76,9 +76,18 @@ fn begin_call(
     ensures kept { IfOk result (λ done. IfNone done ((world.new ≡ world.old) × (budget.new ≡ budget.old))) }
     ensures order { InOrder world.new }
 {
-    match call_primitive(world, budget, at.function, at.count, at.keeps, at.iterates) {
+    let mut called = PrimitiveCall::new();
+    match call_primitive(
+        world,
+        budget,
+        at.function,
+        at.count,
+        at.keeps,
+        at.iterates,
+        &mut called,
+    ) {
         None => Ok(None),
-        Some(called) => {
+        Some(()) => {
             let ending = go_on_calling(world, here, at.iterates, &called)?;
             Ok(Some(ending))
         }

@@ -67,9 +67,10 @@ fn begin_tail_call(
     ensures kept { IfOk result (λ done. IfNone done ((world.new ≡ world.old) × (budget.new ≡ budget.old))) }
     ensures order { InOrder world.new }
 {
-    match tail_call_primitive(world, budget, function, count) {
+    let mut called = PrimitiveCall::new();
+    match tail_call_primitive(world, budget, function, count, &mut called) {
         None => Ok(None),
-        Some(called) => {
+        Some(()) => {
             let ending = call_below(world, &called)?;
             Ok(Some(ending))
         }

@@ -23,6 +23,6 @@ make_ready-requires c = record { order = c.requires.sound.order; ready = can_pre
 pub returns-clause-calls : goal.returns-clause-calls
 returns-clause-calls c =
     let W = c.args.world.now in
-    calls_primitive_so W c.make_ready.new.world c.requires.keeps.place c.args.budget.now c.args.function c.args.count c.args.keeps c.args.iterates c.read_register-called.result c.in-Prim.number c.in_ok-arguments.arguments c.wait_of_call.result
-    c.requires.keeps.is c.if-budget-eq0.false c.in-Prim.is c.read_register-called.ensures (subst (ReadsValues W (c.args.function + 1) c.args.count) (sym c.in_ok-arguments.ensures.same) c.read_values.ensures) c.wait_of_call.ensures c.make_ready.ensures.ready
-    (ap (λ (W : Memory). W.strings) c.make_ready.ensures.rest) (subst (λ vs. length vs ≤ 6) (sym c.in_ok-arguments.ensures.same) c.in_ok-arguments.ensures.fits)
+    calls_primitive_so W c.make_ready.new.world c.requires.keeps.place c.args.budget.now c.args.function c.args.count c.args.keeps c.args.iterates c.read_register-called.result c.in-Prim.number c.hold.new.self c.wait_of_call.result
+    c.requires.keeps.is c.if-budget-eq0.false c.in-Prim.is c.read_register-called.ensures (subst (ReadsValues W (c.args.function + 1) c.args.count) (sym c.in_ok-hold.ensures.same) c.read_values.ensures) c.wait_of_call.ensures c.make_ready.ensures.ready
+    (ap (λ (W : Memory). W.strings) c.make_ready.ensures.rest) (subst (λ vs. length vs ≤ 6) (sym c.in_ok-hold.ensures.same) c.in_ok-hold.ensures.fits)

@@ -30,9 +30,9 @@ pub returns-clause-calls : goal.returns-clause-calls
 returns-clause-calls c =
     let W = c.args.world.now in
     let d = can_do (read_register c.args.function) (λ f s. expand (with_arguments c.args.function c.args.count tail_text f s)) (c.requires.safe no_code 0) in
-    tail_calls_so W c.drop_frame.new.world d.place c.args.budget.now c.args.function c.args.count c.read_register-called.result c.in-Prim.number c.in_ok-arguments.arguments
-    d.is c.if-budget-eq0.false c.in-Prim.is c.read_register-called.ensures (subst (ReadsValues W (c.args.function + 1) c.args.count) (sym c.in_ok-arguments.ensures.same) c.read_values.ensures) c.drop_frame.ensures.drops
-    (ap (λ (W : Memory). W.strings) c.drop_frame.ensures.rest) (subst (λ vs. length vs ≤ 6) (sym c.in_ok-arguments.ensures.same) c.in_ok-arguments.ensures.fits) c.drop_frame.ensures.running
+    tail_calls_so W c.drop_frame.new.world d.place c.args.budget.now c.args.function c.args.count c.read_register-called.result c.in-Prim.number c.hold.new.self
+    d.is c.if-budget-eq0.false c.in-Prim.is c.read_register-called.ensures (subst (ReadsValues W (c.args.function + 1) c.args.count) (sym c.in_ok-hold.ensures.same) c.read_values.ensures) c.drop_frame.ensures.drops
+    (ap (λ (W : Memory). W.strings) c.drop_frame.ensures.rest) (subst (λ vs. length vs ≤ 6) (sym c.in_ok-hold.ensures.same) c.in_ok-hold.ensures.fits) c.drop_frame.ensures.running
 
 pub returns-clause-order : goal.returns-clause-order
 returns-clause-order c =
