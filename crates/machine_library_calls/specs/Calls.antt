@@ -1,7 +1,8 @@
 -- Calls of primitives, and what they come to.
 use Rattle.std.specs.Prelude.{◌≡◌, ℕ, Bool, true, false, List, [], length, map}
+use Rattle.std.specs.Global.{Vec}
 use Rattle.library_rows.specs.Library.{all_entries}
-use Rattle.machine_core.specs.Moves.{Ending, Row, ends, go}
+use Rattle.machine_core.specs.Moves.{Ending, Row, ends, go, is_given}
 use Rattle.library_rows.specs.Look.{Look, looked}
 use Rattle.tree_core.specs.Tree.{Body}
 use Rattle.load_rows.specs.Loading.{Builds}
@@ -23,6 +24,7 @@ use Rattle.step_laws.specs.Steps.{Does, IsReady}
 use Rattle.running_frame.specs.declared.place.Here.{Here}
 use Rattle.running_frame.specs.Here.{IsHere}
 use Rattle.machine_call_rows.specs.Primitives.{CallsPrimitive}
+use Rattle.machine_library.specs.Answers.{shape_told, values_told}
 use Rattle.machine_step.specs.Places.{RunsForm}
 
 -- some steps, of which none ends the turn, and one more
@@ -72,3 +74,12 @@ pub record IsAnswered (begun : Begun) (now : Memory) (here : Here) (iterates : B
   pub is_row : (builds : Builds Body) → library builds number ≡ look_row row
   pub changes : Changes called now arguments
   pub answers : looked row (map (value called.strings) arguments) (heap_of called) ≡ told now answer
+
+-- and these are its results
+pub record IsGiven (begun : Begun) (now : Memory) (here : Here) (iterates : Bool) (values : List Kept) : Type 0 where
+  pub answer : Answer
+  pub is_answered : IsAnswered begun now here iterates answer
+  pub results : Vec Kept
+  pub items : results.items ≡ values
+  pub given : shape_told answer ≡ is_given
+  pub are : values_told now answer ≡ map (value now.strings) results.items

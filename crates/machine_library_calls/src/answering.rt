@@ -9,7 +9,7 @@ ghost use Rattle.machine_step.specs.Places.{GoesOnSo, IsAwake};
 ghost use Rattle.move_laws.specs.Memory.{InOrder};
 ghost use Rattle.source_builds.specs.Builds.{BuildsSources};
 ghost use Rattle.tree_core.specs.Tree.{Body};
-ghost use Rattle.machine_library_calls.specs.Calls.{Begun, Comes, IsAnswered, wait_by};
+ghost use Rattle.machine_library_calls.specs.Calls.{Begun, Comes, IsAnswered, IsGiven, wait_by};
 
 use lib_base::Answer;
 use loaded_code::loading_is_safe;
@@ -35,23 +35,64 @@ pub(crate) fn take_answer(
 {
     loading_is_safe();
     match answer {
-        Answer::One(value) => {
-            set_wait(world, Wait::Running);
-            go_on(world, here, iterates, &[value])
-        }
-        Answer::Two(first, second) => {
-            set_wait(world, Wait::Running);
-            go_on(world, here, iterates, &[first, second])
-        }
-        Answer::Gives(values) => {
-            set_wait(world, Wait::Running);
-            go_on(world, here, iterates, values.as_slice())
-        }
+        Answer::One(value) => take_value(world, here, iterates, value),
+        Answer::Two(first, second) => take_two(world, here, iterates, first, second),
+        Answer::Gives(values) => take_values(world, here, iterates, values.as_slice()),
         Answer::Raises(value) => raise_value(world, value),
     }
 }
 
+/// The frame on top goes on with a single result.
+fn take_value(
+    world: &mut World,
+    here: Here,
+    iterates: bool,
+    value: Value,
+) -> Result<Ending, AllocError>
+    ghost begun: { Begun }
+    requires { IsGiven begun world.old here iterates (value ∷ []) }
+    ensures comes { IfOk result (λ ending. (builds : Builds Body) → BuildsSources builds → Comes (library builds) begun.before begun.fuel world.new (begun.fuel - 1) (ending_of ending)) }
+    ensures order { InOrder world.new }
+{
+    take_values(world, here, iterates, &[value])
+}
+
+/// The frame on top goes on with two results.
+fn take_two(
+    world: &mut World,
+    here: Here,
+    iterates: bool,
+    first: Value,
+    second: Value,
+) -> Result<Ending, AllocError>
+    ghost begun: { Begun }
+    requires { IsGiven begun world.old here iterates (first ∷ second ∷ []) }
+    ensures comes { IfOk result (λ ending. (builds : Builds Body) → BuildsSources builds → Comes (library builds) begun.before begun.fuel world.new (begun.fuel - 1) (ending_of ending)) }
+    ensures order { InOrder world.new }
+{
+    take_values(world, here, iterates, &[first, second])
+}
+
+/// The frame on top, which waits for these results, goes on with them.
+#[inline(always)]
+fn take_values(
+    world: &mut World,
+    here: Here,
+    iterates: bool,
+    values: &[Value],
+) -> Result<Ending, AllocError>
+    ghost begun: { Begun }
+    requires { IsGiven begun world.old here iterates values.now }
+    ensures comes { IfOk result (λ ending. (builds : Builds Body) → BuildsSources builds → Comes (library builds) begun.before begun.fuel world.new (begun.fuel - 1) (ending_of ending)) }
+    ensures order { InOrder world.new }
+{
+    loading_is_safe();
+    set_wait(world, Wait::Running);
+    go_on(world, here, iterates, values)
+}
+
 /// The frame on top, which runs again, takes results to its registers and goes on after its call. A refusal changes nothing that stands there.
+#[inline(always)]
 fn go_on(
     world: &mut World,
     here: Here,
