@@ -67,13 +67,13 @@ module _ (g : Running) (k : Code) (s : KeptStack) (ts : List Contents) (cs : Lis
     many : length own_now.registers ≡ length registers
     many = ap length (sym registers_are) ∙ length-map registers (value g.around.texts)
 
-    there : nat_lt register (length own_now.registers) ≡ true
+    pub there : nat_lt register (length own_now.registers) ≡ true
     there = lt_true register (length own_now.registers) (let l = get_within registers register (a_func id) holds.holds in let m = many in omega (arith, l, m))
 
     all : nat_le (behind (register + 1) given) (length own_now.registers) ≡ true
     all = le_true (behind (register + 1) given) (length own_now.registers) (behind_within (register + 1) given (length own_now.registers) (let l = holds.room in let m = many in omega (arith, l, m)))
 
-    callee_is : nth own_now.registers register ≡ object a_function id.0
+    pub callee_is : nth own_now.registers register ≡ object a_function id.0
     callee_is = ap (λ rs. nth rs register) (sym registers_are) ∙ nth_map (value g.around.texts) registers register (a_func id) holds.holds
 
   pub depth_is : length s.frames ≡ length g.around.context.below + 1

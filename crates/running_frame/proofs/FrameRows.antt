@@ -119,7 +119,7 @@ gone c s h = pop_is c.base c.coroutine s.chain s.there h.heap (close_from c.coro
 paid_so : (W : World) (spot : Place) (v : Value) (vs : List Value) (left : ℕ) → W.fuel ≡ suc left → called_tail W spot (callee v vs) ≡ enters (record (popped W spot) { fuel = left }) v vs
 paid_so W spot v vs left pay = ap (λ (m : ℕ). elim m as (λ _. Option (Made CallShape)) [ zero ↦ made W [] not_paid | suc fuel ↦ enters (record (popped W spot) { fuel = fuel }) v vs ]) pay
 
-tail_is : (c : Context) (s : Stands c) (h : Held) (env : List Value) (f : Arg) (slot n : ℕ) (q : Function) (left : ℕ) → arg env f ≡ object a_function n → slice_get c.base.functions n ≡ Some q → h.fuel ≡ suc left
+pub tail_is : (c : Context) (s : Stands c) (h : Held) (env : List Value) (f : Arg) (slot n : ℕ) (q : Function) (left : ℕ) → arg env f ≡ object a_function n → slice_get c.base.functions n ≡ Some q → h.fuel ≡ suc left
     → nat_le (length c.below + 1) greatest_depth ≡ true
     → run (expand (tail_call f slot)) env (world c h)
     ≡ ends go (world (in_place c n q) (record { heap = h.heap; cells = close_from c.coroutine (length c.below) 0 h.own.registers h.cells; fuel = left; own = began q.code (drop slot env) }))

@@ -18,6 +18,9 @@ mod Stored
 mod Handlers
 mod FilledOne
 mod Takers
+mod BelowTop
 mod Returned
+mod ListReturned
+mod SpreadCalls
 mod Apart
 mod Taken

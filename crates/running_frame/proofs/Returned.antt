@@ -1,5 +1,5 @@
 -- A return on a stack is two steps of the machine: the frame is left, and the frame below goes on with what it returned.
-use Rattle.std.proofs.Common.{◌≡◌, inl, inr, ℕ, suc, ◌+◌, ◌-◌, ◌≤◌, List, [], ◌∷◌, ◌++◌, length, map, take, Option, Some, None, refl, ap, sym, subst, ◌∙◌, arith, true, false}
+use Rattle.std.proofs.Common.{◌≡◌, inl, inr, ℕ, suc, ◌+◌, ◌-◌, List, [], ◌∷◌, ◌++◌, length, map, Option, Some, None, refl, ap, sym, subst, ◌∙◌, arith, true, false}
 use Rattle.std.proofs.lemmas.Bool.Decides.{nat_tests}
 use Rattle.std.specs.Prelude.{IfNone, IfSome, ◌==◌, cond, nat_le, slice_get}
 use Rattle.std.proofs.lemmas.List.{length-map}
@@ -9,21 +9,20 @@ use Rattle.code_core.specs.Instruction.{a_of, b_of, opcode_of}
 use Rattle.code_core.specs.declared.instruction.Instruction.{Instruction}
 use Rattle.code_core.specs.declared.opcode.Opcode.{Opcode}
 use Rattle.code_core.specs.declared.opcode.Opcode.TheVariants.{Return, Return0, Return1}
-use Rattle.int_core.specs.Value.{Value, last, range, without_last, write_all}
-use Rattle.machine_core.specs.World.{running, Activation, close_from, Wait, LuaFrame, Frame, lua, World}
-use Rattle.machine_core.specs.Text.{behind, last_pending}
+use Rattle.int_core.specs.Value.{Value, range, without_last, write_all}
+use Rattle.machine_core.specs.World.{running, Activation, Wait, LuaFrame, Frame, lua, World}
+use Rattle.machine_core.specs.Text.{behind}
 use Rattle.machine_core.specs.InstructionRows.{returns, row_of}
 use Rattle.machine_core.specs.FrameRows.{expand}
 use Rattle.machine_core.specs.Moves.{ends, go, run}
 use Rattle.machine_core.specs.MachineStep.{steps}
 use Rattle.machine_focus.specs.Focus.{Context, Held, Reaches, Stands, stacked, world}
 use Rattle.machine_sound.proofs.Values.{le_true}
-use Rattle.machine_sound.proofs.Lists.{get_there, last_push, last_splits, some_is, without_push}
+use Rattle.machine_sound.proofs.Lists.{get_there, some_is}
 use Rattle.table_core.specs.Table.{Contents}
 use Rattle.table_core.specs.declared.value.FuncId.{FuncId}
 use Rattle.table_core.specs.declared.value.Value.{Value as Kept}
-use Rattle.lua_stack.proofs.Parts.{map_take}
-use Rattle.lua_stack.specs.Frames.{KeptStack, frame_of, frames, kept_lua, lua_of, wait_of}
+use Rattle.lua_stack.specs.Frames.{KeptStack, frames, lua_of, wait_of}
 use Rattle.lua_heap.specs.declared.codes.Codes.{Codes}
 use Rattle.lua_heap.specs.declared.world.Cell.{Cell as KeptCell}
 use Rattle.lua_heap.specs.declared.world.Func.{Func}
@@ -31,35 +30,30 @@ use Rattle.lua_heap.specs.Plain.{cell, heap}
 use Rattle.lua_heap.specs.Reading.{value}
 use Rattle.machine_arms_tables.specs.Frame.{Code}
 use Rattle.machine_loop.specs.Running.{Running}
-use Rattle.machine_loop.proofs.Closing.{stays}
 use Rattle.running_frame.specs.Calling.{AreFunctions, KnownFunction}
 use Rattle.running_frame.specs.Returning.{CallsOrReturns, Crosses, ReturnsIn, count_of}
 use Rattle.running_frame.specs.Standing.{RunsAt, standing}
+use Rattle.running_frame.proofs.BelowTop.{below_waits, nothing_closed, nothing_pending, popped_waits, top_registers, values_there}
 use Rattle.running_frame.proofs.Calls.{less_is}
 use Rattle.running_frame.proofs.Called.{behind_within, called_so, held_on, iterated_so, own_now, ready_held, shape_known, standing_is, tail_called_so, word_is}
 use Rattle.running_frame.proofs.Chained.{reaches_none}
-use Rattle.running_frame.proofs.Closed.{closes_nothing}
 use Rattle.running_frame.proofs.FrameRows.{given, handed, outer, return_row, return_steps, still_waits, takes, takes_all}
-use Rattle.running_frame.proofs.Takers.{map_more, two_range}
+use Rattle.running_frame.proofs.Takers.{two_range}
 use Rattle.running_frame.proofs.TakenVarargs.{written_varargs_so}
 
--- without its last item, item by item
-map_without : {A B : Type 0} (f : A → B) (xs : List A) → map f (without_last xs) ≡ without_last (map f xs)
-map_without f xs = map_take f (length xs - 1) xs ∙ ap (λ n. take (n - 1) (map f xs)) (sym (length-map xs f))
-
 -- the row of a return, after what it reads first
-record RowReturns (c : Context) (h : Held) (w : Instruction) (count : ℕ) (o : Option Opcode) : Type 0 where
-  op : Opcode
-  is : o ≡ Some op
-  env : List Value
-  row : run (expand (row_of c.closure.code h.own.pc op w)) [] (world c h) ≡ run (expand (returns (a_of w) count)) env (world c h)
+pub record RowReturns (c : Context) (h : Held) (w : Instruction) (count : ℕ) (o : Option Opcode) : Type 0 where
+  pub op : Opcode
+  pub is : o ≡ Some op
+  pub env : List Value
+  pub row : run (expand (row_of c.closure.code h.own.pc op w)) [] (world c h) ≡ run (expand (returns (a_of w) count)) env (world c h)
 
 less_counts : (n : ℕ) → cond (suc n == 0) 0 (suc n - 1) ≡ n
 less_counts n =
     let more : (suc n == 0) ≡ false = grind (arith, nat_tests) in
     ap (λ b. cond b 0 (suc n - 1)) more ∙ omega arith
 
-row_returns : (c : Context) (s : Stands c) (h : Held) (w : Instruction) (count : ℕ) → nat_le (behind (a_of w) count) (length h.own.registers) ≡ true → (o : Option Opcode) → count_of o (b_of w) ≡ Some count → RowReturns c h w count o
+pub row_returns : (c : Context) (s : Stands c) (h : Held) (w : Instruction) (count : ℕ) → nat_le (behind (a_of w) count) (length h.own.registers) ≡ true → (o : Option Opcode) → count_of o (b_of w) ≡ Some count → RowReturns c h w count o
 row_returns c s h w count there (Some Return) e = record {
   op = Return;
   is = refl;
@@ -99,25 +93,8 @@ module _ (g : Running) (k : Code) (s : KeptStack) (ts : List Contents) (cs : Lis
   abbrev caller_at : ℕ → Wait Value → Activation → LuaFrame
   caller_at n w own = record { function = n; wait = w; own = own }
 
-  below_read : ctx.below ≡ map (frame_of read) (without_last s.frames)
-  below_read =
-      sym (without_push ctx.below (lua r.may.top))
-      ∙ ap without_last (sym r.may.is)
-      ∙ sym (map_without (frame_of read) s.frames)
-
-  in_below : last ctx.below ≡ Some (lua waiting)
-  in_below =
-      let lower = map (frame_of read) (without_last (without_last s.frames)) in
-      ap last (below_read
-      ∙ ap (map (frame_of read)) (last_splits (without_last s.frames) (kept_lua x.calls.frame) x.calls.at)
-      ∙ map_more (frame_of read) (without_last (without_last s.frames)) (kept_lua x.calls.frame ∷ []))
-      ∙ last_push lower (lua waiting)
-
   abbrev lower : List Frame
   lower = without_last ctx.below
-
-  splits : ctx.below ≡ lower ++ lua waiting ∷ []
-  splits = last_splits ctx.below (lua waiting) in_below
 
   abbrev number : ℕ
   number = x.caller.function.0
@@ -125,13 +102,8 @@ module _ (g : Running) (k : Code) (s : KeptStack) (ts : List Contents) (cs : Lis
   abbrev wait_is : Wait Value
   wait_is = wait_of read x.caller.wait
 
-  waits_so : waiting ≡ caller_at number wait_is waiting.own
-  waits_so =
-      ap (λ (id : FuncId). caller_at id.0 (wait_of read x.calls.frame.wait) waiting.own) x.calls.knows.function
-      ∙ ap (λ w. caller_at number (wait_of read w) waiting.own) x.calls.knows.waits
-
   below_is : ctx.below ≡ lower ++ lua (caller_at number wait_is waiting.own) ∷ []
-  below_is = splits ∙ ap (λ (t : LuaFrame). lower ++ lua t ∷ []) waits_so
+  below_is = below_waits g k s ts cs fuel pc r x.caller x.calls
 
   -- its CALL
 
@@ -166,18 +138,10 @@ module _ (g : Running) (k : Code) (s : KeptStack) (ts : List Contents) (cs : Lis
   -- the frame on top
 
   registers_are : map read x.registers ≡ own.registers
-  registers_are = x.are read ctx.below r.may.top r.may.is
+  registers_are = top_registers g k s ts cs fuel pc r x.registers x.are
 
   there : nat_le (behind (a_of w) x.count) (length own.registers) ≡ true
-  there =
-      le_true (behind (a_of w) x.count) (length own.registers)
-      (subst (λ n. behind (a_of w) x.count ≤ n) (sym (length-map x.registers read) ∙ ap length registers_are) x.gives.room)
-
-  none_pending : last_pending 0 own.pending ≡ None
-  none_pending = x.closed.pending read ctx.below r.may.top r.may.is
-
-  none_closed : close_from ctx.coroutine (length ctx.below) 0 own.registers (map (cell g.around.texts) cs) ≡ map (cell g.around.texts) cs
-  none_closed = stays g.around cs 0 0 (closes_nothing g k s ts cs fuel r.may (Some 0) x.closed) (omega arith) own.registers
+  there = values_there g k s ts cs fuel pc r x.registers x.are (a_of w) x.count x.gives.room
 
   -- what both steps come to
 
@@ -186,12 +150,7 @@ module _ (g : Running) (k : Code) (s : KeptStack) (ts : List Contents) (cs : Lis
       stacked ctx.base ctx.coroutine (lower ++ lua (caller_at n running (record waiting.own { registers = write_all register vs waiting.own.registers; pc = to })) ∷ []) (heap g.around.texts ts g.string_metatable) (map (cell g.around.texts) cs) fuel []
 
   popped_is : frames read x.popped ≡ lower ++ lua waiting ∷ []
-  popped_is =
-      ap (map (frame_of read)) x.pops
-      ∙ map_without (frame_of read) s.frames
-      ∙ ap without_last r.may.is
-      ∙ without_push ctx.below (lua r.may.top)
-      ∙ splits
+  popped_is = popped_waits g k s ts cs fuel pc r x.caller x.calls x.popped x.pops
 
   values_are : range 0 x.taker.count (read x.given.first ∷ read x.given.second ∷ []) ≡ range 0 x.taker.count (range (a_of w) x.count own.registers)
   values_are =
@@ -216,7 +175,7 @@ module _ (g : Running) (k : Code) (s : KeptStack) (ts : List Contents) (cs : Lis
         2,
         ap (steps g.around.rows 2 go) (standing_is g k s ts cs fuel pc r)
             ∙ return_steps ctx stands h w o.op (word_is g k s ts cs fuel pc r w word) o.is (a_of w) x.count o.env o.row
-            none_pending there none_closed lower number known_function.function waiting.own wait_is (still_waits read x.takes.takes.wants) below_is known_function.is
+            (nothing_pending g k s ts cs fuel pc r x.closed) there (nothing_closed g k s ts cs fuel pc r x.closed) lower number known_function.function waiting.own wait_is (still_waits read x.takes.takes.wants) below_is known_function.is
             (handed d x.taker held given_values) (takes_all read given_values x.takes.takes.wants)
             (takes d x.taker held x.takes.code.words.items words_are call_word at_call x.caller.pc read x.calls.knows.pc x.takes.takes.wants given_values behind_call.0 room at_next) g.around.rows
             ∙ ap (ends go) (sym standing_after),

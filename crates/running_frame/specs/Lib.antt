@@ -10,4 +10,6 @@ pub mod Storing
 pub mod Remembering
 pub mod Filling
 pub mod Returning
+pub mod Opening
+pub mod Spreading
 pub mod Asking

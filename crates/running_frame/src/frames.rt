@@ -9,6 +9,7 @@ ghost use Rattle.running_frame.specs.Calling.{AreFunctions, CallsOn, HaveCode};
 ghost use Rattle.running_frame.specs.Filling.{WritesOn};
 ghost use Rattle.running_frame.specs.Inheriting.{metatable_number};
 ghost use Rattle.running_frame.specs.Returning.{Crosses, GoesOn, Leaves};
+ghost use Rattle.running_frame.specs.Spreading.{CrossesOver};
 ghost use Rattle.running_frame.specs.Standing.{IsClosedFrom, IsHereIn, MayRun, standing};
 ghost use Rattle.running_frame.specs.Storing.{StoresOpen};
 ghost use Rattle.running_frame.specs.Upvalues.{ListsOpen};
@@ -20,6 +21,7 @@ use crate::iterating::call_iterator;
 use crate::listing::write_varargs;
 use crate::place::Here;
 use crate::returning::return_values;
+use crate::spreading::spread;
 use crate::stack::{Stop, run_stack};
 use crate::storing::store_open;
 use crate::tail_calling::tail_call_function;
@@ -225,6 +227,29 @@ fn store(
 
 /// Calls a function, returns to a frame below, or writes extra arguments, where this changes nothing but the stack.
 fn cross(
+    stack: &mut Stack,
+    size: usize,
+    funcs: &Pool<Func>,
+    codes: &Codes,
+    words: &[Instruction],
+    budget: &mut u64,
+    stop: Stop,
+) -> Option<()>
+    requires top { HasLuaTop stack.old }
+    requires codes { HaveCode funcs.now.objects codes.now }
+    requires closed { IfSome stop.closed (λ register. IsClosedFrom stack.old register) }
+    ensures crosses { IfSome result (λ _. CrossesOver stack.old stack.new size funcs.now.objects codes.now words.now stop.here.pc stop.here.word budget.old budget.new) }
+    ensures kept { IfNone result ((stack.new ≡ stack.old) × (budget.new ≡ budget.old)) }
+    ensures listed { stack.new.open_cells ≡ stack.old.open_cells }
+{
+    match cross_counted(stack, size, funcs, codes, words, budget, stop) {
+        Some(()) => Some(()),
+        None => spread(stack, size, funcs, codes, words, budget, stop),
+    }
+}
+
+/// Calls a function, returns to a frame below, or writes extra arguments, where no open list is taken.
+fn cross_counted(
     stack: &mut Stack,
     size: usize,
     funcs: &Pool<Func>,

@@ -63,7 +63,7 @@ pub(crate) fn return_values(
 
 /// How many values an instruction returns, where it says so.
 #[inline(always)]
-fn count_returned(i: Instruction) -> Option<usize>
+pub(crate) fn count_returned(i: Instruction) -> Option<usize>
     ensures { result ≡ count_of (opcode_of i) (b_of i) }
 {
     match i.opcode() {
@@ -87,7 +87,7 @@ pub(crate) fn is_first(closed: Option<usize>) -> bool
 
 /// The first two of the values of `count` registers.
 #[inline(always)]
-fn returned_from(registers: &[Value], register: usize, count: usize) -> Option<Given>
+pub(crate) fn returned_from(registers: &[Value], register: usize, count: usize) -> Option<Given>
     ensures { IfSome result (λ g. IsGiven registers.now register count g) }
 {
     if count == 0 {
@@ -121,7 +121,7 @@ pub(crate) fn second_of(registers: &[Value], register: usize) -> Option<Value>
 
 /// The frame below, where it is a Lua frame.
 #[inline(always)]
-fn caller_of(stack: &Stack) -> Option<LuaState>
+pub(crate) fn caller_of(stack: &Stack) -> Option<LuaState>
     ensures { IfSome result (λ c. IsCaller stack.now c) }
 {
     stack.below_top()
@@ -277,7 +277,7 @@ fn is_operator(opcode: Opcode) -> bool
 }
 
 /// The instruction before a place.
-fn in_front(words: &[Instruction], pc: usize) -> Option<Instruction>
+pub(crate) fn in_front(words: &[Instruction], pc: usize) -> Option<Instruction>
     requires { pc < length words.now }
     ensures { IfSome result (λ before. IsInFront words.now pc before) }
 {

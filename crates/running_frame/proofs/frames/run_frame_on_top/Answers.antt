@@ -9,7 +9,7 @@ use Rattle.running_frame.specs.Standing.{IsClosedFrom, IsHereIn}
 use Rattle.running_frame.specs.Upvalues.{ListsOpen}
 use Rattle.running_frame.specs.declared.place.Here.{Here}
 use Rattle.running_frame.proofs.OpenRead.{lists_open}
-use Rattle.running_frame.proofs.Returned.{crossed_or_not}
+use Rattle.running_frame.proofs.SpreadCalls.{crossed_over_or_not}
 use Rattle.running_frame.proofs.FilledOne.{written_or_not}
 use Rattle.running_frame.proofs.Handlers.{here_still}
 use Rattle.running_frame.proofs.Chained.{reaches_then}
@@ -34,7 +34,7 @@ pub returns-in-Some-clause-reaches : goal.returns-in-Some-clause-reaches
 returns-in-Some-clause-reaches g c =
     let r = c.run_stack-stop.ensures.runs (runs_where c.run_stack-stop.result.here.runs c.if-not-stop.false) in
     reaches_then g.g.around.rows c.run_stack-stop.ensures.reaches
-    (crossed_or_not g.g (code c.args.closure c.args.strings.now) c.run_stack-stop.new.stack c.run_stack-stop.new.tables.objects c.run_stack-stop.new.cells.objects c.run_stack-stop.new.budget c.run_stack-stop.result.here.pc r
+    (crossed_over_or_not g.g (code c.args.closure c.args.strings.now) c.run_stack-stop.new.stack c.run_stack-stop.new.tables.objects c.run_stack-stop.new.cells.objects c.run_stack-stop.new.budget c.run_stack-stop.result.here.pc r
     c.cross.new.stack c.args.size c.args.funcs.now.objects c.args.codes.now c.run_stack-stop.result.here.word c.cross.new.budget c.requires.1.1.1.0 c.requires.1.1.1.1 c.run_stack-stop.ensures.here.word
     c.cross.result c.cross.ensures.crosses c.cross.ensures.kept)
 
