@@ -6,3 +6,4 @@ mod Few
 mod Handing
 mod CallForm
 mod TailForm
+mod MakeForm

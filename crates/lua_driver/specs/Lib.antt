@@ -1,4 +1,5 @@
 pub mod Turns
 pub mod Calling
 pub mod TailCalling
+pub mod Making
 pub mod Returning

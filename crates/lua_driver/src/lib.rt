@@ -3,6 +3,7 @@
 #![tactic(auto)]
 
 mod calling;
+mod making;
 mod returning;
 mod running;
 mod tail_calling;

@@ -12,6 +12,7 @@ ghost use Rattle.lua_driver.specs.Returning.{AreTold, Returns, ReturnsFew};
 ghost use Rattle.lua_driver.specs.Turns.{GoesFurther};
 
 use crate::calling::{call_at, call_here};
+use crate::making::{make_at, make_here};
 use crate::tail_calling::{tail_call_at, tail_call_here};
 use code_core::Opcode;
 use int_core::Allocated;
@@ -42,11 +43,24 @@ pub(crate) fn step_on(world: &mut World, budget: &mut u64, here: Here) -> Alloca
 {
     match call_at(here) {
         Some(at) => call_here(world, budget, here, at),
-        None => tail_call_or_step(world, budget, here),
+        None => make_or_step(world, budget, here),
     }
 }
 
 /// Does so where the word is no call over the frame.
+fn make_or_step(world: &mut World, budget: &mut u64, here: Here) -> Allocated<Ending>
+    requires ready { IsReady (length all_entries) go world.old }
+    requires here { IsHere world.old here }
+    ensures goes { IfOk result (λ next. AsRead (λ builds. GoesFurther (library builds) go world.old budget.old world.new budget.new (ending_of next))) }
+    ensures order { InOrder world.new }
+{
+    match make_at(here) {
+        Some(at) => make_here(world, here, at),
+        None => tail_call_or_step(world, budget, here),
+    }
+}
+
+/// Does so where the word makes no function either.
 fn tail_call_or_step(world: &mut World, budget: &mut u64, here: Here) -> Allocated<Ending>
     requires ready { IsReady (length all_entries) go world.old }
     requires here { IsHere world.old here }
