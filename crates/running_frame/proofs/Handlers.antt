@@ -165,9 +165,9 @@ both_some (Some x) f p q = f x p q
 
 -- what is asked for, where the handler is a function
 
-pub asked_so : (S : Settled) (texts : List (List ℕ)) (H : Heap) (more : List Value) (o : Outcome) (handler first : Kept) → S ≡ comes_to texts H more o → o ≡ Ask handler first
+pub asked_of : (S : Settled) (texts : List (List ℕ)) (H : Heap) (more : List Value) (o : Outcome) (handler first : Kept) → S ≡ comes_to texts H more o → o ≡ Ask handler first
     → (id : FuncId) (object : Kept) → handler ≡ a_func id → object ≡ first → S ≡ ask (value texts (a_func id)) (value texts object ∷ more)
-asked_so S texts H more o handler first is a id object h f =
+asked_of S texts H more o handler first is a id object h f =
     is
     ∙ ap (comes_to texts H more) a
     ∙ ap (λ v. ask (value texts v) (value texts first ∷ more)) h

@@ -3,7 +3,7 @@ use Rattle.lua_heap.specs.Reading.{value}
 use Rattle.meta_ops.specs.Heap.{heap_in}
 use Rattle.running_frame.specs.Asking.{AsksFor}
 use Rattle.running_frame.specs.Inheriting.{metatable_number}
-use Rattle.running_frame.proofs.Handlers.{asked_so, both_some}
+use Rattle.running_frame.proofs.Handlers.{asked_of, both_some}
 use Rattle.running_frame.proofs.asking.handler_asked.Goals as goal
 
 pub returns-in-Ask : goal.returns-in-Ask
@@ -11,6 +11,6 @@ returns-in-Ask c =
     let texts = c.args.strings.now in
     both_some {R = λ found. AsksFor texts c.args.tables.now.objects (metatable_number c.args.string_meta) c.args.object c.args.key found.id found.first} c.handler_by.result
     (λ found id object.
-    asked_so _ texts (heap_in texts c.args.tables.now.objects c.args.string_meta) (value texts c.args.key ∷ []) c.index_of.result c.in-Ask.handler c.in-Ask.first c.index_of.ensures c.in-Ask.is
+    asked_of _ texts (heap_in texts c.args.tables.now.objects c.args.string_meta) (value texts c.args.key ∷ []) c.index_of.result c.in-Ask.handler c.in-Ask.first c.index_of.ensures c.in-Ask.is
     found.id found.first id object)
     c.handler_by.ensures.id c.handler_by.ensures.object
