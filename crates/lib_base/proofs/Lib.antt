@@ -3,7 +3,7 @@ mod Bests
 mod ExpandRows
 mod Fields
 mod Following
-pub mod Interning
+mod Interning
 mod JoinRows
 mod ListRows
 mod Meaning

@@ -1,15 +1,12 @@
 -- Rows of functions of texts, by the arguments that they look at, and answers that take no memory.
-use Rattle.std.proofs.Common.{◌≡◌, ℕ, List, [], ◌∷◌, length, map, Option, Some, None, Result, Ok, true, ap, sym, subst, ◌∙◌}
-use Rattle.std.specs.Prelude.{◌&&◌, slice_get, IfSome}
-use Rattle.int_core.specs.Operations.{type_name}
+use Rattle.std.proofs.Common.{◌≡◌, ℕ, List, [], ◌∷◌, length, map, Option, Some, None, true, ap, sym, ◌∙◌}
+use Rattle.std.specs.Prelude.{◌&&◌, slice_get}
 use Rattle.int_core.specs.Value.{Plain, Value, known, string, Shape, shape, nth, greatest_string}
 use Rattle.library_rows.specs.Arguments.{argument}
-use Rattle.library_rows.specs.Base.{types}
-use Rattle.library_rows.specs.Look.{Look, done}
+use Rattle.library_rows.specs.Look.{done}
 use Rattle.library_rows.specs.Plainly.{Outcome, PlainRowsAreFunctions, done_as, plainly, results}
 use Rattle.library_rows.specs.Searches.{find_row, match_row}
 use Rattle.library_rows.specs.Strings.{byte_row, sub_row}
-use Rattle.library_arguments.specs.declared.refusal.Fault.{Fault}
 use Rattle.table_core.specs.declared.value.StrId.{StrId}
 use Rattle.table_core.specs.declared.value.Value.{Value as Kept}
 use Rattle.table_core.specs.declared.value.Value.TheVariants.{Str}
@@ -17,11 +14,7 @@ use Rattle.lua_heap.specs.Reading.{text_or, value}
 use Rattle.lua_heap.specs.Strings.{AreShort}
 use Rattle.lua_heap.specs.declared.world.World.{World as Memory}
 use Rattle.lib_base.specs.declared.answer.Answer.{Answer}
-use Rattle.lib_base.specs.declared.answer.BriefAnswer.{BriefAnswer}
-use Rattle.lib_base.specs.declared.answer.BriefAnswer.TheVariants.{One}
-use Rattle.lib_base.specs.declared.calls.Function.{Function}
-use Rattle.lib_base.specs.Answers.{Answers, answer_of}
-use Rattle.lib_base.specs.Functions.{function_row}
+use Rattle.lib_base.specs.declared.answer.Answer.TheVariants.{One}
 use Rattle.lib_base.specs.QuickAnswers.{IsQuickAnswer, IsToldAs}
 use Rattle.lib_base.specs.Raw.{heap_of}
 use Rattle.lib_base.proofs.ExpandRows.{by_limit, within}
@@ -62,30 +55,8 @@ text_told W id bytes e short = (
 )
 
 -- results that a function gives are those of its row
-pub quick_row : PlainRowsAreFunctions → (f : List Shape → Outcome) (arguments : List Kept) (W : Memory) (ps : List Plain) (o : Option BriefAnswer) → f (map shape (map (value W.strings) arguments)) ≡ results ps → IsToldAs W ps o
+pub quick_row : PlainRowsAreFunctions → (f : List Shape → Outcome) (arguments : List Kept) (W : Memory) (ps : List Plain) (o : Option Answer) → f (map shape (map (value W.strings) arguments)) ≡ results ps → IsToldAs W ps o
     → IsQuickAnswer (plainly f) arguments W o
 quick_row law f arguments W ps None gives told = tt
 quick_row law f arguments W ps (Some answer) gives told =
     law f (map (value W.strings) arguments) (heap_of W) ∙ ap (done_as (heap_of W)) gives ∙ ap (by_limit (heap_of W) ps) told.1 ∙ sym told.0
-
--- so are the results of a function that gives one or two
-pub brief_row : (row : Look) (arguments : List Kept) (W : Memory) (r : Result Answer Fault) (o : Option BriefAnswer) → Answers row arguments W W r → IfSome o (λ b. r ≡ Ok (answer_of b)) → IsQuickAnswer row arguments W o
-brief_row row arguments W r None answers same = tt
-brief_row row arguments W r (Some b) answers same = subst (λ (x : Result Answer Fault). Answers row arguments W W x) same answers
-
-pub quick_as : (f g : Function) → f ≡ g → (arguments : List Kept) (W : Memory) (o : Option BriefAnswer) → IsQuickAnswer (function_row g) arguments W o → IsQuickAnswer (function_row f) arguments W o
-quick_as f g is arguments W o h = subst (λ (x : Function). IsQuickAnswer (function_row x) arguments W o) (sym is) h
-
-pub brief_call : (f g : Function) → f ≡ g → (arguments : List Kept) (W : Memory) (r : Result Answer Fault) (o : Option BriefAnswer) → Answers (function_row g) arguments W W r
-    → IfSome o (λ b. r ≡ Ok (answer_of b)) → IsQuickAnswer (function_row f) arguments W o
-brief_call f g is arguments W r o answers same = quick_as f g is arguments W o (brief_row (function_row g) arguments W r o answers same)
-
-pub ok_brief : (r : Result Answer Fault) (a : Answer) (o : Option BriefAnswer) → r ≡ Ok a → IfSome o (λ b. a ≡ answer_of b) → IfSome o (λ b. r ≡ Ok (answer_of b))
-ok_brief r a None is same = tt
-ok_brief r a (Some b) is same = subst (λ (x : Answer). r ≡ Ok x) same is
-
--- the name of a type is what `type` gives
-pub type_row : (arguments : List Kept) (W : Memory) (name : List ℕ) (o : Option BriefAnswer) → name ≡ type_name (shape (nth (map (value W.strings) arguments) 0)) → IsToldAs W (string name ∷ []) o
-    → IsQuickAnswer types arguments W o
-type_row arguments W name None is told = tt
-type_row arguments W name (Some b) is told = ap (λ n. done (heap_of W) (known (string n) ∷ [])) (sym is) ∙ sym told.0

@@ -14,8 +14,6 @@ use Rattle.lua_heap.specs.Reading.{value}
 use Rattle.lib_base.specs.Raw.{heap_of}
 use Rattle.lib_base.specs.declared.answer.Answer.{Answer}
 use Rattle.lib_base.specs.declared.answer.Answer.TheVariants.{One, Two, Gives, Raises}
-use Rattle.lib_base.specs.declared.answer.BriefAnswer.{BriefAnswer}
-use Rattle.lib_base.specs.declared.answer.BriefAnswer.TheVariants.{One as BriefOne, Two as BriefTwo}
 
 -- a sound world, in which the arguments are valid
 pub record Stands (W : Memory) (arguments : List Kept) : Type 0 where
@@ -51,11 +49,6 @@ pub record Changes (old new : Memory) (arguments : List Kept) : Type 0 where
 -- the argument of a place, from 0
 abbrev pub IsArgument : List Kept → ℕ → Kept → Type 0
 IsArgument arguments at v = (texts : List (List ℕ)) → nth (map (value texts) arguments) at ≡ value texts v
-
--- an answer of one result or two
-abbrev pub answer_of : BriefAnswer → Answer
-answer_of (BriefOne v) = One v
-answer_of (BriefTwo v w) = Two v w
 
 abbrev pub told : Memory → Answer → Done
 told W (One v) = done (heap_of W) (value W.strings v ∷ [])

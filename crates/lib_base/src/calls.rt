@@ -6,10 +6,9 @@ ghost use Rattle.library_arguments.specs.Shapes.{shapes_of};
 ghost use Rattle.library_rows.specs.Plainly.{plainly};
 ghost use Rattle.lua_heap.specs.Reading.{value};
 ghost use Rattle.lib_base.specs.Answers.{Answers, Changes, OnlyStrings, Stands};
-ghost use Rattle.lib_base.specs.Functions.{function_row, plain_row};
-ghost use Rattle.lib_base.specs.QuickAnswers.{IsQuickAnswer};
+ghost use Rattle.lib_base.specs.Functions.{function_row, plain_row, text_row};
 
-use crate::answer::{Answer, BriefAnswer, brief};
+use crate::answer::Answer;
 use crate::plain::{all_shapes, given};
 use crate::quick::quick_answer;
 use crate::shapes::argument_shape;
@@ -60,27 +59,6 @@ pub fn call(world: &mut World, function: Function, arguments: &[Value]) -> Resul
     ensures changes { Changes world.old world.new arguments.now }
     ensures err { OnErr result (OnlyStrings world.old world.new arguments.now) }
 {
-    match quick_call(world, function, arguments) {
-        Some(few) => Ok(few.answer()),
-        None => call_wholly(world, function, arguments),
-    }
-}
-
-/// Does so without asking `quick_call` first.
-///
-/// # Errors
-///
-/// The same.
-pub fn call_wholly(
-    world: &mut World,
-    function: Function,
-    arguments: &[Value],
-) -> Result<Answer, Fault>
-    requires { Stands world.old arguments.now }
-    ensures answers { Answers (function_row function) arguments.now world.old world.new result }
-    ensures changes { Changes world.old world.new arguments.now }
-    ensures err { OnErr result (OnlyStrings world.old world.new arguments.now) }
-{
     match function {
         Function::Assert => base::assert(world, arguments),
         Function::CollectGarbage => base::collect_garbage(world, arguments),
@@ -102,29 +80,23 @@ pub fn call_wholly(
         Function::Text => text::text(world, arguments),
         Function::Expand => expanding::expand(world, arguments),
         Function::Seek => seeking::seek(world, arguments),
-        Function::OverTexts(function) => {
-            plain_function(world, Plain::OverTexts(function), arguments)
-        }
+        Function::OverTexts(function) => over_texts(world, function, arguments),
     }
 }
 
-/// What a function gives where that is a result or two, changes nothing and takes no memory. `None` says nothing.
-pub fn quick_call(world: &World, function: Function, arguments: &[Value]) -> Option<BriefAnswer>
-    requires { Stands world.now arguments.now }
-    ensures { IsQuickAnswer (function_row function) arguments.now world.now result }
+/// Calls a function that sees texts and integers alone.
+fn over_texts(
+    world: &mut World,
+    function: texts::Function,
+    arguments: &[Value],
+) -> Result<Answer, Fault>
+    requires { Stands world.old arguments.now }
+    ensures answers { Answers (plainly (text_row function)) arguments.now world.old world.new result }
+    ensures kept { OnlyStrings world.old world.new arguments.now }
 {
-    match function {
-        Function::MetaField => brief(metatables::meta_field(world, arguments)),
-        Function::Next => brief(base::next(world, arguments)),
-        Function::RawEqual => brief(base::raw_equal(world, arguments)),
-        Function::RawGet => brief(base::raw_get(world, arguments)),
-        Function::RawLength => brief(base::raw_length(world, arguments)),
-        Function::Select => base::count(world, arguments),
-        Function::Spread => lists::spread_few(world, arguments),
-        Function::Text => text::same_text(world, arguments),
-        Function::TypeOf => base::name_of_type(world, arguments),
-        Function::OverTexts(function) => quick_answer(world, function, arguments),
-        _ => None,
+    match quick_answer(world, function, arguments) {
+        Some(answer) => Ok(answer),
+        None => plain_function(world, Plain::OverTexts(function), arguments),
     }
 }
 

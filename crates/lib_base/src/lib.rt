@@ -22,6 +22,6 @@ mod strings;
 mod text;
 pub mod texts;
 
-pub use answer::{Answer, BriefAnswer};
-pub use calls::{Function, call, call_wholly, quick_call};
+pub use answer::Answer;
+pub use calls::{Function, call};
 pub use shapes::argument_shape;

@@ -6,10 +6,9 @@ ghost use Rattle.library_arguments.specs.Shapes.{shape_of};
 ghost use Rattle.lua_heap.specs.Reading.{value};
 ghost use Rattle.lib_base.specs.Answers.{Answers, Stands};
 ghost use Rattle.lib_base.specs.Lists.{IsCount, items_from};
-ghost use Rattle.lib_base.specs.QuickAnswers.{IsQuickAnswer};
 ghost use Rattle.lib_base.specs.Raw.{heap_of};
 
-use crate::answer::{Answer, BriefAnswer, argument, brief};
+use crate::answer::Answer;
 use crate::raw;
 use crate::shapes::{argument_shape, table_argument};
 use library_arguments::{Fault, Refusal, Shape, integer_argument};
@@ -35,27 +34,6 @@ pub fn spread(world: &World, arguments: &[Value]) -> Result<Answer, Fault>
     }
     let items = items(world, id, many)?;
     Ok(Answer::Gives(items))
-}
-
-/// What `spread` gives where one value or two are asked for.
-#[inline(always)]
-pub(crate) fn spread_few(world: &World, arguments: &[Value]) -> Option<BriefAnswer>
-    requires { Stands world.now arguments.now }
-    ensures { IsQuickAnswer spreads arguments.now world.now result }
-{
-    if !is_one_or_two(argument(arguments, 1)) {
-        return None;
-    }
-    brief(spread(world, arguments))
-}
-
-/// Whether a value is 1 or 2.
-#[inline(always)]
-fn is_one_or_two(count: Value) -> bool {
-    match count {
-        Value::Int(n) => n == 1 || n == 2,
-        _ => false,
-    }
 }
 
 /// The number of items, which is the second argument: 0 where it is negative.

@@ -10,7 +10,7 @@ ghost use Rattle.lib_base.specs.Answers.{Stands};
 ghost use Rattle.lib_base.specs.Functions.{text_row};
 ghost use Rattle.lib_base.specs.QuickAnswers.{IsQuickAnswer, IsToldAs};
 
-use crate::answer::BriefAnswer;
+use crate::answer::Answer;
 use crate::shapes::argument_shape;
 use crate::texts::Function;
 use lib_string::{Quick, quick_byte, quick_find, quick_match, quick_sub};
@@ -19,11 +19,7 @@ use lua_heap::World;
 use table_core::Value;
 
 /// What a function gives where that takes no memory. `None` says nothing.
-pub(crate) fn quick_answer(
-    world: &World,
-    function: Function,
-    arguments: &[Value],
-) -> Option<BriefAnswer>
+pub(crate) fn quick_answer(world: &World, function: Function, arguments: &[Value]) -> Option<Answer>
     requires { Stands world.now arguments.now }
     ensures { IsQuickAnswer (plainly (text_row function)) arguments.now world.now result }
 {
@@ -90,24 +86,24 @@ fn sub<'a>(world: &'a World, arguments: &[Value]) -> Option<Quick<'a>>
 }
 
 /// Results as values. `None` says nothing.
-fn told(world: &World, quick: Quick) -> Option<BriefAnswer>
+fn told(world: &World, quick: Quick) -> Option<Answer>
     ensures { IsToldAs world.now (quick_of quick.entry) result }
 {
     match quick {
-        Quick::Nothing => Some(BriefAnswer::One(Value::Nil)),
-        Quick::Integer(n) => Some(BriefAnswer::One(Value::Int(n))),
+        Quick::Nothing => Some(Answer::One(Value::Nil)),
+        Quick::Integer(n) => Some(Answer::One(Value::Int(n))),
         Quick::Text(bytes) => there(world, bytes),
-        Quick::Places(first, last) => Some(BriefAnswer::Two(Value::Int(first), Value::Int(last))),
+        Quick::Places(first, last) => Some(Answer::Two(Value::Int(first), Value::Int(last))),
     }
 }
 
 /// A string that is there already.
-pub(crate) fn there(world: &World, bytes: &[u8]) -> Option<BriefAnswer>
+fn there(world: &World, bytes: &[u8]) -> Option<Answer>
     ensures { IsToldAs world.now (string bytes.now ∷ []) result }
 {
     world.strings.len();
     match world.strings.find(bytes) {
-        Some(id) => Some(BriefAnswer::One(Value::Str(id))),
+        Some(id) => Some(Answer::One(Value::Str(id))),
         None => None,
     }
 }

@@ -6,11 +6,10 @@ ghost use Rattle.library_rows.specs.Base.{kind_text, texts};
 ghost use Rattle.table_core.specs.declared.value.Value.TheVariants.{Int, Str};
 ghost use Rattle.lua_heap.specs.Reading.{value};
 ghost use Rattle.lib_base.specs.Answers.{Answers, IsArgument, OnlyStrings, Stands};
-ghost use Rattle.lib_base.specs.QuickAnswers.{IsQuickAnswer};
 ghost use Rattle.lib_base.specs.Raw.{heap_of};
 ghost use Rattle.lib_base.specs.Texts.{IsShown, shown_of};
 
-use crate::answer::{Answer, BriefAnswer, argument, brief};
+use crate::answer::{Answer, argument};
 use crate::raw;
 use crate::shapes::{argument_shape, shape};
 use crate::strings::string;
@@ -55,18 +54,6 @@ fn own_text(world: &World, arguments: &[Value], id: StrId) -> Answer
     world.strings.len();
     world.bytes(id);
     Answer::One(Value::Str(id))
-}
-
-/// What `text` gives of a string.
-#[inline(always)]
-pub(crate) fn same_text(world: &World, arguments: &[Value]) -> Option<BriefAnswer>
-    requires { Stands world.now arguments.now }
-    ensures { IsQuickAnswer texts arguments.now world.now result }
-{
-    match argument(arguments, 0) {
-        Value::Str(id) => brief(Ok(own_text(world, arguments, id))),
-        _ => None,
-    }
 }
 
 /// The digits of an integer as a string, which is added where there is none.

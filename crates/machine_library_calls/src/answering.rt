@@ -1,6 +1,5 @@
 // What a function of the libraries gives, in the registers of the Lua frame that called it (luaD_poscall and moveresults of ldo.c).
 ghost use Rattle.std.specs.Prelude.{◌≡◌, ◌-◌, ◌∷◌, [], IfOk, OnErr};
-ghost use Rattle.lib_base.specs.Answers.{answer_of};
 ghost use Rattle.load_rows.specs.Loading.{Builds};
 ghost use Rattle.loaded_code.specs.Laws.{library};
 ghost use Rattle.machine_core.specs.Moves.{raised};
@@ -12,7 +11,7 @@ ghost use Rattle.source_builds.specs.Builds.{BuildsSources};
 ghost use Rattle.tree_core.specs.Tree.{Body};
 ghost use Rattle.machine_library_calls.specs.Calls.{Begun, Comes, IsAnswered, IsGiven, wait_by};
 
-use lib_base::{Answer, BriefAnswer};
+use lib_base::Answer;
 use loaded_code::loading_is_safe;
 use lua_heap::World;
 use lua_stack::Wait;
@@ -40,25 +39,6 @@ pub(crate) fn take_answer(
         Answer::Two(first, second) => take_two(world, here, iterates, first, second),
         Answer::Gives(values) => take_values(world, here, iterates, values.as_slice()),
         Answer::Raises(value) => raise_value(world, value),
-    }
-}
-
-/// The frame on top goes on with a result or two.
-#[inline(always)]
-pub(crate) fn take_brief(
-    world: &mut World,
-    here: Here,
-    iterates: bool,
-    answer: BriefAnswer,
-) -> Result<Ending, AllocError>
-    ghost begun: { Begun }
-    requires { IsAnswered begun world.old here iterates (answer_of answer) }
-    ensures comes { IfOk result (λ ending. (builds : Builds Body) → BuildsSources builds → Comes (library builds) begun.before begun.fuel world.new (begun.fuel - 1) (ending_of ending)) }
-    ensures order { InOrder world.new }
-{
-    match answer {
-        BriefAnswer::One(value) => take_value(world, here, iterates, value),
-        BriefAnswer::Two(first, second) => take_two(world, here, iterates, first, second),
     }
 }
 

@@ -16,8 +16,8 @@ ghost use Rattle.step_laws.specs.Steps.{IsReady};
 ghost use Rattle.tree_core.specs.Tree.{Body};
 ghost use Rattle.machine_library_calls.specs.Calls.{Begun, Comes, IsCalled, begins};
 
-use crate::answering::{take_answer, take_brief};
-use lib_base::{Function, call_wholly, quick_call};
+use crate::answering::take_answer;
+use lib_base::{Function, call};
 use loaded_code::loading_is_safe;
 use lua_heap::World;
 use machine_call_rows::{PrimitiveCall, call_primitive};
@@ -127,29 +127,7 @@ fn call_now(
     ensures order { InOrder world.new }
 {
     loading_is_safe();
-    match quick_call(world, function, called.arguments.as_slice()) {
-        Some(answer) => take_brief(world, here, iterates, answer),
-        None => call_slowly(world, here, iterates, called, function),
-    }
-}
-
-/// Calls it where it may change the world, or take memory.
-#[inline(never)]
-fn call_slowly(
-    world: &mut World,
-    here: Here,
-    iterates: bool,
-    called: &PrimitiveCall,
-    function: Function,
-) -> Result<Ending, AllocError>
-    ghost begun: { Begun }
-    requires called { IsCalled begun world.old here iterates called.now.number called.now.arguments }
-    requires row { (builds : Builds Body) → library builds called.now.number ≡ look_row (function_row function) }
-    ensures comes { IfOk result (λ ending. (builds : Builds Body) → BuildsSources builds → Comes (library builds) begun.before begun.fuel world.new (begun.fuel - 1) (ending_of ending)) }
-    ensures order { InOrder world.new }
-{
-    loading_is_safe();
-    match call_wholly(world, function, called.arguments.as_slice()) {
+    match call(world, function, called.arguments.as_slice()) {
         Ok(answer) => take_answer(world, here, iterates, answer),
         Err(_) => call_later(world, called),
     }

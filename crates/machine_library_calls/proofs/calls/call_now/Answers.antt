@@ -1,34 +1,52 @@
-use Rattle.std.proofs.Common.{Some, sym, subst}
-use Rattle.lib_base.specs.Answers.{Stands}
+use Rattle.std.proofs.Common.{◌≡◌, ◌-◌, sym, subst}
+use Rattle.std.specs.Prelude.{map}
+use Rattle.std.proofs.lemmas.Result.{IfOk-weaker}
+use Rattle.library_rows.specs.Look.{looked}
+use Rattle.lua_heap.specs.Reading.{value}
+use Rattle.lib_base.specs.Answers.{Changes, OnlyStrings, Stands, told}
 use Rattle.lib_base.specs.Functions.{function_row}
-use Rattle.lib_base.specs.QuickAnswers.{IsQuickAnswer}
-use Rattle.lib_base.proofs.Interning.{changes_nothing}
-use Rattle.machine_library_calls.proofs.Calling.{stands_there}
+use Rattle.lib_base.specs.Raw.{heap_of}
+use Rattle.loaded_code.specs.Laws.{library}
+use Rattle.machine_core.specs.Moves.{calls_primitive}
+use Rattle.machine_moves.specs.Ending.{ending_of}
+use Rattle.machine_library_calls.specs.Calls.{Comes}
+use Rattle.machine_library_calls.proofs.Calling.{moving_order, order_of_strings, refused_comes, stands_there}
 use Rattle.machine_library_calls.proofs.calls.call_now.Goals as goal
 
-pub quick_call-requires : goal.quick_call-requires
-quick_call-requires g c = subst (Stands c.args.world.now) (sym c.as_slice.ensures) (stands_there c.requires.0 c.loading_is_safe.ensures.safe)
+pub call-requires : goal.call-requires
+call-requires g c = subst (Stands c.args.world.now) (sym c.as_slice.ensures) (stands_there c.requires.0 c.loading_is_safe.ensures.safe)
 
-pub take_brief-requires : goal.take_brief-requires
-take_brief-requires g c =
+pub take_answer-requires : goal.take_answer-requires
+take_answer-requires g c =
     let R = c.args.world.now in
-    let vs = c.args.called.now.arguments in
+    let X = c.call.new.world in
     record {
       called = R;
       number = c.args.called.now.number;
-      arguments = vs;
+      arguments = c.args.called.now.arguments;
       row = function_row c.args.function;
       is_called = c.requires.0;
       is_row = c.requires.1;
-      changes = changes_nothing R vs (stands_there c.requires.0 c.loading_is_safe.ensures.safe);
-      answers = subst (λ vs. IsQuickAnswer (function_row c.args.function) vs R (Some c.in-Some.answer)) c.as_slice.ensures c.in-Some.ensures;
+      changes = subst (Changes R X) c.as_slice.ensures c.call.ensures.changes;
+      answers = subst (λ vs. looked (function_row c.args.function) (map (value R.strings) vs) (heap_of R) ≡ told X c.in-Ok.answer) c.as_slice.ensures c.in-Ok.ensures.answers;
     }
 
-pub call_slowly-requires : goal.call_slowly-requires
-call_slowly-requires g c = (c.requires.0, c.requires.1)
+pub returns-in-Ok-clause-comes : goal.returns-in-Ok-clause-comes
+returns-in-Ok-clause-comes g c = c.take_answer.ensures.comes
 
-pub returns-in-Some-clause-comes : goal.returns-in-Some-clause-comes
-returns-in-Some-clause-comes g c = c.take_brief.ensures.comes
+pub returns-in-Err-clause-comes : goal.returns-in-Err-clause-comes
+returns-in-Err-clause-comes g c =
+    let R = c.args.world.now in
+    let X = c.call.new.world in
+    let V = c.call_later.new.world in
+    let o = subst (OnlyStrings R X) c.as_slice.ensures c.in-Err.ensures.err in
+    IfOk-weaker c.call_later.result (λ ending. (ending_of ending ≡ calls_primitive c.args.called.now.number) × (V.moving.items ≡ c.args.called.now.arguments)) _
+    (λ ending q builds are. subst (λ e. Comes (library builds) g.begun.before g.begun.fuel V (g.begun.fuel - 1) e) (sym q.0) (refused_comes c.requires.0 c.loading_is_safe.ensures.safe X V o c.call_later.ensures.rest q.1 (library builds)))
+    c.call_later.ensures.later
 
-pub returns-in-None-clause-comes : goal.returns-in-None-clause-comes
-returns-in-None-clause-comes g c = c.call_slowly.ensures.comes
+pub returns-in-Err-clause-order : goal.returns-in-Err-clause-order
+returns-in-Err-clause-order g c =
+    let R = c.args.world.now in
+    let X = c.call.new.world in
+    let o = subst (OnlyStrings R X) c.as_slice.ensures c.in-Err.ensures.err in
+    moving_order X c.call_later.new.world c.call_later.ensures.rest (order_of_strings R X c.args.called.now.arguments o c.requires.0.order)
