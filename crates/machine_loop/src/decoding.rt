@@ -12,7 +12,8 @@ fn number_in(i: Instruction) -> u32
     i.0 & 0x7f
 }
 
-/// The opcode of an instruction. An arm for each number, so that no list of opcodes is read for it: what follows jumps by the number.
+/// The opcode of an instruction. An arm for each number that the field can hold, so that no list of opcodes is read for it, and no bound is tested: what follows
+/// jumps by the number.
 #[inline(always)]
 #[tactic(auto, unfolding(code_core::specs::Opcode::opcodes), using(crate::proofs::Decoded::numbered))]
 pub(crate) fn opcode_in(i: Instruction) -> Option<Opcode>
@@ -102,6 +103,51 @@ pub(crate) fn opcode_in(i: Instruction) -> Option<Opcode>
         80 => Some(Opcode::VarArg),
         81 => Some(Opcode::VarArgPrep),
         82 => Some(Opcode::ExtraArg),
+        83 => None,
+        84 => None,
+        85 => None,
+        86 => None,
+        87 => None,
+        88 => None,
+        89 => None,
+        90 => None,
+        91 => None,
+        92 => None,
+        93 => None,
+        94 => None,
+        95 => None,
+        96 => None,
+        97 => None,
+        98 => None,
+        99 => None,
+        100 => None,
+        101 => None,
+        102 => None,
+        103 => None,
+        104 => None,
+        105 => None,
+        106 => None,
+        107 => None,
+        108 => None,
+        109 => None,
+        110 => None,
+        111 => None,
+        112 => None,
+        113 => None,
+        114 => None,
+        115 => None,
+        116 => None,
+        117 => None,
+        118 => None,
+        119 => None,
+        120 => None,
+        121 => None,
+        122 => None,
+        123 => None,
+        124 => None,
+        125 => None,
+        126 => None,
+        127 => None,
         _ => i.opcode(),
     }
 }
