@@ -7,3 +7,4 @@ mod Handing
 mod CallForm
 mod TailForm
 mod MakeForm
+mod ConcatForm

@@ -2,4 +2,5 @@ pub mod Turns
 pub mod Calling
 pub mod TailCalling
 pub mod Making
+pub mod Concatenating
 pub mod Returning

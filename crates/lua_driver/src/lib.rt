@@ -3,6 +3,7 @@
 #![tactic(auto)]
 
 mod calling;
+mod concatenating;
 mod making;
 mod returning;
 mod running;

@@ -12,6 +12,7 @@ ghost use Rattle.lua_driver.specs.Returning.{AreTold, Returns, ReturnsFew};
 ghost use Rattle.lua_driver.specs.Turns.{GoesFurther};
 
 use crate::calling::{call_at, call_here};
+use crate::concatenating::{concat_at, concat_here};
 use crate::making::{make_at, make_here};
 use crate::tail_calling::{tail_call_at, tail_call_here};
 use code_core::Opcode;
@@ -82,6 +83,19 @@ fn return_or_step(world: &mut World, budget: &mut u64, here: Here) -> Allocated<
 {
     match count_returned(here) {
         Some(count) => return_few(world, budget, here, count),
+        None => concat_or_step(world, budget, here),
+    }
+}
+
+/// Does so where the word is no call and no return.
+fn concat_or_step(world: &mut World, budget: &mut u64, here: Here) -> Allocated<Ending>
+    requires ready { IsReady (length all_entries) go world.old }
+    requires here { IsHere world.old here }
+    ensures goes { IfOk result (λ next. AsRead (λ builds. GoesFurther (library builds) go world.old budget.old world.new budget.new (ending_of next))) }
+    ensures order { InOrder world.new }
+{
+    match concat_at(here) {
+        Some(at) => concat_here(world, budget, here, at),
         None => step_from(world, budget, here),
     }
 }
