@@ -98,12 +98,12 @@ refuses_first {old} row name plainly table function v taken e moved is =
     refuses row (wrong_type 1 name (codes "coroutine") (shape (value old.strings v))) (ap (λ v. row (shape v) 0) (sym first) ∙ wrong row name plainly table function old.strings v is)
 
 -- and what answers so
-pub first_refused : {E : Type 0} (old : Memory) {new : Memory} (r : Result KeptEnding E) (row : Shape → ℕ → Row) (name : List ℕ) (plainly : (p : Plain) → row (is_known p) 0 ≡ not_coroutine name (is_known p))
+pub first_refused : {E : Type 0} (old new : Memory) (r : Result KeptEnding E) (row : Shape → ℕ → Row) (name : List ℕ) (plainly : (p : Plain) → row (is_known p) 0 ≡ not_coroutine name (is_known p))
     (table : row (is_object a_table) 0 ≡ not_coroutine name (is_object a_table)) (function : row (is_object a_function) 0 ≡ not_coroutine name (is_object a_function)) (v : Kept) (taken : List Kept)
     → value old.strings v ≡ nth (map (value old.strings) taken) 0 → taken ≡ old.moving.items → coroutine_in v ≡ None
     → IfOk r (λ ending. (env : List Value) → Leads (blames (wrong_type 1 name (codes "coroutine") (shape (value old.strings v)))) env old new (ending_of ending))
     → IfOk r (λ ending. Leads (looks row) [] old new (ending_of ending))
-first_refused old r row name plainly table function v taken e moved is h = IfOk-weaker r _ _ (λ ending b. refuses_first row name plainly table function v taken e moved is b) h
+first_refused old new r row name plainly table function v taken e moved is h = IfOk-weaker r _ _ (λ ending b. refuses_first row name plainly table function v taken e moved is b) h
 
 -- how one stands
 

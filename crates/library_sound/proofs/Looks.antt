@@ -196,15 +196,15 @@ writes_sorted_ok slot i (p ∷ ps) h = ((tt, (tt, (h.0, tt))), λ _. writes_sort
 
 -- where a test holds of no primitive, all of which it holds are plain
 tested_none : (test : Shape → Bool) → ((n : ℕ) → test (is_known (primitive n)) ≡ false) → (ss : List Shape) → IsTrue (list_all test ss) → NoneIs (map plain_of ss)
-tested_none test no [] h = tt
-tested_none test no (s ∷ ss) h = let b = both_of (test s) (list_all test ss) h in (by s b.0, tested_none test no ss b.1)
+tested_none test never [] h = tt
+tested_none test never (s ∷ ss) h = let b = both_of (test s) (list_all test ss) h in (by s b.0, tested_none test never ss b.1)
   where
     by : (s : Shape) → IsTrue (test s) → IsNone (plain_of s)
     by (is_known nil) e = tt
     by (is_known (boolean b)) e = tt
     by (is_known (integer n)) e = tt
     by (is_known (string text)) e = tt
-    by (is_known (primitive n)) e = let f : false ≡ true = sym (no n) ∙ e in absurd (cc)
+    by (is_known (primitive n)) e = let f : false ≡ true = sym (never n) ∙ e in absurd (cc)
     by (is_object kind) e = tt
 
 sorts_shapes_ok : (ss : List Shape) → LookOk (Base.sorts_shapes ss)

@@ -9,4 +9,4 @@ close_coroutine-requires-clause-first c = first_is c.args.world.now.strings c.fi
 
 pub returns-in-None-clause-leads : goal.returns-in-None-clause-leads
 returns-in-None-clause-leads c =
-    first_refused c.args.world.now c.refuse.result closes_coroutine (codes "close") (λ p. refl) refl refl c.first_of-first.result c.deref.result.now (c.first_of-first.ensures c.args.world.now.strings) (search rules) (sym c.coroutine_of.ensures ∙ c.in-None.is) c.refuse.ensures.leads
+    first_refused c.args.world.now _ c.refuse.result closes_coroutine (codes "close") (λ p. refl) refl refl c.first_of-first.result c.deref.result.now (c.first_of-first.ensures c.args.world.now.strings) (search rules) (sym c.coroutine_of.ensures ∙ c.in-None.is) c.refuse.ensures.leads

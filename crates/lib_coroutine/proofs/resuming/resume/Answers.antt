@@ -11,7 +11,7 @@ resume_coroutine-requires-clause-first c = first_is c.args.world.now.strings c.f
 
 pub returns-in-None-clause-leads : goal.returns-in-None-clause-leads
 returns-in-None-clause-leads c =
-    first_refused c.args.world.now c.refuse.result resumes (codes "resume") (λ p. refl) refl refl c.first_of-first.result c.deref.result.now (c.first_of-first.ensures c.args.world.now.strings) (search rules) (sym c.coroutine_of.ensures ∙ c.in-None.is) c.refuse.ensures.leads
+    first_refused c.args.world.now _ c.refuse.result resumes (codes "resume") (λ p. refl) refl refl c.first_of-first.result c.deref.result.now (c.first_of-first.ensures c.args.world.now.strings) (search rules) (sym c.coroutine_of.ensures ∙ c.in-None.is) c.refuse.ensures.leads
 
 pub returns-in-None-clause-err : goal.returns-in-None-clause-err
 returns-in-None-clause-err c = on_err_weaker c.refuse.result same_reads c.refuse.ensures.err

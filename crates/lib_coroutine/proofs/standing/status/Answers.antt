@@ -9,4 +9,4 @@ answer_status-requires-clause-first c = first_is c.args.world.now.strings c.firs
 
 pub returns-in-None-clause-leads : goal.returns-in-None-clause-leads
 returns-in-None-clause-leads c =
-    first_refused c.args.world.now c.refuse.result sees_status (codes "status") (λ p. refl) refl refl c.first_of-first.result c.deref.result.now (c.first_of-first.ensures c.args.world.now.strings) (search rules) (sym c.coroutine_of.ensures ∙ c.in-None.is) c.refuse.ensures.leads
+    first_refused c.args.world.now _ c.refuse.result sees_status (codes "status") (λ p. refl) refl refl c.first_of-first.result c.deref.result.now (c.first_of-first.ensures c.args.world.now.strings) (search rules) (sym c.coroutine_of.ensures ∙ c.in-None.is) c.refuse.ensures.leads
