@@ -10,7 +10,7 @@ use Rattle.lua_stack.specs.declared.frame.Wait.TheVariants.{ForCall}
 use Rattle.lua_stack.specs.Frames.{Calls, KeptStack, OnTop, Replaces}
 use Rattle.lua_heap.specs.declared.codes.Codes.{Codes}
 use Rattle.lua_heap.specs.declared.world.Func.{Func}
-use Rattle.running_frame.specs.declared.spreading.Spread.{Spread}
+use Rattle.running_frame.specs.declared.spreading.SpreadCall.{SpreadCall}
 use Rattle.running_frame.specs.Calling.{HasShapeIn, HoldsCallee}
 use Rattle.running_frame.specs.Opening.{ReturnsList}
 use Rattle.running_frame.specs.Returning.{Crosses, IsInFront}
@@ -27,7 +27,7 @@ pub record ListEnds (s : KeptStack) (words : List Instruction) (pc end : ℕ) : 
   pub ends : end ≡ from + many
 
 -- the Lua function in a register of the frame on top, with the values behind it up to the end of the list
-pub record IsSpread (s : KeptStack) (funcs : List Func) (codes : Codes) (words : List Instruction) (pc : ℕ) (w : Instruction) (call : Spread) : Type 0 where
+pub record IsSpread (s : KeptStack) (funcs : List Func) (codes : Codes) (words : List Instruction) (pc : ℕ) (w : Instruction) (call : SpreadCall) : Type 0 where
   pub end : ℕ
   pub list : ListEnds s words pc end
   pub all : end ≡ a_of w + 1 + call.given
@@ -38,7 +38,7 @@ pub record IsSpread (s : KeptStack) (funcs : List Func) (codes : Codes) (words :
 
 -- it is entered with them
 pub record SpreadsOver (s u : KeptStack) (size : ℕ) (funcs : List Func) (codes : Codes) (words : List Instruction) (pc : ℕ) (w : Instruction) : Type 0 where
-  pub call : Spread
+  pub call : SpreadCall
   pub is : IsSpread s funcs codes words pc w call
   pub calls : Calls s u (a_of w) call.given ForCall size call.id call.shape
   pub room : length s.frames + 1 ≤ greatest_depth
@@ -52,7 +52,7 @@ pub record SpreadsIn (s u : KeptStack) (size : ℕ) (funcs : List Func) (codes :
 
 -- it takes the place of the frame on top, in which nothing is open or to be closed
 pub record ReplacesOver (s u : KeptStack) (funcs : List Func) (codes : Codes) (words : List Instruction) (pc : ℕ) (w : Instruction) : Type 0 where
-  pub call : Spread
+  pub call : SpreadCall
   pub is : IsSpread s funcs codes words pc w call
   pub closed : IsClosedFrom s 0
   pub replaces : Replaces s u (a_of w) call.given call.id call.shape

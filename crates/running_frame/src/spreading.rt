@@ -19,7 +19,7 @@ use table_core::FuncId;
 
 /// A Lua function that is called, and how many values it gets: those behind its register up to the end of the open list.
 #[derive(Clone, Copy)]
-pub(crate) struct Spread {
+pub(crate) struct SpreadCall {
     given: usize,
     id: FuncId,
     shape: Shape,
@@ -197,7 +197,7 @@ fn spread_callee(
     words: &[Instruction],
     pc: usize,
     i: Instruction,
-) -> Option<Spread>
+) -> Option<SpreadCall>
     requires top { HasLuaTop stack.now }
     requires codes { HaveCode funcs.now.objects codes.now }
     ensures { IfSome result (λ call. IsSpread stack.now funcs.now.objects codes.now words.now pc i call) }
@@ -207,7 +207,7 @@ fn spread_callee(
     let given = end.checked_sub(register + 1)?;
     let id = callee(stack.registers(), register, given)?;
     let shape = shape_of(funcs, codes, id)?;
-    Some(Spread { given, id, shape })
+    Some(SpreadCall { given, id, shape })
 }
 
 /// Behind which register the open list ends that the instruction in front of a place leaves.
