@@ -9,7 +9,7 @@ use Rattle.code_core.specs.declared.instruction.Instruction.{Instruction}
 use Rattle.code_core.specs.declared.opcode.Opcode.{Opcode}
 use Rattle.code_core.specs.declared.opcode.Opcode.TheVariants.{Call, TailCall, VarArg}
 use Rattle.int_core.specs.Limits.{greatest_depth}
-use Rattle.int_core.specs.Value.{a_function, nth, object, range}
+use Rattle.int_core.specs.Value.{Value, a_function, nth, object, range}
 use Rattle.machine_core.specs.World.{Function, Cell as PlainCell, for_call, Activation, LuaFrame, Frame, lua, close_from}
 use Rattle.machine_core.specs.Text.{Own, Text, call, cut_from, drop_pending, fits, is_there, list_end, list_values, own, read, read_list, read_register, tail_call}
 use Rattle.machine_core.specs.FrameRows.{expand}
