@@ -110,9 +110,9 @@ fn run_on_top(
     here_at(closure.words, pc, true)
 }
 
-/// Runs it from the place `start` on, and tells where it stops. The loop over instructions has the frame's own registers alone, follows handlers from tables to
-/// tables and closes nothing, so what stands in a register of a frame below, and what other handlers lead to, is read between two rounds of it, and a CLOSE is
-/// passed there. Nothing that is done here changes a frame below, so values that stand there are remembered.
+/// Runs it from the place `start` on, where the loop over instructions stopped before, and tells where it stops. That loop has the frame's own registers alone,
+/// follows handlers from tables to tables and closes nothing, so what stands in a register of a frame below, and what other handlers lead to, is read between
+/// two rounds of it, and a CLOSE is passed there. Nothing that is done here changes a frame below, so values that stand there are remembered.
 fn run_rounds(
     stack: &mut Stack,
     closure: Closure,
@@ -143,7 +143,6 @@ fn run_rounds(
         third: None,
     };
     for _ in 0..u64::MAX {
-        let at = run_round(stack, closure, strings, tables, cells, budget, &memo, pc);
         let Some(next) = go_between(
             stack,
             closure,
@@ -155,11 +154,14 @@ fn run_rounds(
             closed,
             &mut memo,
             again,
-            at,
+            pc,
         ) else {
-            return at;
+            return pc;
         };
-        pc = next;
+        let at = run_round(
+            stack, closure, strings, tables, cells, budget, &memo, next,
+        );
+        pc = at;
         again = true;
     }
     pc
