@@ -158,9 +158,7 @@ fn run_rounds(
         ) else {
             return pc;
         };
-        let at = run_round(
-            stack, closure, strings, tables, cells, budget, &memo, next,
-        );
+        let at = run_round(stack, closure, strings, tables, cells, budget, &memo, next);
         pc = at;
         again = true;
     }
