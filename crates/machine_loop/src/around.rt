@@ -5,9 +5,9 @@ ghost use Rattle.machine_arms_tables.specs.Frame.{code};
 ghost use Rattle.machine_loop.specs.Around.{GoesAround, ReadsAbove};
 ghost use Rattle.machine_view.specs.Law.{HasInstruction};
 
-use crate::decoding::opcode_in;
+use crate::decoding::{number_in, opcode_in};
 use crate::memo::{Memo, read_known};
-use code_core::{Opcode, fetch};
+use code_core::{Instruction, Opcode, fetch};
 use lua_heap::{Cell, Strings};
 use machine_arms_tables::{Closure, read_inherited};
 use object_pool::Pool;
@@ -30,8 +30,37 @@ pub(crate) fn go_around(
 {
     match read_known(closure, registers, memo, pc) {
         Some(to) => Some(to),
-        None => read_above(closure, strings, tables, cells, registers, pc),
+        None => read_beyond(closure, strings, tables, cells, registers, pc),
     }
+}
+
+/// Reads a field that handlers lead to, where the number of the opcode may be that of a read: at all other instructions, as a CALL, the loop is left without
+/// another look at the opcode.
+#[inline(always)]
+fn read_beyond(
+    closure: Closure,
+    strings: &Strings,
+    tables: &Pool<Table>,
+    cells: &Pool<Cell>,
+    registers: &mut [Value],
+    pc: usize,
+) -> Option<usize>
+    requires { HasInstruction closure.words.now closure.constants.now registers.old pc }
+    ensures reads { IfSome result (λ to. ReadsAbove (code closure.entry strings.now) tables.now.objects cells.now.objects registers.old registers.new pc to) }
+    ensures kept { IfNone result (registers.new ≡ registers.old) }
+{
+    let i = fetch(closure.words, pc);
+    if !may_read(i) {
+        return None;
+    }
+    read_above(closure, strings, tables, cells, registers, pc)
+}
+
+/// Whether an opcode's number is from that of GETTABUP to that of SELF, among which are all that read a field.
+#[inline(always)]
+fn may_read(i: Instruction) -> bool {
+    let number = number_in(i);
+    11 <= number && number <= 20
 }
 
 /// Reads a field that handlers lead to.

@@ -6,7 +6,7 @@ use code_core::{Instruction, Opcode};
 
 /// The number in an instruction's field for the opcode.
 #[inline(always)]
-fn number_in(i: Instruction) -> u32
+pub(crate) fn number_in(i: Instruction) -> u32
     ensures { result ≡ bits_from 0 7 i }
 {
     i.0 & 0x7f

@@ -12,13 +12,13 @@ pub returns-in-Some-clause-goes : goal.returns-in-Some-clause-goes
 returns-in-Some-clause-goes c =
     inl (subst (λ o. IfSome o (λ to. ReadsKnown c.args.closure.words.now c.args.memo.now c.args.registers.now c.read_known.new.registers c.args.pc to)) c.in-Some.is c.read_known.ensures.reads)
 
-pub read_above-requires : goal.read_above-requires
-read_above-requires c = subst (λ r. HasInstruction c.args.closure.words.now c.args.closure.constants.now r c.args.pc) (sym c.in-None.ensures.kept) c.requires
+pub read_beyond-requires : goal.read_beyond-requires
+read_beyond-requires c = subst (λ r. HasInstruction c.args.closure.words.now c.args.closure.constants.now r c.args.pc) (sym c.in-None.ensures.kept) c.requires
 
 pub returns-in-None-clause-goes : goal.returns-in-None-clause-goes
 returns-in-None-clause-goes c =
-    IfSome_then c.read_above.result c.read_above.ensures.reads
-    (λ to x. inr (subst (λ r. ReadsAbove (code c.args.closure c.args.strings.now) c.args.tables.now.objects c.args.cells.now.objects r c.read_above.new.registers c.args.pc to) c.in-None.ensures.kept x))
+    IfSome_then c.read_beyond.result c.read_beyond.ensures.reads
+    (λ to x. inr (subst (λ r. ReadsAbove (code c.args.closure c.args.strings.now) c.args.tables.now.objects c.args.cells.now.objects r c.read_beyond.new.registers c.args.pc to) c.in-None.ensures.kept x))
 
 pub returns-in-None-clause-kept : goal.returns-in-None-clause-kept
-returns-in-None-clause-kept c = none_then c.read_above.result (λ same. same ∙ c.in-None.ensures.kept) c.read_above.ensures.kept
+returns-in-None-clause-kept c = none_then c.read_beyond.result (λ same. same ∙ c.in-None.ensures.kept) c.read_beyond.ensures.kept
