@@ -29,6 +29,11 @@ count_of (Some Return0) b = Some 0
 count_of (Some Return1) b = Some 1
 count_of _ b = None
 
+-- how many values a RETURN returns, where it says so
+abbrev pub said_of : Option Opcode → (b : ℕ) → Option ℕ
+said_of (Some Return) b = one_less b
+said_of _ b = None
+
 -- the first two of some values, nil where there are fewer, by each reading of the values
 abbrev pub AreFirst : (values : (Kept → Value) → List Value) → Given → Type 0
 AreFirst values g = (f : Kept → Value) → f Nil ≡ known nil → range 0 2 (values f) ≡ f g.first ∷ f g.second ∷ []

@@ -1,16 +1,17 @@
 // Calls of Lua functions and returns from them, which most frames stop at (OP_CALL, OP_RETURN, OP_RETURN0 and OP_RETURN1 of lvm.c).
 ghost use Rattle.std.specs.Prelude.{◌≡◌, IfNone, IfSome};
+ghost use Rattle.code_core.specs.Instruction.{b_of, opcode_of};
 ghost use Rattle.lua_stack.specs.Frames.{HasLuaTop};
 ghost use Rattle.machine_arms_tables.specs.Frame.{AreOpenAlike, code};
 ghost use Rattle.machine_focus.specs.Focus.{Reaches};
 ghost use Rattle.machine_loop.specs.Running.{Running};
 ghost use Rattle.running_frame.specs.Calling.{AreFunctions, CallsIn, HaveCode};
-ghost use Rattle.running_frame.specs.Returning.{CallsOrReturns, ReturnsIn};
-ghost use Rattle.running_frame.specs.Standing.{MayRun, RunsAt, standing};
+ghost use Rattle.running_frame.specs.Returning.{CallsOrReturns, ReturnsIn, said_of};
+ghost use Rattle.running_frame.specs.Standing.{IsClosedFrom, MayRun, RunsAt, standing};
 
-use crate::calling::{call_function, is_call};
+use crate::calling::{call_function, is_call, one_less};
 use crate::place::is_none;
-use crate::returning::return_values;
+use crate::returning::{return_counted, return_values};
 use crate::stack::{closed_from, run_round};
 use code_core::{Instruction, Opcode, fetch};
 use lua_heap::{Cell, Codes, Func, Strings};
@@ -142,7 +143,63 @@ fn return_at(stack: &mut Stack, funcs: &Pool<Func>, codes: &Codes, i: Instructio
         return None;
     }
     let closed = closed_from(stack);
-    return_values(stack, funcs, codes, i, closed)
+    return_from(stack, funcs, codes, i, closed)
+}
+
+/// A return from a frame of which nothing is open or to be closed from the register `closed` on.
+#[inline(always)]
+fn return_from(
+    stack: &mut Stack,
+    funcs: &Pool<Func>,
+    codes: &Codes,
+    i: Instruction,
+    closed: Option<usize>,
+) -> Option<()>
+    requires top { HasLuaTop stack.old }
+    requires closed { IfSome closed (λ register. IsClosedFrom stack.old register) }
+    requires codes { HaveCode funcs.now.objects codes.now }
+    ensures returns { IfSome result (λ _. ReturnsIn stack.old stack.new funcs.now.objects codes.now i) }
+    ensures kept { IfNone result (stack.new ≡ stack.old) }
+    ensures listed { stack.new.open_cells ≡ stack.old.open_cells }
+{
+    match return_one(stack, funcs, codes, i, closed) {
+        Some(()) => Some(()),
+        None => return_values(stack, funcs, codes, i, closed),
+    }
+}
+
+/// A RETURN of one value: a path of its own, in which the second value is known to be nil.
+#[inline(always)]
+fn return_one(
+    stack: &mut Stack,
+    funcs: &Pool<Func>,
+    codes: &Codes,
+    i: Instruction,
+    closed: Option<usize>,
+) -> Option<()>
+    requires top { HasLuaTop stack.old }
+    requires closed { IfSome closed (λ register. IsClosedFrom stack.old register) }
+    requires codes { HaveCode funcs.now.objects codes.now }
+    ensures returns { IfSome result (λ _. ReturnsIn stack.old stack.new funcs.now.objects codes.now i) }
+    ensures kept { IfNone result (stack.new ≡ stack.old) }
+    ensures listed { stack.new.open_cells ≡ stack.old.open_cells }
+{
+    let count = count_said(i)?;
+    if count == 1 {
+        return return_counted(stack, funcs, codes, i, 1, closed);
+    }
+    None
+}
+
+/// How many values a RETURN returns, where it says so. The compiler writes no other opcode for returns.
+#[inline(always)]
+fn count_said(i: Instruction) -> Option<usize>
+    ensures { result ≡ said_of (opcode_of i) (b_of i) }
+{
+    match i.opcode() {
+        Some(Opcode::Return) => one_less(i.b()),
+        _ => None,
+    }
 }
 
 /// Whether it is a return.

@@ -50,6 +50,27 @@ pub(crate) fn return_values(
     ensures listed { stack.new.open_cells ≡ stack.old.open_cells }
 {
     let count = count_returned(i)?;
+    return_counted(stack, funcs, codes, i, count, closed)
+}
+
+/// The return of so many values.
+#[inline(always)]
+pub(crate) fn return_counted(
+    stack: &mut Stack,
+    funcs: &Pool<Func>,
+    codes: &Codes,
+    i: Instruction,
+    count: usize,
+    closed: Option<usize>,
+) -> Option<()>
+    requires top { HasLuaTop stack.old }
+    requires says { count_of (opcode_of i) (b_of i) ≡ Some count }
+    requires closed { IfSome closed (λ register. IsClosedFrom stack.old register) }
+    requires codes { HaveCode funcs.now.objects codes.now }
+    ensures returns { IfSome result (λ _. ReturnsIn stack.old stack.new funcs.now.objects codes.now i) }
+    ensures kept { IfNone result (stack.new ≡ stack.old) }
+    ensures listed { stack.new.open_cells ≡ stack.old.open_cells }
+{
     if !is_first(closed) {
         return None;
     }
@@ -168,6 +189,23 @@ fn wanted(words: &[Instruction], pc: usize, i: Instruction, wait: Wait, to: usiz
 {
     match wait {
         Wait::ForCall => wanted_by_call(i, to),
+        _ => wanted_otherwise(words, pc, i, wait, to),
+    }
+}
+
+/// What it wants where the frame waits for no call. Out of line, since most frames wait for one.
+#[inline(never)]
+fn wanted_otherwise(
+    words: &[Instruction],
+    pc: usize,
+    i: Instruction,
+    wait: Wait,
+    to: usize,
+) -> Option<Taker>
+    requires { pc < length words.now }
+    ensures { IfSome result (λ t. Wants words.now pc i t wait × (t.to ≡ to)) }
+{
+    match wait {
         Wait::ForIterator => wanted_by_iterator(i, to),
         Wait::ForValue => wanted_by_handler(words, pc, i, to),
         Wait::Dropped => wanted_by_store(i, to),

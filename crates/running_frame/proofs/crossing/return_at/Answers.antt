@@ -5,20 +5,20 @@ use Rattle.running_frame.specs.Returning.{ReturnsIn}
 use Rattle.running_frame.proofs.Takers.{none_then}
 use Rattle.running_frame.proofs.crossing.return_at.Goals as goal
 
-pub return_values-requires-clause-top : goal.return_values-requires-clause-top
-return_values-requires-clause-top c = subst HasLuaTop (sym c.closed_from-closed.ensures.kept) c.requires.top
+pub return_from-requires-clause-top : goal.return_from-requires-clause-top
+return_from-requires-clause-top c = subst HasLuaTop (sym c.closed_from-closed.ensures.kept) c.requires.top
 
-pub return_values-requires-clause-closed : goal.return_values-requires-clause-closed
-return_values-requires-clause-closed c = c.closed_from-closed.ensures.closed
+pub return_from-requires-clause-closed : goal.return_from-requires-clause-closed
+return_from-requires-clause-closed c = c.closed_from-closed.ensures.closed
 
 pub returns-clause-returns : goal.returns-clause-returns
 returns-clause-returns c =
-    IfSome_then c.return_values.result c.return_values.ensures.returns
-    (λ o x. subst (λ (s : KeptStack). ReturnsIn s c.return_values.new.stack c.args.funcs.now.objects c.args.codes.now c.args.i) c.closed_from-closed.ensures.kept x)
+    IfSome_then c.return_from.result c.return_from.ensures.returns
+    (λ o x. subst (λ (s : KeptStack). ReturnsIn s c.return_from.new.stack c.args.funcs.now.objects c.args.codes.now c.args.i) c.closed_from-closed.ensures.kept x)
 
 pub returns-clause-kept : goal.returns-clause-kept
 returns-clause-kept c =
-    none_then c.return_values.result (λ (e : c.return_values.new.stack ≡ c.closed_from-closed.new.stack). e ∙ c.closed_from-closed.ensures.kept) c.return_values.ensures.kept
+    none_then c.return_from.result (λ (e : c.return_from.new.stack ≡ c.closed_from-closed.new.stack). e ∙ c.closed_from-closed.ensures.kept) c.return_from.ensures.kept
 
 pub returns-clause-listed : goal.returns-clause-listed
-returns-clause-listed c = c.return_values.ensures.listed ∙ ap (λ (s : KeptStack). s.open_cells) c.closed_from-closed.ensures.kept
+returns-clause-listed c = c.return_from.ensures.listed ∙ ap (λ (s : KeptStack). s.open_cells) c.closed_from-closed.ensures.kept
