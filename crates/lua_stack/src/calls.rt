@@ -79,11 +79,12 @@ impl Stack {
         ensures frames { OnOk result (Calls self.old self.new register given wait stack function shape) }
         ensures err { OnErr result (self.new ≡ self.old) }
     {
-        let top = self.top;
-        let place = place_of(top.window, register, self.values.len()) + 1;
+        let place = place_of(self.top.window, register, self.values.len()) + 1;
         let end = end_of(end_of(place, given)?, shape.stack)?;
         self.below.reserve(1)?;
         grow(&mut self.values, end)?;
+        // Here, so that nothing of it is kept over the calls before.
+        let top = self.top;
         let marked = keep_below(
             &mut self.pending,
             top.window.marks,

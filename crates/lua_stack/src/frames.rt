@@ -62,10 +62,11 @@ impl Stack {
             self.top.kind = Kind::Missing;
             return;
         };
+        // First, so that the record is copied from where it stood.
+        self.top = whole(record);
         let window = record.window;
         let from = place_of(window, window.kept, self.values.len());
         clear(&mut self.values, from, window.size - window.kept);
-        self.top = whole(record);
     }
 
     /// The function of a frame, and where it is in its code, if it is a Lua frame.
