@@ -61,8 +61,10 @@ impl Stack {
         self.call_in_place(register, given, wait, stack, function, shape)
     }
 
-    /// The callee's first registers are the arguments where they stand.
-    fn call_in_place(
+    /// Calls a function with the values behind a register, where no cell of the frame on top is open at that register or above: the callee's first registers are
+    /// the arguments where they stand. The frame on top waits and keeps what it keeps in `call`.
+    #[inline]
+    pub fn call_in_place(
         &mut self,
         register: usize,
         given: usize,

@@ -40,7 +40,7 @@ pub(crate) fn call_function(
     Some(())
 }
 
-/// Enters it.
+/// Enters it, where no cell is open at a register that the frame gives up.
 #[inline(always)]
 fn enter(
     stack: &mut Stack,
@@ -64,10 +64,10 @@ fn enter(
     let given = one_less(i.b())?;
     let id = callee(stack.registers(), register, given)?;
     let shape = shape_of(funcs, codes, id)?;
-    if !may_give_up(stack, register, size, size, closed) {
+    if !may_give_up(stack, register, size, register, closed) {
         return None;
     }
-    match stack.call(register, given, Wait::ForCall, size, id, shape) {
+    match stack.call_in_place(register, given, Wait::ForCall, size, id, shape) {
         Ok(()) => Some(()),
         Err(_) => None,
     }

@@ -6,8 +6,8 @@ use Rattle.running_frame.specs.Calling.{HoldsCallee, one_less}
 use Rattle.running_frame.proofs.Calls.{less_is}
 use Rattle.running_frame.proofs.calling.enter.Goals as goal
 
-pub call-requires : goal.call-requires
-call-requires c =
+pub call_in_place-requires : goal.call_in_place-requires
+call_in_place-requires c =
     let h = c.requires.top in
     let many = ap length (sym (c.registers.ensures h.value h.below h.top h.is)) ∙ length-map c.registers.result.now h.value in
     let room = c.in_ok-id.ensures.room in
@@ -16,7 +16,7 @@ call-requires c =
       arguments = record { value = h.value; below = h.below; top = h.top; is = h.is; room = omega (arith, many, room) };
       size = c.may_give_up.ensures.there yes;
       within = c.may_give_up.ensures.within yes;
-      closed = c.may_give_up.ensures.closed yes;
+      free = c.may_give_up.ensures.closed yes;
       params = c.in_ok-shape.ensures.params;
     }
 
