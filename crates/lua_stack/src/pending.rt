@@ -1,7 +1,7 @@
 // The pending registers of the Lua frame on top: those of its variables that are still to be closed.
-ghost use Rattle.std.specs.Prelude.{◌≡◌, ◌+◌, ◌<◌, ◌≤◌, [], ◌∷◌, ◌++◌, None, Some, drop, filter, length, nat_lt, slice_get, suc, take, flat_map, IfNone, IfOk, IfSome, OnErr, OnOk};
+ghost use Rattle.std.specs.Prelude.{◌≡◌, ◌+◌, ◌<◌, ◌≤◌, [], ◌∷◌, ◌++◌, None, Some, drop, filter, length, nat_lt, slice_get, suc, take, true, flat_map, IfNone, IfOk, IfSome, OnErr, OnOk};
 ghost use Rattle.machine_core.specs.Text.{last_pending, without_pending};
-ghost use Rattle.lua_stack.specs.Frames.{ArePending, HasLuaTop, HasRegisters, OnTop, TopBecomes, with_pending};
+ghost use Rattle.lua_stack.specs.Frames.{ArePending, HasLuaTop, HasRegisters, NoneFrom, OnTop, TopBecomes, with_pending};
 ghost use Rattle.lua_stack.specs.View.{AreStacked, IsLastFrom, kept_at, marked_values, part, registers_at};
 
 use crate::closing::{frame_in, is_lua};
@@ -22,6 +22,22 @@ impl Stack {
         put_mark(&mut self.pending, end, register)?;
         self.top.window.marked += 1;
         Ok(())
+    }
+
+    /// Whether no cell is open in the whole stack and nothing of the frame on top is to be closed, as it is most often.
+    #[inline]
+    pub fn is_bare(&self) -> bool
+        ensures cells { result ≡ true → NoneFrom self.now 0 }
+        ensures pending { result ≡ true → OnTop self.now (λ f t. last_pending 0 t.own.pending ≡ None) }
+    {
+        let count = self.open_cells.len();
+        if count > 0 {
+            return false;
+        }
+        if self.top.window.marked > 0 {
+            return false;
+        }
+        true
     }
 
     /// The last pending register from one on.

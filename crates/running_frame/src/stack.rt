@@ -297,6 +297,9 @@ pub(crate) fn closed_from(stack: &mut Stack) -> Option<usize>
     ensures kept { stack.new ≡ stack.old }
     ensures closed { IfSome result (λ register. IsClosedFrom stack.new register) }
 {
+    if stack.is_bare() {
+        return Some(0);
+    }
     let register = above_last(stack.open_cells(), stack.len() - 1)?;
     match stack.take_cell_from(register) {
         // Open cells stand in the order of their frames and registers.
