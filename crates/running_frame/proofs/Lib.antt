@@ -24,3 +24,4 @@ mod ListReturned
 mod SpreadCalls
 mod Apart
 mod Taken
+mod Crossed

@@ -13,3 +13,4 @@ pub mod Returning
 pub mod Opening
 pub mod Spreading
 pub mod Asking
+pub mod Crossing

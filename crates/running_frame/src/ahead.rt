@@ -8,10 +8,11 @@ ghost use Rattle.machine_loop.specs.Running.{Running};
 ghost use Rattle.machine_sound.specs.Laws.{PrimitivesSafe};
 ghost use Rattle.move_laws.specs.Memory.{InOrder};
 ghost use Rattle.step_laws.specs.Steps.{IsReady};
+ghost use Rattle.running_frame.specs.Crossing.{Ground, Grounds};
 ghost use Rattle.running_frame.specs.Here.{IsHere};
 ghost use Rattle.running_frame.specs.Standing.{IsApart};
 
-use crate::crossing::cross_frame;
+use crate::crossing::cross_stack;
 use crate::frames::run_frame_on_top;
 use crate::place::{Here, find_here};
 use crate::taking::is_taken;
@@ -57,6 +58,7 @@ fn run_frames(world: &mut World, budget: &mut u64) -> Here
 }
 
 /// Goes from frame to frame, in a world in which nothing moves, as long as each stops at a call or a return that takes no more than the stack.
+#[inline(always)]
 fn cross_frames(world: &mut World, budget: &mut u64)
     ghost rows: { ℕ → Row }
     requires safe { PrimitivesSafe (length all_entries) rows }
@@ -66,65 +68,29 @@ fn cross_frames(world: &mut World, budget: &mut u64)
     ensures ready { IsReady (length all_entries) go world.new }
     ensures still { world.new.moving.items ≡ [] }
 {
-    for _ in 0..u64::MAX {
-        let crossed = cross_over(world, budget);
-        if !crossed {
-            return;
-        }
-    }
+    cross_running(world, budget)
 }
 
-/// Runs the frame on top as far as it needs nothing but its own registers, and does the call or the return that stands there: another frame is on top then. `false`
-/// where it waits, or something else stands there.
+/// Does so over the stack that runs, which is found once for all of them.
 #[inline(always)]
-fn cross_over(world: &mut World, budget: &mut u64) -> bool
-    ghost rows: { ℕ → Row }
-    requires safe { PrimitivesSafe (length all_entries) rows }
-    requires ready { IsReady (length all_entries) go world.old }
-    requires still { world.old.moving.items ≡ [] }
-    ensures reaches { Reaches rows (plain world.old budget.old) (plain world.new budget.new) }
+fn cross_running(world: &mut World, budget: &mut u64)
+    ghost ground: { Ground }
+    requires { Grounds ground world.old }
+    ensures reaches { Reaches ground.rows (plain world.old budget.old) (plain world.new budget.new) }
     ensures ready { IsReady (length all_entries) go world.new }
-    ensures still { world.new.moving.items ≡ [] }
-{
-    match cross_top(world, budget) {
-        Some(()) => true,
-        None => false,
-    }
-}
-
-/// Does so, held apart from that world.
-#[inline(always)]
-fn cross_top(world: &mut World, budget: &mut u64) -> Option<()>
-    ghost g: { Running }
-    requires { IsApart g world.old }
-    ensures reaches { Reaches g.around.rows (plain world.old budget.old) (plain world.new budget.new) }
-    ensures order { InOrder world.new }
     ensures still { world.new.moving ≡ world.old.moving }
 {
-    checked_code_is_there();
-    world.strings.len();
     let co = running(world);
     match world.coros.get_mut(co.0) {
-        Coro::Running(stack) => {
-            let function = world.funcs.get(stack.function().0);
-            let code = world.codes.get(function.code);
-            let closure = Closure {
-                words: &code.words,
-                constants: &code.constants,
-                upvalues: &function.cells,
-            };
-            cross_frame(
-                stack,
-                closure,
-                code.stack as usize,
-                &world.strings,
-                &world.funcs,
-                &world.codes,
-                &mut world.tables,
-                &mut world.cells,
-                budget,
-            )
-        }
+        Coro::Running(stack) => cross_stack(
+            stack,
+            &world.strings,
+            &world.funcs,
+            &world.codes,
+            &mut world.tables,
+            &mut world.cells,
+            budget,
+        ),
         _ => unreachable!(),
     }
 }

@@ -1,11 +1,13 @@
 // Calls of Lua functions and returns from them, which most frames stop at (OP_CALL, OP_RETURN, OP_RETURN0 and OP_RETURN1 of lvm.c).
 ghost use Rattle.std.specs.Prelude.{◌≡◌, IfNone, IfSome};
 ghost use Rattle.code_core.specs.Instruction.{b_of, opcode_of};
+ghost use Rattle.lua_heap.specs.Plain.{plain};
 ghost use Rattle.lua_stack.specs.Frames.{HasLuaTop};
 ghost use Rattle.machine_arms_tables.specs.Frame.{AreOpenAlike, code};
 ghost use Rattle.machine_focus.specs.Focus.{Reaches};
 ghost use Rattle.machine_loop.specs.Running.{Running};
 ghost use Rattle.running_frame.specs.Calling.{AreFunctions, CallsIn, HaveCode};
+ghost use Rattle.running_frame.specs.Crossing.{Ground, MayCross, world_with};
 ghost use Rattle.running_frame.specs.Returning.{CallsOrReturns, ReturnsIn, said_of};
 ghost use Rattle.running_frame.specs.Standing.{IsClosedFrom, MayRun, RunsAt, standing};
 
@@ -14,6 +16,7 @@ use crate::place::is_none;
 use crate::returning::{return_counted, return_values};
 use crate::stack::{closed_from, run_round};
 use code_core::{Instruction, Opcode, fetch};
+use lua_heap::law::checked_code_is_there;
 use lua_heap::{Cell, Codes, Func, Strings};
 use lua_stack::Stack;
 use machine_arms_tables::Closure;
@@ -21,10 +24,75 @@ use machine_loop::Memo;
 use object_pool::Pool;
 use table_core::Table;
 
-/// Runs the frame on top as far as it needs nothing but its own registers, and does the call or the return that stands there. `None` where it waits, or something
-/// else stands there. `size` is the number of registers of its code.
+/// Goes from frame to frame of a stack, as long as each stops at a call or a return that takes no more than the stack.
 #[inline(always)]
-pub(crate) fn cross_frame(
+pub(crate) fn cross_stack(
+    stack: &mut Stack,
+    strings: &Strings,
+    funcs: &Pool<Func>,
+    codes: &Codes,
+    tables: &mut Pool<Table>,
+    cells: &mut Pool<Cell>,
+    budget: &mut u64,
+)
+    ghost ground: { Ground }
+    requires { MayCross ground (world_with ground stack.old strings.now funcs.now codes.now tables.old cells.old) stack.old }
+    ensures reaches { Reaches ground.rows (plain (world_with ground stack.old strings.now funcs.now codes.now tables.old cells.old) budget.old) (plain (world_with ground stack.new strings.now funcs.now codes.now tables.new cells.new) budget.new) }
+    ensures may { MayCross ground (world_with ground stack.new strings.now funcs.now codes.now tables.new cells.new) stack.new }
+{
+    for _ in 0..u64::MAX {
+        let crossed = cross_next(stack, strings, funcs, codes, tables, cells, budget);
+        if !crossed {
+            return;
+        }
+    }
+}
+
+/// Runs the frame on top as far as it needs nothing but its own registers, and does the call or the return that stands there: another frame is on top then. `false`
+/// where it waits, or something else stands there.
+#[inline(always)]
+fn cross_next(
+    stack: &mut Stack,
+    strings: &Strings,
+    funcs: &Pool<Func>,
+    codes: &Codes,
+    tables: &mut Pool<Table>,
+    cells: &mut Pool<Cell>,
+    budget: &mut u64,
+) -> bool
+    ghost ground: { Ground }
+    requires { MayCross ground (world_with ground stack.old strings.now funcs.now codes.now tables.old cells.old) stack.old }
+    ensures reaches { Reaches ground.rows (plain (world_with ground stack.old strings.now funcs.now codes.now tables.old cells.old) budget.old) (plain (world_with ground stack.new strings.now funcs.now codes.now tables.new cells.new) budget.new) }
+    ensures may { MayCross ground (world_with ground stack.new strings.now funcs.now codes.now tables.new cells.new) stack.new }
+{
+    checked_code_is_there();
+    strings.len();
+    let function = funcs.get(stack.function().0);
+    let code = codes.get(function.code);
+    let closure = Closure {
+        words: &code.words,
+        constants: &code.constants,
+        upvalues: &function.cells,
+    };
+    match cross_frame(
+        stack,
+        closure,
+        code.stack as usize,
+        strings,
+        funcs,
+        codes,
+        tables,
+        cells,
+        budget,
+    ) {
+        Some(()) => true,
+        None => false,
+    }
+}
+
+/// Does so over its function's code. `size` is the number of registers of that.
+#[inline(always)]
+fn cross_frame(
     stack: &mut Stack,
     closure: Closure,
     size: usize,

@@ -1,17 +1,4 @@
-use Rattle.std.proofs.Common.{◌≡◌, [], length}
-use Rattle.library_rows.specs.Library.{all_entries}
-use Rattle.lua_heap.specs.Plain.{plain}
-use Rattle.machine_core.specs.Moves.{go}
-use Rattle.machine_focus.specs.Focus.{Reaches}
-use Rattle.step_laws.specs.Steps.{IsReady}
 use Rattle.running_frame.proofs.ahead.cross_frames.Given as goal
 
-abbrev pub ghost-cross_over : goal.ghost-cross_over
-ghost-cross_over g a = g.rows
-
-abbrev pub invariant-loop : goal.invariant-loop
-invariant-loop g l = record {
-  reaches : Reaches g.rows (plain l.initial.world l.initial.budget) (plain l.world l.budget);
-  ready : IsReady (length all_entries) go l.world;
-  still : l.world.moving.items ≡ [];
-}
+abbrev pub ghost-cross_running : goal.ghost-cross_running
+ghost-cross_running g a = record { rows = g.rows; world = a.world.now }
