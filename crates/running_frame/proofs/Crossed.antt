@@ -24,7 +24,7 @@ use Rattle.machine_arms_tables.specs.Frame.{AreOpenAlike}
 use Rattle.machine_loop.specs.Running.{Running}
 use Rattle.move_laws.specs.Memory.{ChangesStack, InOrder, Runs}
 use Rattle.move_laws.proofs.Order.{lists_same, order_after}
-use Rattle.move_laws.proofs.Running.{lua_top, of_top}
+use Rattle.move_laws.proofs.Running.{lua_top, of_top, shown}
 use Rattle.machine_moves.proofs.OfCode.{function_kept, function_there}
 use Rattle.machine_moves.proofs.OnTop.{kept_whole, runs_after}
 use Rattle.machine_moves.proofs.Stacks.{with_stack}
@@ -58,6 +58,12 @@ module _ (n : Ground) (texts : List (List ℕ)) (funcs : Pool Func) (codes : Cod
 
   pub top_there : HasLuaTop s
   top_there = lua_top now (runs_on n) s apart_so.place m.runs apart_so.is
+
+  pub own_so : (co : CoroId) → co ≡ runs_on n → co.0 ≡ g.around.context.coroutine
+  own_so co e =
+      ap (λ (c : CoroId). c.0) e
+      ∙ sym (shown now (runs_on n) s apart_so.place m.runs apart_so.is).coroutine
+      ∙ ap (λ (g : Running). g.around.context.coroutine) (sym apart_so.held)
 
   -- its function
 
@@ -122,6 +128,9 @@ module _ (n : Ground) (texts : List (List ℕ)) (funcs : Pool Func) (codes : Cod
 module _ (n : Ground) (W : Memory) (k : Grounds n W) (co : CoroId) (s : KeptStack) (r : Runs W co s) where
   same_co : runs_on n ≡ co
   same_co = ap (λ (W : Memory). one_or_any (last W.chain.items)) k.is ∙ ap one_or_any r.chain
+
+  pub own_co : co ≡ runs_on n
+  own_co = sym same_co
 
   with_own : (u : KeptStack) (ts : Pool Contents) (cs : Pool Cell) → world_with n u W.strings W.funcs W.codes ts cs ≡ with_stack (with_parts W ts cs) co u
   with_own u ts cs =

@@ -20,6 +20,7 @@ mod FilledOne
 mod Takers
 mod BelowTop
 mod Returned
+mod Left
 mod ListReturned
 mod SpreadCalls
 mod Apart

@@ -1,11 +1,13 @@
 -- The stack of the coroutine that runs, apart from the world in memory, while frame after frame of it runs.
-use Rattle.std.specs.Prelude.{◌≡◌, ℕ, List, [], Option, Some, None, length, slice_set}
+use Rattle.std.specs.Prelude.{◌≡◌, ◌⊎◌, ℕ, List, [], Option, Some, None, length, slice_get, slice_set}
+use Rattle.code_core.specs.declared.instruction.Instruction.{Instruction}
 use Rattle.int_core.specs.Value.{last}
 use Rattle.machine_core.specs.Moves.{go, Row}
 use Rattle.machine_sound.specs.Laws.{PrimitivesSafe}
 use Rattle.library_rows.specs.Library.{all_entries}
 use Rattle.object_pool.specs.Pool.{Pool}
 use Rattle.table_core.specs.Table.{Contents}
+use Rattle.table_core.specs.declared.value.CellId.{CellId}
 use Rattle.table_core.specs.declared.value.CoroId.{CoroId}
 use Rattle.lua_stack.specs.Frames.{KeptStack}
 use Rattle.lua_heap.specs.declared.codes.Codes.{Codes}
@@ -15,6 +17,14 @@ use Rattle.lua_heap.specs.declared.world.Func.{Func}
 use Rattle.lua_heap.specs.declared.world.World.{World as Memory}
 use Rattle.move_laws.specs.Memory.{Runs}
 use Rattle.step_laws.specs.Steps.{IsReady}
+use Rattle.running_frame.specs.Returning.{CallsOrReturns}
+use Rattle.running_frame.specs.Storing.{StoresOpen}
+
+-- the word at a place of the code is a CALL, a return, or a store to a variable of a frame below, and that is done
+pub record LeavesFrame (co : ℕ) (upvalues : List CellId) (words : List Instruction) (s u : KeptStack) (cells : List Cell) (size : ℕ) (funcs : List Func) (codes : Codes) (pc fuel left : ℕ) : Type 0 where
+  pub word : Instruction
+  pub at_pc : slice_get words pc ≡ Some word
+  pub leaves : CallsOrReturns s u size funcs codes word fuel left ⊎ (StoresOpen co upvalues words s u cells pc word × (left ≡ fuel))
 
 -- rows of the library, and the world in which the stack was found
 pub record Ground : Type 0 where

@@ -84,6 +84,7 @@ fn cross_running(world: &mut World, budget: &mut u64)
     match world.coros.get_mut(co.0) {
         Coro::Running(stack) => cross_stack(
             stack,
+            co,
             &world.strings,
             &world.funcs,
             &world.codes,

@@ -1,5 +1,5 @@
 // Calls of Lua functions and returns from them, which most frames stop at (OP_CALL, OP_RETURN, OP_RETURN0 and OP_RETURN1 of lvm.c).
-ghost use Rattle.std.specs.Prelude.{◌≡◌, IfNone, IfSome};
+ghost use Rattle.std.specs.Prelude.{◌≡◌, ◌<◌, IfNone, IfSome, length};
 ghost use Rattle.code_core.specs.Instruction.{b_of, opcode_of};
 ghost use Rattle.lua_heap.specs.Plain.{plain};
 ghost use Rattle.lua_stack.specs.Frames.{HasLuaTop};
@@ -7,27 +7,31 @@ ghost use Rattle.machine_arms_tables.specs.Frame.{AreOpenAlike, code};
 ghost use Rattle.machine_focus.specs.Focus.{Reaches};
 ghost use Rattle.machine_loop.specs.Running.{Running};
 ghost use Rattle.running_frame.specs.Calling.{AreFunctions, CallsIn, HaveCode};
-ghost use Rattle.running_frame.specs.Crossing.{Ground, MayCross, world_with};
+ghost use Rattle.running_frame.specs.Crossing.{Ground, LeavesFrame, MayCross, runs_on, world_with};
 ghost use Rattle.running_frame.specs.Returning.{CallsOrReturns, ReturnsIn, said_of};
 ghost use Rattle.running_frame.specs.Standing.{IsClosedFrom, MayRun, RunsAt, standing};
+ghost use Rattle.running_frame.specs.Upvalues.{ListsOpen};
 
 use crate::calling::{call_function, is_call, one_less};
-use crate::place::is_none;
+use crate::place::{here_at, is_none};
 use crate::returning::{return_counted, return_values};
 use crate::stack::{closed_from, run_round};
-use code_core::{Instruction, Opcode, fetch};
+use crate::storing::store_open;
+use crate::upvalues::read_open;
+use code_core::{Instruction, Opcode};
 use lua_heap::law::checked_code_is_there;
 use lua_heap::{Cell, Codes, Func, Strings};
 use lua_stack::Stack;
 use machine_arms_tables::Closure;
 use machine_loop::Memo;
 use object_pool::Pool;
-use table_core::Table;
+use table_core::{CellId, CoroId, Table};
 
 /// Goes from frame to frame of a stack, as long as each stops at a call or a return that takes no more than the stack.
 #[inline(always)]
 pub(crate) fn cross_stack(
     stack: &mut Stack,
+    co: CoroId,
     strings: &Strings,
     funcs: &Pool<Func>,
     codes: &Codes,
@@ -36,12 +40,13 @@ pub(crate) fn cross_stack(
     budget: &mut u64,
 )
     ghost ground: { Ground }
-    requires { MayCross ground (world_with ground stack.old strings.now funcs.now codes.now tables.old cells.old) stack.old }
+    requires may { MayCross ground (world_with ground stack.old strings.now funcs.now codes.now tables.old cells.old) stack.old }
+    requires own { co ≡ runs_on ground }
     ensures reaches { Reaches ground.rows (plain (world_with ground stack.old strings.now funcs.now codes.now tables.old cells.old) budget.old) (plain (world_with ground stack.new strings.now funcs.now codes.now tables.new cells.new) budget.new) }
     ensures may { MayCross ground (world_with ground stack.new strings.now funcs.now codes.now tables.new cells.new) stack.new }
 {
     for _ in 0..u64::MAX {
-        let crossed = cross_next(stack, strings, funcs, codes, tables, cells, budget);
+        let crossed = cross_next(stack, co, strings, funcs, codes, tables, cells, budget);
         if !crossed {
             return;
         }
@@ -53,6 +58,7 @@ pub(crate) fn cross_stack(
 #[inline(always)]
 fn cross_next(
     stack: &mut Stack,
+    co: CoroId,
     strings: &Strings,
     funcs: &Pool<Func>,
     codes: &Codes,
@@ -61,7 +67,8 @@ fn cross_next(
     budget: &mut u64,
 ) -> bool
     ghost ground: { Ground }
-    requires { MayCross ground (world_with ground stack.old strings.now funcs.now codes.now tables.old cells.old) stack.old }
+    requires may { MayCross ground (world_with ground stack.old strings.now funcs.now codes.now tables.old cells.old) stack.old }
+    requires own { co ≡ runs_on ground }
     ensures reaches { Reaches ground.rows (plain (world_with ground stack.old strings.now funcs.now codes.now tables.old cells.old) budget.old) (plain (world_with ground stack.new strings.now funcs.now codes.now tables.new cells.new) budget.new) }
     ensures may { MayCross ground (world_with ground stack.new strings.now funcs.now codes.now tables.new cells.new) stack.new }
 {
@@ -84,6 +91,7 @@ fn cross_next(
         tables,
         cells,
         budget,
+        co,
     ) {
         Some(()) => true,
         None => false,
@@ -102,11 +110,13 @@ fn cross_frame(
     tables: &mut Pool<Table>,
     cells: &mut Pool<Cell>,
     budget: &mut u64,
+    co: CoroId,
 ) -> Option<()>
     ghost g: { Running }
     requires may { MayRun g (code closure strings.now) stack.old tables.old.objects cells.old.objects budget.old }
     requires functions { AreFunctions g.around.context.base.functions funcs.now.objects codes.now }
     requires size { size ≡ g.around.context.closure.code.own.stack }
+    requires own { co.0 ≡ g.around.context.coroutine }
     ensures reaches { Reaches g.around.rows (standing g stack.old tables.old.objects cells.old.objects budget.old) (standing g stack.new tables.new.objects cells.new.objects budget.new) }
     ensures opened { AreOpenAlike cells.old.objects cells.new.objects }
     ensures listed { stack.new.open_cells ≡ stack.old.open_cells }
@@ -117,11 +127,12 @@ fn cross_frame(
         return None;
     }
     run_and_cross(
-        stack, closure, size, strings, funcs, codes, tables, cells, budget, start,
+        stack, closure, size, strings, funcs, codes, tables, cells, budget, co, start,
     )
 }
 
-/// Does so where it runs, from its place on.
+/// Does so where it runs, from its place on. One variable of a frame below is read on the way: a frame that reads more of them goes on where their values are
+/// remembered.
 #[inline(always)]
 fn run_and_cross(
     stack: &mut Stack,
@@ -133,12 +144,14 @@ fn run_and_cross(
     tables: &mut Pool<Table>,
     cells: &mut Pool<Cell>,
     budget: &mut u64,
+    co: CoroId,
     start: usize,
 ) -> Option<()>
     ghost g: { Running }
     requires runs { RunsAt g (code closure strings.now) stack.old tables.old.objects cells.old.objects budget.old start }
     requires functions { AreFunctions g.around.context.base.functions funcs.now.objects codes.now }
     requires size { size ≡ g.around.context.closure.code.own.stack }
+    requires own { co.0 ≡ g.around.context.coroutine }
     ensures reaches { Reaches g.around.rows (standing g stack.old tables.old.objects cells.old.objects budget.old) (standing g stack.new tables.new.objects cells.new.objects budget.new) }
     ensures opened { AreOpenAlike cells.old.objects cells.new.objects }
     ensures listed { stack.new.open_cells ≡ stack.old.open_cells }
@@ -148,9 +161,98 @@ fn run_and_cross(
         second: None,
         third: None,
     };
-    let pc = run_round(stack, closure, strings, tables, cells, budget, &memo, start);
-    let i = fetch(closure.words, pc);
-    cross_at(stack, size, funcs, codes, budget, i)
+    let at = run_round(stack, closure, strings, tables, cells, budget, &memo, start);
+    match read_open(stack, closure, cells, co, at) {
+        Some(to) => run_again(
+            stack, closure, size, strings, funcs, codes, tables, cells, budget, co, to,
+        ),
+        None => leave_frame(
+            stack,
+            closure.words,
+            closure.upvalues,
+            size,
+            funcs,
+            codes,
+            cells,
+            budget,
+            co,
+            at,
+        ),
+    }
+}
+
+/// Does so after that.
+#[inline(never)]
+fn run_again(
+    stack: &mut Stack,
+    closure: Closure,
+    size: usize,
+    strings: &Strings,
+    funcs: &Pool<Func>,
+    codes: &Codes,
+    tables: &mut Pool<Table>,
+    cells: &mut Pool<Cell>,
+    budget: &mut u64,
+    co: CoroId,
+    start: usize,
+) -> Option<()>
+    ghost g: { Running }
+    requires runs { RunsAt g (code closure strings.now) stack.old tables.old.objects cells.old.objects budget.old start }
+    requires functions { AreFunctions g.around.context.base.functions funcs.now.objects codes.now }
+    requires size { size ≡ g.around.context.closure.code.own.stack }
+    requires own { co.0 ≡ g.around.context.coroutine }
+    ensures reaches { Reaches g.around.rows (standing g stack.old tables.old.objects cells.old.objects budget.old) (standing g stack.new tables.new.objects cells.new.objects budget.new) }
+    ensures opened { AreOpenAlike cells.old.objects cells.new.objects }
+    ensures listed { stack.new.open_cells ≡ stack.old.open_cells }
+{
+    let memo = Memo {
+        first: None,
+        second: None,
+        third: None,
+    };
+    let at = run_round(stack, closure, strings, tables, cells, budget, &memo, start);
+    leave_frame(
+        stack,
+        closure.words,
+        closure.upvalues,
+        size,
+        funcs,
+        codes,
+        cells,
+        budget,
+        co,
+        at,
+    )
+}
+
+/// A CALL, a return or a store to a variable of a frame below, at which the frame on top stands. `None`, with all as before, at any other instruction, and where
+/// it takes more than the stack.
+#[inline(always)]
+fn leave_frame(
+    stack: &mut Stack,
+    words: &[Instruction],
+    upvalues: &[CellId],
+    size: usize,
+    funcs: &Pool<Func>,
+    codes: &Codes,
+    cells: &Pool<Cell>,
+    budget: &mut u64,
+    co: CoroId,
+    pc: usize,
+) -> Option<()>
+    requires top { HasLuaTop stack.old }
+    requires codes { HaveCode funcs.now.objects codes.now }
+    requires cells { ListsOpen co.0 stack.old cells.now.objects }
+    requires there { pc < length words.now }
+    ensures leaves { IfSome result (λ _. LeavesFrame co.0 upvalues.now words.now stack.old stack.new cells.now.objects size funcs.now.objects codes.now pc budget.old budget.new) }
+    ensures kept { IfNone result ((stack.new ≡ stack.old) × (budget.new ≡ budget.old)) }
+    ensures listed { stack.new.open_cells ≡ stack.old.open_cells }
+{
+    let here = here_at(words, pc, true);
+    match cross_at(stack, size, funcs, codes, budget, here.word) {
+        Some(()) => Some(()),
+        None => store_open(stack, words, upvalues, cells, co, here),
+    }
 }
 
 /// A CALL or a return at which the frame on top stands. `None`, with all as before, at any other instruction, and where it takes more than the stack.

@@ -4,7 +4,7 @@ use Rattle.move_laws.proofs.Running.{has_stack}
 use Rattle.machine_moves.proofs.InPlace.{found}
 use Rattle.machine_moves.proofs.Stacks.{within}
 use Rattle.step_laws.proofs.Ready.{go_has_frame}
-use Rattle.running_frame.proofs.Crossed.{begins_so, reaches_so, ready_so}
+use Rattle.running_frame.proofs.Crossed.{begins_so, own_co, reaches_so, ready_so}
 use Rattle.running_frame.proofs.ahead.cross_running.Goals as goal
 
 pub running-co-requires : goal.running-co-requires
@@ -18,7 +18,7 @@ get_mut-requires g c = within c.running-co.ensures
 pub cross_stack-requires : goal.cross_stack-requires
 cross_stack-requires g c =
     let r = found c.running-co.ensures c.get_mut.ensures.value c.in-Running.is in
-    begins_so g.ground c.args.world.now c.requires c.running-co.result c.in-Running.stack r
+    (begins_so g.ground c.args.world.now c.requires c.running-co.result c.in-Running.stack r, own_co g.ground c.args.world.now c.requires c.running-co.result c.in-Running.stack r)
 
 pub returns-clause-reaches : goal.returns-clause-reaches
 returns-clause-reaches g c =

@@ -1,31 +1,89 @@
-use Rattle.std.proofs.Common.{◌∙◌}
+use Rattle.std.proofs.Common.{◌≡◌, ap, sym, subst, ◌∙◌, rules}
+use Rattle.std.specs.Prelude.{IfSome}
 use Rattle.lua_heap.specs.Reading.{value}
+use Rattle.lua_stack.specs.Frames.{HasLuaTop, KeptStack}
 use Rattle.machine_arms_tables.specs.Frame.{code}
+use Rattle.machine_focus.specs.Focus.{Reaches}
+use Rattle.running_frame.specs.Inheriting.{GoesWith}
+use Rattle.running_frame.specs.Standing.{RunsAt, standing}
+use Rattle.running_frame.specs.Upvalues.{GoesOver, ListsOpen}
 use Rattle.running_frame.proofs.Chained.{reaches_then}
+use Rattle.running_frame.proofs.FoundFields.{over_goes}
+use Rattle.running_frame.proofs.Left.{left_or_not}
 use Rattle.running_frame.proofs.OnStack.{place_within}
-use Rattle.running_frame.proofs.Returned.{called_or_not}
+use Rattle.running_frame.proofs.OpenRead.{lists_open}
 use Rattle.running_frame.proofs.crossing.run_and_cross.Goals as goal
 
-pub run_round-pc-requires : goal.run_round-pc-requires
-run_round-pc-requires g c = (c.requires.0, record { first = tt; second = tt; third = tt })
+pub run_round-at-requires : goal.run_round-at-requires
+run_round-at-requires g c = (c.requires.0, record { first = tt; second = tt; third = tt })
 
-pub fetch-i-requires : goal.fetch-i-requires
-fetch-i-requires g c = place_within c.run_round-pc.ensures.runs
+pub read_open-requires : goal.read_open-requires
+read_open-requires g c =
+    let x = c.run_round-at.ensures.runs in (
+      record {
+        tables = c.run_round-at.new.tables.objects;
+        fuel = c.run_round-at.new.budget;
+        runs = subst (λ texts. RunsAt g.g (code c.args.closure texts) c.run_round-at.new.stack c.run_round-at.new.tables.objects c.run_round-at.new.cells.objects c.run_round-at.new.budget c.run_round-at.result) (sym x.may.closure.texts_are) x;
+      },
+      c.requires.1.1.1,
+    )
 
-pub cross_at-requires-clause-top : goal.cross_at-requires-clause-top
-cross_at-requires-clause-top g c =
-    let m = c.run_round-pc.ensures.runs.may in
-    record { value = value g.g.around.texts; below = g.g.around.context.below; top = m.top; is = m.is }
+pub run_again-requires : goal.run_again-requires
+run_again-requires g c =
+    let x = c.run_round-at.ensures.runs in
+    let o : GoesWith g.g (code c.args.closure c.args.strings.now) c.run_round-at.new.stack c.read_open.new.stack c.run_round-at.new.tables.objects c.run_round-at.new.cells.objects c.run_round-at.result c.in-Some.to =
+    over_goes x.may.closure.texts_are
+    (subst (λ o. IfSome o (λ to. GoesOver g.g (code c.args.closure g.g.around.texts) c.run_round-at.new.stack c.read_open.new.stack c.run_round-at.new.cells.objects c.run_round-at.result to)) c.in-Some.is c.read_open.ensures.goes) in
+    (o.runs c.run_round-at.new.budget x, c.requires.1)
 
-pub cross_at-requires-clause-codes : goal.cross_at-requires-clause-codes
-cross_at-requires-clause-codes g c = c.requires.1.0.have
+pub returns-in-Some-clause-reaches : goal.returns-in-Some-clause-reaches
+returns-in-Some-clause-reaches g c =
+    let x = c.run_round-at.ensures.runs in
+    let o : GoesWith g.g (code c.args.closure c.args.strings.now) c.run_round-at.new.stack c.read_open.new.stack c.run_round-at.new.tables.objects c.run_round-at.new.cells.objects c.run_round-at.result c.in-Some.to =
+    over_goes x.may.closure.texts_are
+    (subst (λ o. IfSome o (λ to. GoesOver g.g (code c.args.closure g.g.around.texts) c.run_round-at.new.stack c.read_open.new.stack c.run_round-at.new.cells.objects c.run_round-at.result to)) c.in-Some.is c.read_open.ensures.goes) in
+    reaches_then g.g.around.rows (reaches_then g.g.around.rows c.run_round-at.ensures.reaches (o.reaches c.run_round-at.new.budget x)) c.run_again.ensures.reaches
 
-pub returns-clause-reaches : goal.returns-clause-reaches
-returns-clause-reaches g c =
-    reaches_then g.g.around.rows c.run_round-pc.ensures.reaches
-    (called_or_not g.g (code c.args.closure c.args.strings.now) c.run_round-pc.new.stack c.run_round-pc.new.tables.objects c.run_round-pc.new.cells.objects c.run_round-pc.new.budget c.run_round-pc.result c.run_round-pc.ensures.runs
-    c.cross_at.new.stack c.args.size c.args.funcs.now.objects c.args.codes.now c.fetch-i.result c.cross_at.new.budget c.requires.1.0 c.requires.1.1 c.fetch-i.ensures
-    c.cross_at.result c.cross_at.ensures.crosses c.cross_at.ensures.kept)
+pub returns-in-Some-clause-opened : goal.returns-in-Some-clause-opened
+returns-in-Some-clause-opened g c = c.run_round-at.ensures.opened ∙ c.run_again.ensures.opened
 
-pub returns-clause-listed : goal.returns-clause-listed
-returns-clause-listed g c = c.cross_at.ensures.listed ∙ c.run_round-pc.ensures.listed
+pub returns-in-Some-clause-listed : goal.returns-in-Some-clause-listed
+returns-in-Some-clause-listed g c =
+    let o = subst (λ o. IfSome o (λ to. GoesOver g.g (code c.args.closure g.g.around.texts) c.run_round-at.new.stack c.read_open.new.stack c.run_round-at.new.cells.objects c.run_round-at.result to)) c.in-Some.is c.read_open.ensures.goes in
+    c.run_again.ensures.listed ∙ o.listed ∙ c.run_round-at.ensures.listed
+
+pub leave_frame-requires-clause-top : goal.leave_frame-requires-clause-top
+leave_frame-requires-clause-top g c =
+    let kept : c.read_open.new.stack ≡ c.run_round-at.new.stack = search rules in
+    let m = c.run_round-at.ensures.runs.may in
+    subst HasLuaTop (sym kept) (record { value = value g.g.around.texts; below = g.g.around.context.below; top = m.top; is = m.is })
+
+pub leave_frame-requires-clause-codes : goal.leave_frame-requires-clause-codes
+leave_frame-requires-clause-codes g c = c.requires.1.0.have
+
+pub leave_frame-requires-clause-cells : goal.leave_frame-requires-clause-cells
+leave_frame-requires-clause-cells g c =
+    let kept : c.read_open.new.stack ≡ c.run_round-at.new.stack = search rules in
+    subst (λ (s : KeptStack). ListsOpen c.args.co.0 s c.run_round-at.new.cells.objects) (sym kept) (lists_open c.args.co.0 c.requires.1.1.1 c.run_round-at.ensures.runs)
+
+pub leave_frame-requires-clause-there : goal.leave_frame-requires-clause-there
+leave_frame-requires-clause-there g c = place_within c.run_round-at.ensures.runs
+
+pub returns-in-None-clause-reaches : goal.returns-in-None-clause-reaches
+returns-in-None-clause-reaches g c =
+    let kept : c.read_open.new.stack ≡ c.run_round-at.new.stack = search rules in
+    let k = code c.args.closure c.args.strings.now in
+    let ts = c.run_round-at.new.tables.objects in
+    let cs = c.run_round-at.new.cells.objects in
+    let fuel = c.run_round-at.new.budget in
+    let runs = subst (λ (s : KeptStack). RunsAt g.g k s ts cs fuel c.run_round-at.result) (sym kept) c.run_round-at.ensures.runs in
+    reaches_then g.g.around.rows c.run_round-at.ensures.reaches
+    (subst (λ (s : KeptStack). Reaches g.g.around.rows (standing g.g s ts cs fuel) (standing g.g c.leave_frame.new.stack ts cs c.leave_frame.new.budget)) kept
+    (left_or_not g.g k c.read_open.new.stack ts cs fuel c.run_round-at.result runs
+    c.leave_frame.new.stack c.args.size c.args.funcs.now.objects c.args.codes.now c.leave_frame.new.budget c.args.co.0 c.requires.1.0 c.requires.1.1.0 c.requires.1.1.1
+    c.leave_frame.result c.leave_frame.ensures.leaves c.leave_frame.ensures.kept))
+
+pub returns-in-None-clause-listed : goal.returns-in-None-clause-listed
+returns-in-None-clause-listed g c =
+    let kept : c.read_open.new.stack ≡ c.run_round-at.new.stack = search rules in
+    c.leave_frame.ensures.listed ∙ ap (λ (s : KeptStack). s.open_cells) kept ∙ c.run_round-at.ensures.listed
