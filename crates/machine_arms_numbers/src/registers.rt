@@ -146,7 +146,7 @@ pub(crate) fn put_integer(
 
 /// The place behind a test: the next instruction is passed over where the truth is not k.
 #[inline(always)]
-pub(crate) fn branch(words: &[Instruction], i: Instruction, pc: usize, truth: bool) -> usize
+pub fn branch(words: &[Instruction], i: Instruction, pc: usize, truth: bool) -> usize
     requires { pc + 2 < length words.now }
     ensures { result ≡ pc + cond (same_truth truth (k_of i)) 1 2 }
 {

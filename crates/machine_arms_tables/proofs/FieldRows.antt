@@ -1,25 +1,28 @@
 -- Rows on fields, upvalues and lengths, whose operations are settled at once.
-use Rattle.std.proofs.Common.{◌≡◌, ℕ, ◌+◌, ◌<◌, List, [], ◌∷◌, length, map, Option, Some, None, refl, ap, sym, ◌∙◌, subst}
+use Rattle.std.proofs.Common.{◌≡◌, ℕ, ◌+◌, ◌<◌, List, [], ◌∷◌, length, map, Option, Some, None, refl, ap, sym, ◌∙◌, subst, Bool}
 use Rattle.std.specs.Prelude.{pos, cond, slice_get, slice_set}
+use Rattle.code_core.specs.Fields.{second_half}
 use Rattle.code_core.specs.Instruction.{a_of, b_of, c_of, k_of}
+use Rattle.code_core.specs.Prototype.{Prototype}
 use Rattle.code_core.specs.declared.instruction.Instruction.{Instruction}
-use Rattle.code_core.specs.declared.opcode.Opcode.TheVariants.{GetUpval, SetUpval, GetTabUp, GetTable, GetI, GetField, SetTabUp, SetTable, SetI, SetField, Len}
+use Rattle.code_core.specs.declared.opcode.Opcode.{Opcode}
+use Rattle.code_core.specs.declared.opcode.Opcode.TheVariants.{GetUpval, SetUpval, GetTabUp, GetTable, GetI, GetField, SetTabUp, SetTable, SetI, SetField, Len, Jmp}
 use Rattle.int_core.specs.Operations.{Operation, index, store, length', does, found, ask, fault, cannot_arise}
-use Rattle.int_core.specs.Value.{Value}
+use Rattle.int_core.specs.Value.{Value, same_truth}
 use Rattle.lua_heap.specs.Plain.{heap, cell}
 use Rattle.lua_heap.specs.Reading.{value}
 use Rattle.lua_heap.specs.declared.world.Cell.{Cell as KeptCell}
 use Rattle.machine_core.specs.World.{Wait}
-use Rattle.machine_core.specs.Text.{Arg, read, args_of, operate, Text}
-use Rattle.machine_core.specs.InstructionRows.{to_register, next}
+use Rattle.machine_core.specs.Text.{Arg, read, args_of, operate, own, read_register, Text}
+use Rattle.machine_core.specs.InstructionRows.{compares, to_register, next, row_of}
 use Rattle.machine_focus.specs.Focus.{Held, local}
 use Rattle.machine_view.specs.View.{Around, IsAt}
 use Rattle.machine_view.proofs.Places.{register_there}
-use Rattle.machine_view.proofs.Rows.{Comes, comes, reads, reads_constant}
-use Rattle.machine_view.proofs.Going.{at_next, goes_by, puts}
+use Rattle.machine_view.proofs.Rows.{Comes, comes, reads, reads_constant, same_text}
+use Rattle.machine_view.proofs.Going.{at_either, at_next, decides, goes_by, puts}
 use Rattle.table_core.specs.Table.{Contents}
 use Rattle.table_core.specs.declared.value.Value.{Value as Kept}
-use Rattle.table_core.specs.declared.value.Value.TheVariants.{Int}
+use Rattle.table_core.specs.declared.value.Value.TheVariants.{Bool as Boolean, Int}
 use Rattle.machine_arms_tables.specs.Fields.{Settles, upvalue_in, with_upvalue}
 use Rattle.machine_arms_tables.specs.Frame.{Code, moment, IsOf, Leads}
 use Rattle.machine_arms_tables.proofs.Leading.{held_at, leading, leading_to, open_alike, reads_either, reads_upvalue, writes_upvalue}
@@ -102,6 +105,19 @@ pub length_does : (k : Code) {w : Instruction} {ts : List Contents} {r s : List 
 length_does k {w = w} {ts = ts} {r = r} {pc = pc} {object = object} {v = v} h eo d f p cells fuel = leading (at_next h refl p) (λ g meta o.
     reads g (heap g.texts ts meta) (map (cell g.texts) cells) r pc fuel (b_of w) object eo
     (gets_value g meta k o ts cells r pc fuel (object ∷ []) (a_of w) v refl d (at_next h refl p) (register_there h 0 (a_of w) refl) f p))
+
+-- comparisons of two registers
+pub compare_does : (k : Code) {op : Opcode} {operation : Operation} {w : Instruction} {ts : List Contents} {r : List Kept} {pc to : ℕ} (u v : Kept) (b : Bool) → IsAt op w k.words k.constants r pc
+    → ((p : Prototype) (pc : ℕ) → row_of p pc op w ≡ own (read_register (a_of w)) (λ x _. own (read_register (b_of w)) (λ y _. compares operation (read x) (read y) w))) → second_half op w ≡ Some Jmp
+    → slice_get r (a_of w) ≡ Some u → slice_get r (b_of w) ≡ Some v → Settles k.texts operation (u ∷ v ∷ []) ts ts (Boolean b ∷ []) → to ≡ pc + cond (same_truth b (k_of w)) 1 2
+    → (cells : List KeptCell) (fuel : ℕ) → Leads op w k (moment ts cells r pc fuel) (moment ts cells r to fuel)
+compare_does k {w = w} {ts = ts} {r = r} {pc = pc} u v b h row pair eu ev d p cells fuel =
+    let l = at_either h Jmp pair refl (same_truth b (k_of w)) p in
+    leading l (λ g meta o.
+    same_text (row g.context.closure.code pc)
+    (reads g (heap g.texts ts meta) (map (cell g.texts) cells) r pc fuel (a_of w) u eu
+    (reads g (heap g.texts ts meta) (map (cell g.texts) cells) r pc fuel (b_of w) v ev
+    (decides g (heap g.texts ts meta) (map (cell g.texts) cells) r pc fuel w b o.code l p ((settled_here o d).settled meta o.code.apart o.code.short)))))
 
 -- upvalues
 

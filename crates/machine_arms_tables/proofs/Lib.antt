@@ -1,4 +1,5 @@
 mod Settling
+mod Compared
 mod Inheriting
 mod Leading
 mod FieldRows

@@ -4,6 +4,7 @@ ghost use Rattle.machine_arms_tables.specs.Frame.{Leads, code, moment};
 ghost use Rattle.machine_view.specs.View.{IsAt};
 
 use crate::closure::Closure;
+use crate::comparing::{equal_tables, less_equal_texts, less_texts};
 use crate::inherited::Reach;
 use crate::lengths::get_length;
 use crate::making::new_table;
@@ -96,10 +97,10 @@ fn run_on_objects(
     }
 }
 
-/// Reads a field that the value has itself or that handlers which are tables lead to, and answers where the frame goes on. `None`, with all as before, at any
-/// other instruction, where a handler that is no table may decide the field, and where it is an error.
+/// Reads a field that the value has itself or that handlers which are tables lead to, or compares two tables or two strings, and answers where the frame goes on.
+/// `None`, with all as before, at any other instruction, where a handler is to be called, and where it is an error.
 #[inline(never)]
-pub fn read_inherited(
+pub fn settle_beyond(
     op: Opcode,
     closure: Closure,
     strings: &Strings,
@@ -122,6 +123,9 @@ pub fn read_inherited(
         Opcode::GetI => get_integer(closure, strings, tables, registers, i, pc, far),
         Opcode::GetField => get_field(closure, strings, tables, registers, i, pc, far),
         Opcode::OpSelf => get_method(closure, strings, tables, registers, i, pc, far),
+        Opcode::Eq => equal_tables(closure, strings, tables, registers, i, pc),
+        Opcode::Lt => less_texts(closure, strings, tables, registers, i, pc),
+        Opcode::Le => less_equal_texts(closure, strings, tables, registers, i, pc),
         _ => None,
     }
 }

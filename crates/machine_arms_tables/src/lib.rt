@@ -3,6 +3,7 @@
 #![tactic(auto)]
 
 mod closure;
+mod comparing;
 mod fields;
 mod inherited;
 mod instruction;
@@ -13,4 +14,4 @@ mod upvalues;
 mod writes;
 
 pub use closure::{Closure, set_register};
-pub use instruction::{read_inherited, run_instruction};
+pub use instruction::{run_instruction, settle_beyond};

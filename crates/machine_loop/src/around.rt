@@ -9,7 +9,7 @@ use crate::decoding::{number_in, opcode_in};
 use crate::memo::{Memo, read_known};
 use code_core::{Instruction, Opcode, fetch};
 use lua_heap::{Cell, Strings};
-use machine_arms_tables::{Closure, read_inherited};
+use machine_arms_tables::{Closure, settle_beyond};
 use object_pool::Pool;
 use table_core::{Table, Value};
 
@@ -34,8 +34,8 @@ pub(crate) fn go_around(
     }
 }
 
-/// Reads a field that handlers lead to, where the number of the opcode may be that of a read: at all other instructions, as a CALL, the loop is left without
-/// another look at the opcode.
+/// Does such a read or comparison, where the number of the opcode may be that of one: at all other instructions, as a CALL, the loop is left without another look
+/// at the opcode.
 #[inline(always)]
 fn read_beyond(
     closure: Closure,
@@ -56,14 +56,14 @@ fn read_beyond(
     read_above(closure, strings, tables, cells, registers, pc)
 }
 
-/// Whether an opcode's number is from that of GETTABUP to that of SELF, among which are all that read a field.
+/// Whether an opcode's number is from that of GETTABUP to that of SELF, among which are all that read a field, or from that of EQ to that of LE.
 #[inline(always)]
 fn may_read(i: Instruction) -> bool {
     let number = number_in(i);
-    11 <= number && number <= 20
+    11 <= number && number <= 20 || 57 <= number && number <= 59
 }
 
-/// Reads a field that handlers lead to.
+/// Reads a field that handlers lead to, or compares two tables or two strings.
 #[inline(always)]
 fn read_above(
     closure: Closure,
@@ -79,17 +79,24 @@ fn read_above(
 {
     let i = fetch(closure.words, pc);
     let op = opcode_in(i)?;
-    if !reads_field(op) {
+    if !looks_beyond(op) {
         return None;
     }
-    read_inherited(op, closure, strings, tables, cells, registers, i, pc)
+    settle_beyond(op, closure, strings, tables, cells, registers, i, pc)
 }
 
-/// Whether an instruction reads a field.
+/// Whether an instruction reads a field or compares two registers.
 #[inline(always)]
-fn reads_field(op: Opcode) -> bool {
+fn looks_beyond(op: Opcode) -> bool {
     matches!(
         op,
-        Opcode::GetTabUp | Opcode::GetTable | Opcode::GetI | Opcode::GetField | Opcode::OpSelf
+        Opcode::GetTabUp
+            | Opcode::GetTable
+            | Opcode::GetI
+            | Opcode::GetField
+            | Opcode::OpSelf
+            | Opcode::Eq
+            | Opcode::Lt
+            | Opcode::Le
     )
 }

@@ -5,12 +5,12 @@ use Rattle.machine_loop.proofs.around.read_above.Goals as goal
 pub fetch-i-requires : goal.fetch-i-requires
 fetch-i-requires c = c.requires.there
 
-pub read_inherited-requires : goal.read_inherited-requires
-read_inherited-requires c = c.requires.is_at c.fetch-i.result c.in_ok-op.op c.fetch-i.ensures (sym c.in_ok-op.ensures)
+pub settle_beyond-requires : goal.settle_beyond-requires
+settle_beyond-requires c = c.requires.is_at c.fetch-i.result c.in_ok-op.op c.fetch-i.ensures (sym c.in_ok-op.ensures)
 
 pub returns-clause-reads : goal.returns-clause-reads
 returns-clause-reads c =
-    IfSome_then c.read_inherited.result c.read_inherited.ensures.goes (λ to leads. record {
+    IfSome_then c.settle_beyond.result c.settle_beyond.ensures.goes (λ to leads. record {
       op = c.in_ok-op.op;
       word = c.fetch-i.result;
       at_pc = c.fetch-i.ensures;

@@ -1,5 +1,5 @@
 use Rattle.machine_arms_tables.proofs.Leading.{if_some, by_opcode}
-use Rattle.machine_arms_tables.proofs.instruction.read_inherited.Goals as goal
+use Rattle.machine_arms_tables.proofs.instruction.settle_beyond.Goals as goal
 
 pub returns-in-GetTabUp-clause-goes : goal.returns-in-GetTabUp-clause-goes
 returns-in-GetTabUp-clause-goes c = if_some c.get_upvalue_field.result (λ to goes fuel. by_opcode c.in-GetTabUp.is (goes fuel)) c.get_upvalue_field.ensures.goes
@@ -15,3 +15,12 @@ returns-in-GetField-clause-goes c = if_some c.get_field.result (λ to goes fuel.
 
 pub returns-in-OpSelf-clause-goes : goal.returns-in-OpSelf-clause-goes
 returns-in-OpSelf-clause-goes c = if_some c.get_method.result (λ to goes fuel. by_opcode c.in-OpSelf.is (goes c.args.cells.now.objects fuel)) c.get_method.ensures.goes
+
+pub returns-in-Eq-clause-goes : goal.returns-in-Eq-clause-goes
+returns-in-Eq-clause-goes c = if_some c.equal_tables.result (λ to goes fuel. by_opcode c.in-Eq.is (goes c.args.cells.now.objects fuel)) c.equal_tables.ensures
+
+pub returns-in-Lt-clause-goes : goal.returns-in-Lt-clause-goes
+returns-in-Lt-clause-goes c = if_some c.less_texts.result (λ to goes fuel. by_opcode c.in-Lt.is (goes c.args.cells.now.objects fuel)) c.less_texts.ensures
+
+pub returns-in-Le-clause-goes : goal.returns-in-Le-clause-goes
+returns-in-Le-clause-goes c = if_some c.less_equal_texts.result (λ to goes fuel. by_opcode c.in-Le.is (goes c.args.cells.now.objects fuel)) c.less_equal_texts.ensures
