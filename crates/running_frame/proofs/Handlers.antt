@@ -1,26 +1,26 @@
 -- A read whose handler is a Lua function is a step of the machine: the function is entered over the frame that reads.
 use Rattle.std.proofs.Common.{◌≡◌, inl, inr, ℕ, suc, ◌+◌, List, [], ◌∷◌, ◌++◌, length, map, Option, Some, None, refl, ap, sym, subst, ◌∙◌, true}
-use Rattle.std.specs.Prelude.{IfNone, IfSome, nat_le, slice_get}
+use Rattle.std.specs.Prelude.{◌-◌, IfNone, IfSome, nat_le, option_map, slice_get}
 use Rattle.code_core.specs.Instruction.{a_of, b_of, c_of, opcode_of}
 use Rattle.code_core.specs.declared.instruction.Instruction.{Instruction}
 use Rattle.code_core.specs.declared.opcode.Opcode.{Opcode}
-use Rattle.code_core.specs.declared.opcode.Opcode.TheVariants.{GetTable, GetField}
+use Rattle.code_core.specs.declared.opcode.Opcode.TheVariants.{GetTable, GetField, MmBin}
 use Rattle.code_core.specs.declared.proto.Const.{Const}
 use Rattle.int_core.specs.Limits.{greatest_depth}
 use Rattle.int_core.specs.Heap.{Heap}
-use Rattle.int_core.specs.Operations.{Settled, ask, index}
+use Rattle.int_core.specs.Operations.{Event, Operation, Settled, arithmetic, ask, index}
 use Rattle.int_core.specs.Value.{Value, known, nil}
 use Rattle.machine_core.specs.World.{Function, Activation, LuaFrame, Frame, for_value, lua, running, World}
 use Rattle.machine_core.specs.FrameRows.{at_once, calls_row, expand, prepares, raises}
-use Rattle.machine_core.specs.InstructionRows.{gets, to_register}
+use Rattle.machine_core.specs.InstructionRows.{event_numbered, gets, handled, to_register, to_register_before}
 use Rattle.machine_core.specs.MachineStep.{and_then, from_world, step, steps}
 use Rattle.machine_core.specs.Moves.{SettledShape, is_found, is_asked, is_fault, only, settle, settled, Row, go, ends, new_frame, run}
-use Rattle.machine_core.specs.Text.{Text, constant, own, read, read_constant, read_register}
+use Rattle.machine_core.specs.Text.{Text, constant, operate, own, read, read_constant, read_register}
 use Rattle.machine_focus.specs.Focus.{Context, Held, Reaches, Stands, place, stacked, world}
 use Rattle.machine_focus.proofs.Calls.{began, call_is, inner}
 use Rattle.machine_focus.proofs.Local.{made_is}
 use Rattle.machine_focus.proofs.Places.{settle_move}
-use Rattle.machine_sound.proofs.Lists.{get_map, get_within, map_get}
+use Rattle.machine_sound.proofs.Lists.{get_map, get_within, map_get, some_is}
 use Rattle.machine_sound.proofs.Values.{le_true, lt_true}
 use Rattle.table_core.specs.Table.{Contents}
 use Rattle.table_core.specs.declared.value.Value.{Value as Kept}
@@ -37,7 +37,9 @@ use Rattle.meta_ops.specs.declared.outcome.Outcome.{Outcome}
 use Rattle.meta_ops.specs.declared.outcome.Outcome.TheVariants.{Ask}
 use Rattle.machine_arms_tables.specs.Frame.{Code}
 use Rattle.machine_loop.specs.Running.{Running}
-use Rattle.running_frame.specs.Asking.{AsksOver, EntersOver, IsAsked, Names, ReachesOut, ReadSame, by_name, by_register}
+use Rattle.meta_ops.specs.Events.{event_of}
+use Rattle.meta_ops.specs.declared.event.Event.{Event as Variant}
+use Rattle.running_frame.specs.Asking.{AsksOver, EntersOver, IsAsked, Names, ReachesOut, ReadSame, by_name, by_operands, by_register, handled_events, operation_at}
 use Rattle.running_frame.specs.declared.asking.Asked.{Asked}
 use Rattle.running_frame.specs.Calling.{AreFunctions}
 use Rattle.running_frame.specs.Standing.{IsHereIn, RunsAt, standing}
@@ -90,23 +92,58 @@ module _ (g : Running) (k : Code) (s : KeptStack) (ts : List Contents) (cs : Lis
           ∙ ap (λ (o : Option Const). run (expand (t (length env))) (env ++ elim o as (λ _. List Value) [ None ↦ [] | Some c ↦ known (constant c) ∷ [] ]) all) x.1
           ∙ ap (λ v. run (expand (t (length env))) (env ++ v ∷ []) all) x.2
 
-  -- the read itself
-  abbrev gets_field : ℕ → Text
-  gets_field a = gets (read 0) (read 1) [] a
+  -- the operation itself, and what follows its value
 
-  reads_field : (registers : List Kept) (w : Instruction) (object key : Kept) → map meant registers ≡ mine.registers → slice_get k.words pc ≡ Some w → {op : Option Opcode} → opcode_of w ≡ op → Names registers k.constants w object key op
-      → step g.around.rows go all ≡ from_world all (run (expand (gets_field (a_of w))) (meant object ∷ meant key ∷ []) all)
-  reads_field registers w object key are word o (by_register eo ek) =
+  abbrev asks_for : Operation → Text → Text
+  asks_for operation t = operate operation (read 0 ∷ read 1 ∷ []) for_value [] t
+
+  abbrev to_before : Text
+  to_before = to_register_before ctx.closure.code mine.pc
+
+  -- by an instruction: the row comes to the operation on the two values
+  record Comes (w : Instruction) (operation : Operation) (object key : Kept) : Type 0 where
+    follows : Text
+    is : step g.around.rows go all ≡ from_world all (run (expand (asks_for operation follows)) (meant object ∷ meant key ∷ []) all)
+
+  comes_to_read : (registers : List Kept) (w : Instruction) (object key : Kept) → map meant registers ≡ mine.registers → slice_get k.words pc ≡ Some w → {op : Option Opcode} → opcode_of w ≡ op → Names registers k.constants w object key op
+      → (operation : Operation) → operation_at op (c_of w) ≡ Some operation → Comes w operation object key
+  comes_to_read registers w object key are word o (by_register eo ek) operation e =
       let there : (n : ℕ) (v : Kept) → slice_get registers n ≡ Some v → slice_get mine.registers n ≡ Some (meant v) = (λ n v e. ap (λ l. slice_get l n) (sym are) ∙ get_map meant registers n v e) in
-      row_is ctx stands_now now w GetTable (word_is g k s ts cs fuel pc r w word) o g.around.rows
-      ∙ ap (from_world all) (
-      reads_register (λ o. own (read_register (c_of w)) (λ key _. gets (read o) (read key) [] (a_of w))) [] (b_of w) object (there (b_of w) object eo)
-      ∙ reads_register (λ key. gets (read 0) (read key) [] (a_of w)) (meant object ∷ []) (c_of w) key (there (c_of w) key ek))
-  reads_field registers w object key are word o (by_name eo ek) =
-      row_is ctx stands_now now w GetField (word_is g k s ts cs fuel pc r w word) o g.around.rows
-      ∙ ap (from_world all) (
-      reads_register (λ o. own (read_constant (c_of w)) (λ key _. gets (read o) (read key) [] (a_of w))) [] (b_of w) object (ap (λ l. slice_get l (b_of w)) (sym are) ∙ get_map meant registers (b_of w) object eo)
-      ∙ reads_name (λ key. gets (read 0) (read key) [] (a_of w)) (meant object ∷ []) (c_of w) key ek)
+      record {
+        follows = to_register (a_of w) (read 0);
+        is =
+            row_is ctx stands_now now w GetTable (word_is g k s ts cs fuel pc r w word) o g.around.rows
+            ∙ ap (from_world all) (
+            reads_register (λ o. own (read_register (c_of w)) (λ key _. gets (read o) (read key) [] (a_of w))) [] (b_of w) object (there (b_of w) object eo)
+            ∙ reads_register (λ key. gets (read 0) (read key) [] (a_of w)) (meant object ∷ []) (c_of w) key (there (c_of w) key ek)
+            ∙ ap (λ p. run (expand (asks_for p (to_register (a_of w) (read 0)))) (meant object ∷ meant key ∷ []) all) (some_is {o = Some index} refl e));
+      }
+  comes_to_read registers w object key are word o (by_name eo ek) operation e = record {
+    follows = to_register (a_of w) (read 0);
+    is =
+        row_is ctx stands_now now w GetField (word_is g k s ts cs fuel pc r w word) o g.around.rows
+        ∙ ap (from_world all) (
+        reads_register (λ o. own (read_constant (c_of w)) (λ key _. gets (read o) (read key) [] (a_of w))) [] (b_of w) object (ap (λ l. slice_get l (b_of w)) (sym are) ∙ get_map meant registers (b_of w) object eo)
+        ∙ reads_name (λ key. gets (read 0) (read key) [] (a_of w)) (meant object ∷ []) (c_of w) key ek
+        ∙ ap (λ p. run (expand (asks_for p (to_register (a_of w) (read 0)))) (meant object ∷ meant key ∷ []) all) (some_is {o = Some index} refl e));
+  }
+  comes_to_read registers w object key are word o (by_operands eo ek) operation e = by (event_numbered (c_of w)) refl e
+    where
+      there : (n : ℕ) (v : Kept) → slice_get registers n ≡ Some v → slice_get mine.registers n ≡ Some (meant v)
+      there n v e = ap (λ l. slice_get l n) (sym are) ∙ get_map meant registers n v e
+
+      by : (o' : Option Event) → event_numbered (c_of w) ≡ o' → option_map arithmetic o' ≡ Some operation → Comes w operation object key
+      by None n e = absurd (cc)
+      by (Some event) n e = record {
+        follows = to_before;
+        is =
+            row_is ctx stands_now now w MmBin (word_is g k s ts cs fuel pc r w word) o g.around.rows
+            ∙ ap (from_world all) (
+            reads_register (λ x. own (read_register (b_of w)) (λ y _. handled ctx.closure.code mine.pc w (event_numbered (c_of w)) (read x ∷ read y ∷ []))) [] (a_of w) object (there (a_of w) object eo)
+            ∙ reads_register (λ y. handled ctx.closure.code mine.pc w (event_numbered (c_of w)) (read 0 ∷ read y ∷ [])) (meant object ∷ []) (b_of w) key (there (b_of w) key ek)
+            ∙ ap (λ (o' : Option Event). run (expand (handled ctx.closure.code mine.pc w o' (read 0 ∷ read 1 ∷ []))) (meant object ∷ meant key ∷ []) all) n
+            ∙ ap (λ p. run (expand (asks_for p to_before)) (meant object ∷ meant key ∷ []) all) (some_is {o = Some (arithmetic event)} refl e));
+      }
 
   module _ (u : KeptStack) (funcs : List Func) (codes : Codes) (w : Instruction) (left : ℕ) (x : AsksOver s u g.around.texts k.constants ts g.string_metatable funcs codes w fuel left) (q : Function)
       (fn : slice_get g.around.context.base.functions x.call.id.0 ≡ Some q) (shape_is : IsShapeOf q.code x.call.shape) where
@@ -122,16 +159,16 @@ module _ (g : Running) (k : Code) (s : KeptStack) (ts : List Contents) (cs : Lis
     room : nat_le (length ctx.below + 1 + 1) greatest_depth ≡ true
     room = ap (λ n. nat_le (n + 1) greatest_depth) (sym (depth_is g k s ts cs fuel pc r)) ∙ le_true (length s.frames + 1) greatest_depth x.is.room
 
-    asks_runs : run (expand (gets_field (a_of w))) (meant x.is.object ∷ meant x.call.key ∷ []) all ≡ ends go called
-    asks_runs =
+    asks_runs : (follows : Text) → run (expand (asks_for x.is.operation follows)) (meant x.is.object ∷ meant x.call.key ∷ []) all ≡ ends go called
+    asks_runs follows =
         let env = meant x.is.object ∷ meant x.call.key ∷ [] in
-        made_is (settle index (read 0 ∷ read 1 ∷ [])) next_row env all all (meant (a_func x.call.id) ∷ arguments) is_asked
-        (settle_move ctx stands_now now index (read 0 ∷ read 1 ∷ []) env ∙ ap (λ r. settled all (place ctx now) r) x.is.asks)
+        made_is (settle x.is.operation (read 0 ∷ read 1 ∷ [])) next_row env all all (meant (a_func x.call.id) ∷ arguments) is_asked
+        (settle_move ctx stands_now now x.is.operation (read 0 ∷ read 1 ∷ []) env ∙ ap (λ r. settled all (place ctx now) r) x.is.asks)
         ∙ call_is ctx stands_now now (env ++ meant (a_func x.call.id) ∷ arguments) (read 2) 3 for_value [] x.call.id.0 q left refl fn x.paid room
       where
         next_row : ℕ → SettledShape → Row
         next_row n r = elim r [
-          | is_found ↦ prepares [] (only n (expand (to_register (a_of w) (read 0))))
+          | is_found ↦ prepares [] (only n (expand follows))
           | is_asked ↦ calls_row at_once (read n) (suc n) for_value []
           | is_fault text ↦ prepares [] (raises text)
         ]
@@ -144,10 +181,11 @@ module _ (g : Running) (k : Code) (s : KeptStack) (ts : List Contents) (cs : Lis
 
     pub asked_so : slice_get k.words pc ≡ Some w → Reaches g.around.rows (standing g s ts cs fuel) (standing g u ts cs left)
     asked_so word =
-        let are = x.is.are meant ctx.below r.may.top r.may.is in (
+        let are = x.is.are meant ctx.below r.may.top r.may.is in
+        let row = comes_to_read x.is.registers w x.is.object x.call.key are word refl x.is.names x.is.operation x.is.is_operation in (
           1,
           ap (steps g.around.rows 1 go) (standing_is g k s ts cs fuel pc r)
-              ∙ ap (λ o. and_then o (steps g.around.rows 0)) (reads_field x.is.registers w x.is.object x.call.key are word refl x.is.names ∙ ap (from_world all) asks_runs)
+              ∙ ap (λ o. and_then o (steps g.around.rows 0)) (row.is ∙ ap (from_world all) (asks_runs row.follows))
               ∙ ap (ends go) (sym (ap (λ fs. stacked ctx.base ctx.coroutine fs (heap g.around.texts ts g.string_metatable) (map (cell g.around.texts) cs) left []) frames_are)),
         )
 
@@ -162,6 +200,10 @@ asks_by {call = call} is u fuel left (Some x) paid enters = record { call = call
 pub both_some : {A : Type 0} {P Q R : A → Type 0} (o : Option A) → ((x : A) → P x → Q x → R x) → IfSome o P → IfSome o Q → IfSome o R
 both_some None f p q = tt
 both_some (Some x) f p q = f x p q
+
+-- the operator that a number tells
+pub operator_named : (n : ℕ) (e : Variant) → Some e ≡ slice_get handled_events (n - 6) → option_map arithmetic (event_numbered n) ≡ Some (arithmetic (event_of e))
+operator_named n e h = ap (option_map arithmetic) (get_map event_of handled_events (n - 6) e (sym h))
 
 -- what is asked for, where the handler is a function
 

@@ -1,9 +1,15 @@
-// Reads whose handler of `__index` is a Lua function, which is called over the frame that reads (luaT_callTMres of ltm.c; Lua 5.4 manual, 2.4).
-ghost use Rattle.std.specs.Prelude.{◌≡◌, ◌≤◌, IfNone, IfSome, Some, slice_get, suc};
-ghost use Rattle.code_core.specs.Instruction.{b_of, c_of, opcode_of};
+// Reads and operators whose handler is a Lua function, which is called over the frame that asks for it (luaT_callTMres of ltm.c; Lua 5.4 manual, 2.4).
+ghost use Rattle.std.specs.Prelude.{◌≡◌, ◌≤◌, ◌-◌, IfNone, IfSome, Some, [], ◌∷◌, option_map, slice_get, suc, true};
+ghost use Rattle.code_core.specs.Instruction.{a_of, b_of, c_of, opcode_of};
+ghost use Rattle.int_core.specs.Operations.{arithmetic as computes, does};
+ghost use Rattle.lua_heap.specs.Reading.{value};
 ghost use Rattle.lua_stack.specs.Frames.{HasLuaTop};
 ghost use Rattle.table_core.specs.declared.value.Value.TheVariants.{Func as a_func};
-ghost use Rattle.running_frame.specs.Asking.{AsksFor, AsksOver, EntersOver, IsAsked, Names, ReadSame};
+ghost use Rattle.machine_core.specs.InstructionRows.{event_numbered};
+ghost use Rattle.meta_ops.specs.Events.{event_of};
+ghost use Rattle.meta_ops.specs.Heap.{IsThere, heap_of};
+ghost use Rattle.meta_ops.specs.Outcome.{settled};
+ghost use Rattle.running_frame.specs.Asking.{AsksFor, AsksOver, EntersOver, IsAsked, Names, ReadSame, handled_events, operation_at, operation_of};
 ghost use Rattle.running_frame.specs.Calling.{HaveCode};
 ghost use Rattle.running_frame.specs.Inheriting.{metatable_number};
 
@@ -11,11 +17,34 @@ use crate::calling::{register_of, shape_of};
 use code_core::{Instruction, Opcode};
 use lua_heap::{Codes, Func, Strings};
 use lua_stack::{GREATEST_DEPTH, Shape, Stack, Wait};
-use meta_ops::{Heap, Outcome, index_of};
+use meta_ops::{Event, Heap, Outcome, arithmetic, index_of};
 use object_pool::Pool;
 use table_core::{FuncId, Table, TableId, Value};
 
-/// A field that is read.
+/// The operators whose handlers MMBIN asks for, from the number of `__add` on, each where its number is (ltm.h of Lua 5.4). Two are of floats, and stand for none.
+const EVENTS: [Event; 12] = [
+    Event::Add,
+    Event::Sub,
+    Event::Mul,
+    Event::Mod,
+    Event::Add,
+    Event::Add,
+    Event::IDiv,
+    Event::BAnd,
+    Event::BOr,
+    Event::BXor,
+    Event::Shl,
+    Event::Shr,
+];
+
+/// What a handler may be asked for: the field of an object at a key, or what an operator gives.
+#[derive(Clone, Copy, Debug)]
+pub(crate) enum Kind {
+    Read,
+    Operator(Event),
+}
+
+/// An object and a key, or the two operands of an operator.
 #[derive(Clone, Copy, Debug)]
 pub(crate) struct Field {
     object: Value,
@@ -29,7 +58,7 @@ pub(crate) struct Handler {
     first: Value,
 }
 
-/// What is called for a read: a function with these two arguments.
+/// What is called: a function with these two arguments.
 #[derive(Clone, Copy)]
 pub(crate) struct Asked {
     id: FuncId,
@@ -38,8 +67,8 @@ pub(crate) struct Asked {
     key: Value,
 }
 
-/// GETTABLE or GETFIELD of a field for which a Lua function is asked: for a unit of the budget the function's frame is on top, and the frame that reads waits for
-/// its value. `None` at any other instruction, and where the call takes more than the stack: all reads as before.
+/// GETTABLE, GETFIELD or MMBIN, where a Lua function is asked for the value: for a unit of the budget the function's frame is on top, and the frame that asks waits
+/// for its value. `None` at any other instruction, and where the call takes more than the stack: all reads as before.
 pub(crate) fn ask_over(
     stack: &mut Stack,
     constants: &[Value],
@@ -72,7 +101,7 @@ pub(crate) fn ask_over(
     }
 }
 
-/// What is called for a read.
+/// What is called for a read or an operator.
 fn call_asked(
     stack: &Stack,
     constants: &[Value],
@@ -91,7 +120,8 @@ fn call_asked(
         return None;
     }
     let field = field_named(stack.registers(), constants, i)?;
-    let handler = handler_asked(strings, tables, string_meta, field.object, field.key)?;
+    let kind = kind_of(i)?;
+    let handler = handler_asked(strings, tables, string_meta, kind, field.object, field.key)?;
     let shape = shape_of(funcs, codes, handler.id)?;
     Some(Asked {
         id: handler.id,
@@ -101,15 +131,54 @@ fn call_asked(
     })
 }
 
-/// The field that an instruction names.
+/// The two values that an instruction names.
 fn field_named(registers: &[Value], constants: &[Value], i: Instruction) -> Option<Field>
     ensures { IfSome result (λ field. Names registers.now constants.now i field.object field.key (opcode_of i)) }
 {
     match i.opcode() {
         Some(Opcode::GetTable) => field_by_register(registers, i),
         Some(Opcode::GetField) => field_by(registers, constants, i),
+        Some(Opcode::MmBin) => operands_of(registers, i),
         _ => None,
     }
+}
+
+/// R[A] and R[B].
+fn operands_of(registers: &[Value], i: Instruction) -> Option<Field>
+    ensures object { IfSome result (λ field. slice_get registers.now (a_of i) ≡ Some field.object) }
+    ensures key { IfSome result (λ field. slice_get registers.now (b_of i) ≡ Some field.key) }
+{
+    let object = register_of(registers, i.a() as usize)?;
+    let key = register_of(registers, i.b() as usize)?;
+    Some(Field { object, key })
+}
+
+/// What an instruction asks for.
+fn kind_of(i: Instruction) -> Option<Kind>
+    ensures { IfSome result (λ kind. operation_at (opcode_of i) (c_of i) ≡ Some (operation_of kind)) }
+{
+    match i.opcode() {
+        Some(Opcode::GetTable) => Some(Kind::Read),
+        Some(Opcode::GetField) => Some(Kind::Read),
+        Some(Opcode::MmBin) => operator_of(i),
+        _ => None,
+    }
+}
+
+/// The operator that an MMBIN tells.
+fn operator_of(i: Instruction) -> Option<Kind>
+    ensures { IfSome result (λ kind. option_map computes (event_numbered (c_of i)) ≡ Some (operation_of kind)) }
+{
+    let number = usize::from(i.c());
+    let event = event_at(number)?;
+    Some(Kind::Operator(event))
+}
+
+/// The event of a number.
+fn event_at(number: usize) -> Option<Event>
+    ensures { result ≡ slice_get handled_events (number - 6) }
+{
+    EVENTS.get(number.saturating_sub(6)).copied()
 }
 
 /// The field R[B] at the key R[C].
@@ -130,24 +199,60 @@ fn field_by(registers: &[Value], keys: &[Value], i: Instruction) -> Option<Field
     Some(Field { object, key })
 }
 
-/// The Lua function that is asked for the field of an object at a key.
+/// The Lua function that is asked for a field or for what an operator gives.
 fn handler_asked(
     strings: &Strings,
     tables: &Pool<Table>,
     string_meta: Option<TableId>,
+    kind: Kind,
     object: Value,
     key: Value,
 ) -> Option<Handler>
-    ensures { IfSome result (λ handler. AsksFor strings.now tables.now.objects (metatable_number string_meta) object key handler.id handler.first) }
+    ensures { IfSome result (λ handler. AsksFor strings.now tables.now.objects (metatable_number string_meta) (operation_of kind) object key handler.id handler.first) }
 {
     let heap = Heap {
         tables,
         strings,
         string_meta,
     };
-    match index_of(heap, object, key) {
+    let outcome = settled_by(heap, kind, object, key)?;
+    match outcome {
         Outcome::Ask { handler, first } => handler_by(handler, first),
         _ => None,
+    }
+}
+
+/// What the operation comes to. None is said of an operator on other values than integers and tables.
+fn settled_by(heap: Heap, kind: Kind, left: Value, right: Value) -> Option<Outcome>
+    ensures { IfSome result (λ o. does (operation_of kind) (value heap.entry.strings.now left ∷ value heap.entry.strings.now right ∷ []) (heap_of heap.entry) ≡ settled heap.entry.strings.now (heap_of heap.entry) (value heap.entry.strings.now right ∷ []) o) }
+{
+    match kind {
+        Kind::Read => Some(index_of(heap, left, right)),
+        Kind::Operator(event) => operated(heap, event, left, right),
+    }
+}
+
+/// What an operator comes to.
+fn operated(heap: Heap, event: Event, left: Value, right: Value) -> Option<Outcome>
+    ensures { IfSome result (λ o. does (computes (event_of event)) (value heap.entry.strings.now left ∷ value heap.entry.strings.now right ∷ []) (heap_of heap.entry) ≡ settled heap.entry.strings.now (heap_of heap.entry) (value heap.entry.strings.now right ∷ []) o) }
+{
+    if !is_there(heap, left) {
+        return None;
+    }
+    if !is_there(heap, right) {
+        return None;
+    }
+    Some(arithmetic(heap, event, left, right))
+}
+
+/// Whether it is an integer or a table.
+fn is_there(heap: Heap, v: Value) -> bool
+    ensures { result ≡ true → IsThere heap.entry v }
+{
+    match v {
+        Value::Int(_) => true,
+        Value::Table(id) => id.0 < heap.tables.len(),
+        _ => false,
     }
 }
 

@@ -1,7 +1,7 @@
 use Rattle.std.proofs.Common.{◌≡◌, ◌≤◌, ◌+◌, length, None, rules, arith, subst, sym}
 use Rattle.std.specs.Prelude.{IfSome}
 use Rattle.int_core.specs.Limits.{greatest_depth}
-use Rattle.running_frame.specs.Asking.{IsAsked}
+use Rattle.running_frame.specs.Asking.{IsAsked, operation_of}
 use Rattle.running_frame.specs.Inheriting.{metatable_number}
 use Rattle.running_frame.proofs.asking.call_asked.Goals as goal
 
@@ -18,6 +18,8 @@ returns c =
       are = c.registers.ensures;
       object = c.in_ok-field.field.object;
       names = c.in_ok-field.ensures;
+      operation = operation_of c.in_ok-kind.kind;
+      is_operation = c.in_ok-kind.ensures;
       asks = c.in_ok-handler.ensures;
       has = c.in_ok-shape.ensures;
       room = deep;
