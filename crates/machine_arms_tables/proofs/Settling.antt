@@ -21,7 +21,7 @@ use Rattle.table_core.specs.declared.value.StrId.{StrId}
 use Rattle.table_core.specs.declared.value.TableId.{TableId}
 use Rattle.table_core.specs.declared.value.Value.{Value as Kept}
 use Rattle.table_core.specs.declared.value.Value.TheVariants.{Nil, Int, Str, Table}
-use Rattle.machine_arms_tables.specs.Fields.{is_raw, field_in, takes, with_field, Settles}
+use Rattle.machine_arms_tables.specs.Fields.{is_raw, field_in, takes, with_field, LacksHandler, Settles}
 
 -- a chain of handlers that is settled by its first link, whatever would follow
 pub index_at : (links : ℕ) (H : Heap) (o key : Value) (answer : Settled) → ((follow : Value → Settled) → indexed H o (raw_get H o key) follow ≡ answer) → index_of links H o key ≡ answer
@@ -160,6 +160,15 @@ module _ (texts : List (List ℕ)) (meta : Option ℕ) (tables : List Contents) 
           present_by (heap texts tables meta) (object a_table n) (value texts key) (value texts v) (value texts (get lua_values t.rows key)) _ follow (raw_is texts meta tables n t there law apart short key)
           (nil_is_nil texts (get lua_values t.rows key) ∙ not_true (is_nil_kept (get lua_values t.rows key)) r)
 
+  -- where there is no handler
+  pub store_unhandled : is_nil_kept key ≡ false → is_nil (handler_in (heap texts tables meta) of_newindex (object a_table n)) ≡ true
+      → store_of greatest_chain (heap texts tables meta) (object a_table n) (value texts key) (value texts v) ≡ found (heap texts (slice_set tables n (with_field t key v)) meta) []
+  store_unhandled named none =
+      store_at greatest_chain (heap texts tables meta) (object a_table n) (value texts key) (value texts v) _ (λ follow.
+      taken_by (heap texts tables meta) (object a_table n) (value texts key) (value texts v) (value texts (get lua_values t.rows key)) _ follow (raw_is texts meta tables n t there law apart short key) none)
+      ∙ set_named (heap texts tables meta) n texts key (value texts v) named
+      ∙ ap (λ H. found H []) written_is
+
 pub store_settles : TablesAreRead → (tables : List Contents) (id : TableId) (t : Contents) (key v : Kept) → slice_get tables id.0 ≡ Some t → takes t key ≡ true
     → (texts : List (List ℕ)) → Settles texts store (Table id ∷ key ∷ v ∷ []) tables (slice_set tables id.0 (with_field t key v)) []
 store_settles law tables id t key v there e texts =
@@ -198,6 +207,20 @@ put_settles law tables id t u holder key v None is there taken put = tt
 put_settles law tables id t u holder key v (Some x) is there taken put = λ texts.
     subst (λ u. Settles texts store (holder ∷ key ∷ v ∷ []) tables (slice_set tables id.0 u) []) (sym put)
     (subst (λ o. Settles texts store (o ∷ key ∷ v ∷ []) tables (slice_set tables id.0 (with_field t key v)) []) (sym is) (store_settles law tables id t key v there (true_is taken) texts))
+
+-- so where the table's metatable has no handler
+
+pub any_metatable : (texts : List (List ℕ)) (tables : List Contents) (m n : Option ℕ) (event : Event) (id : ℕ) → handler_in (heap texts tables m) event (object a_table id) ≡ handler_in (heap texts tables n) event (object a_table id)
+any_metatable texts tables m n event id = refl
+
+pub unhandled_settles : {U : Type 0} → TablesAreRead → (texts : List (List ℕ)) (tables : List Contents) (id : TableId) (t u : Contents) (holder key v : Kept) (o : Option U) → holder ≡ Table id → slice_get tables id.0 ≡ Some t
+    → LacksHandler texts tables id.0 → IfSome o (λ _. is_nil_kept key ≡ false) → IfSome o (λ _. u ≡ with_field t key v)
+    → IfSome o (λ _. Settles texts store (holder ∷ key ∷ v ∷ []) tables (slice_set tables id.0 u) [])
+unhandled_settles law texts tables id t u holder key v None is there lacks named put = tt
+unhandled_settles law texts tables id t u holder key v (Some x) is there lacks named put =
+    subst (λ u. Settles texts store (holder ∷ key ∷ v ∷ []) tables (slice_set tables id.0 u) []) (sym put)
+    (subst (λ o. Settles texts store (o ∷ key ∷ v ∷ []) tables (slice_set tables id.0 (with_field t key v)) []) (sym is)
+    (record { settled = λ meta apart short. store_unhandled texts meta tables id.0 t there law apart short key v named (lacks meta) }))
 
 pub object_kept : {A U : Type 0} (p : Pool A) (n : ℕ) (t u : A) (o : Option U) → slice_get p.objects n ≡ Some t → IfNone o (u ≡ t) → IfNone o (with_object p n u ≡ p)
 object_kept p n t u (Some x) there same = tt

@@ -1,8 +1,8 @@
 -- Fields that are read and written without a handler, in tables as they are kept, and cells that are closed (Lua 5.4 manual, 2.4 and 3.5).
 use Rattle.std.specs.Prelude.{◌≡◌, ℕ, Bool, true, cond, not, List, map, Option, Some, None, slice_get, slice_set}
-use Rattle.int_core.specs.Operations.{Operation, found, does}
+use Rattle.int_core.specs.Operations.{Operation, found, does, handler_in, of_newindex}
 use Rattle.int_core.specs.Rows.{get, set}
-use Rattle.int_core.specs.Value.{bind}
+use Rattle.int_core.specs.Value.{a_table, bind, object, is_nil as is_nothing}
 use Rattle.lua_heap.specs.Plain.{heap}
 use Rattle.lua_heap.specs.Reading.{value}
 use Rattle.lua_heap.specs.Strings.{AreApart, AreShort}
@@ -49,6 +49,10 @@ takes t key = cond (is_nil key) (not true) (is_raw t key)
 
 abbrev pub with_field : Contents → (key v : Value) → Contents
 with_field t key v = record t { rows = set lua_values t.rows key v }
+
+-- a table's metatable has no handler for stores, whatever the metatable of strings is
+abbrev pub LacksHandler : List (List ℕ) → List Contents → ℕ → Type 0
+LacksHandler texts tables n = (meta : Option ℕ) → is_nothing (handler_in (heap texts tables meta) of_newindex (object a_table n)) ≡ true
 
 -- an operation on values is settled at once, and leaves the tables so
 pub record Settles (texts : List (List ℕ)) (op : Operation) (operands : List Value) (tables tables' : List Contents) (values : List Value) : Type 0 where

@@ -86,10 +86,19 @@ fn run_on_objects(
         Opcode::GetTable => get_element(closure, strings, tables, registers, i, pc, Reach::Own),
         Opcode::GetI => get_integer(closure, strings, tables, registers, i, pc, Reach::Own),
         Opcode::GetField => get_field(closure, strings, tables, registers, i, pc, Reach::Own),
-        Opcode::SetTabUp => set_upvalue_field(closure, tables, cells, registers, i, pc),
-        Opcode::SetTable => set_element(closure, tables, registers, i, pc),
-        Opcode::SetI => set_integer(closure, tables, registers, i, pc),
-        Opcode::SetField => set_field(closure, tables, registers, i, pc),
+        Opcode::SetTabUp => set_upvalue_field(
+            closure,
+            strings,
+            tables,
+            cells,
+            registers,
+            i,
+            pc,
+            Reach::Own,
+        ),
+        Opcode::SetTable => set_element(closure, strings, tables, registers, i, pc, Reach::Own),
+        Opcode::SetI => set_integer(closure, strings, tables, registers, i, pc, Reach::Own),
+        Opcode::SetField => set_field(closure, strings, tables, registers, i, pc, Reach::Own),
         Opcode::OpSelf => get_method(closure, strings, tables, registers, i, pc, Reach::Own),
         Opcode::Len => get_length(closure, strings, tables, registers, i, pc),
         Opcode::NewTable => new_table(closure, tables, registers, i, pc),
@@ -126,6 +135,35 @@ pub fn settle_beyond(
         Opcode::Eq => equal_tables(closure, strings, tables, registers, i, pc),
         Opcode::Lt => less_texts(closure, strings, tables, registers, i, pc),
         Opcode::Le => less_equal_texts(closure, strings, tables, registers, i, pc),
+        _ => None,
+    }
+}
+
+/// Puts a value into a field of a table whose metatable has no handler for stores, and answers where the frame goes on. `None`, with all as before, at any other
+/// instruction, where a handler decides it, where it is an error, and where memory is wanting.
+#[inline(never)]
+pub fn store_beyond(
+    op: Opcode,
+    closure: Closure,
+    strings: &Strings,
+    tables: &mut Pool<Table>,
+    cells: &Pool<Cell>,
+    registers: &[Value],
+    i: Instruction,
+    pc: usize,
+) -> Option<usize>
+    requires { IsAt op i closure.words.now closure.constants.now registers.now pc }
+    ensures goes { IfSome result (λ to. (fuel : ℕ) → Leads op i (code closure.entry strings.now) (moment tables.old.objects cells.now.objects registers.now pc fuel) (moment tables.new.objects cells.now.objects registers.now to fuel)) }
+    ensures kept { IfNone result (tables.new ≡ tables.old) }
+{
+    let far = Reach::Inherited;
+    match op {
+        Opcode::SetTabUp => {
+            set_upvalue_field(closure, strings, tables, cells, registers, i, pc, far)
+        }
+        Opcode::SetTable => set_element(closure, strings, tables, registers, i, pc, far),
+        Opcode::SetI => set_integer(closure, strings, tables, registers, i, pc, far),
+        Opcode::SetField => set_field(closure, strings, tables, registers, i, pc, far),
         _ => None,
     }
 }

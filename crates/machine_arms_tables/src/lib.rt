@@ -10,8 +10,9 @@ mod instruction;
 mod lengths;
 mod making;
 mod reads;
+mod unhandled;
 mod upvalues;
 mod writes;
 
 pub use closure::{Closure, set_register};
-pub use instruction::{run_instruction, settle_beyond};
+pub use instruction::{run_instruction, settle_beyond, store_beyond};

@@ -1,5 +1,5 @@
 -- A GETUPVAL of a variable of a frame below is a step that writes its value to a register, and reads of the loop that look around are steps.
-use Rattle.std.proofs.Common.{◌≡◌, ◌⊎◌, inl, inr, ℕ, ◌+◌, List, [], ◌∷◌, ◌++◌, map, Option, Some, None, refl, ap, sym, subst, ◌∙◌}
+use Rattle.std.proofs.Common.{◌≡◌, inl, inr, ℕ, ◌+◌, List, [], ◌∷◌, ◌++◌, map, Option, Some, None, refl, ap, sym, subst, ◌∙◌}
 use Rattle.std.specs.Prelude.{IfSome, slice_get, slice_set}
 use Rattle.std.proofs.lemmas.Option.{IfSome_then}
 use Rattle.code_core.specs.Instruction.{a_of, b_of}
@@ -30,7 +30,7 @@ use Rattle.machine_arms_tables.specs.Frame.{AreOpenAlike, Code, IsReadyAt, Momen
 use Rattle.machine_arms_tables.proofs.Steps.{at_opcode, stepped_by, stepped_run, steps_on, steps_when}
 use Rattle.machine_loop.specs.declared.memo.Known.{Known}
 use Rattle.machine_loop.specs.declared.memo.Memo.{Memo}
-use Rattle.machine_loop.specs.Around.{GoesAround, ReadsAbove}
+use Rattle.machine_loop.specs.Around.{GoesAround, GoesBeyond}
 use Rattle.machine_loop.specs.Knowing.{Adds, AllHold, HasValue, ReadsKnown, Remembers, Tells, by_first, by_second, by_third, to_first, to_second, to_third}
 use Rattle.machine_loop.specs.Running.{IsStep, Running}
 use Rattle.machine_loop.proofs.Alike.{still_open}
@@ -151,41 +151,39 @@ module _ (g : Running) (k : Code) (m : Moment) (here : IsReadyAt g.around g.stri
     known_steps : StepsOn g.around g.string_metatable k m (moment m.tables m.cells q to m.fuel)
     known_steps = steps_when g.around g.string_metatable k m here (moment m.tables m.cells q to m.fuel) refl (known_one.is g.around.rows)
 
-  module _ (q : List Kept) (to : ℕ) (x : ReadsAbove k m.tables m.cells m.registers q m.pc to) where
-    at_above : IsAt x.op x.word k.words k.constants m.registers m.pc
-    at_above = at_opcode g.around g.string_metatable k m here x.word x.op x.at_pc x.is_opcode
+  module _ (us : List Contents) (q : List Kept) (to : ℕ) (x : GoesBeyond k m.tables us m.cells m.registers q m.pc to) where
+    at_beyond : IsAt x.op x.word k.words k.constants m.registers m.pc
+    at_beyond = at_opcode g.around g.string_metatable k m here x.word x.op x.at_pc x.is_opcode
 
-    above_one : IsStep g m (moment m.tables m.cells q to m.fuel)
-    above_one = record { is = λ rows. stepped_by g.around g.string_metatable k m here rows (moment m.tables m.cells q to m.fuel) x.op x.word at_above (x.leads m.fuel) }
+    beyond_one : IsStep g m (moment us m.cells q to m.fuel)
+    beyond_one = record { is = λ rows. stepped_by g.around g.string_metatable k m here rows (moment us m.cells q to m.fuel) x.op x.word at_beyond (x.leads m.fuel) }
 
-    above_steps : StepsOn g.around g.string_metatable k m (moment m.tables m.cells q to m.fuel)
-    above_steps = steps_on g.around g.string_metatable k m here (moment m.tables m.cells q to m.fuel) x.op x.word at_above (x.leads m.fuel)
+    beyond_steps : StepsOn g.around g.string_metatable k m (moment us m.cells q to m.fuel)
+    beyond_steps = steps_on g.around g.string_metatable k m here (moment us m.cells q to m.fuel) x.op x.word at_beyond (x.leads m.fuel)
 
-  module _ (memo : Memo) (holds : AllHold g.around k.upvalues m.cells memo) (q : List Kept) (to : ℕ) where
-    around_one : GoesAround k m.tables m.cells memo m.registers q m.pc to → IsStep g m (moment m.tables m.cells q to m.fuel)
-    around_one (inl x) = known_one memo holds q to x
-    around_one (inr x) = above_one q to x
+  module _ (memo : Memo) (holds : AllHold g.around k.upvalues m.cells memo) (us : List Contents) (q : List Kept) (to : ℕ) where
+    around_one : GoesAround k m.tables us m.cells memo m.registers q m.pc to → IsStep g m (moment us m.cells q to m.fuel)
+    around_one (inl x) = subst (λ us. IsStep g m (moment us m.cells q to m.fuel)) (sym x.1) (known_one memo holds q to x.0)
+    around_one (inr x) = beyond_one us q to x
 
-    around_steps : GoesAround k m.tables m.cells memo m.registers q m.pc to → StepsOn g.around g.string_metatable k m (moment m.tables m.cells q to m.fuel)
-    around_steps (inl x) = known_steps memo holds q to x
-    around_steps (inr x) = above_steps q to x
+    around_steps : GoesAround k m.tables us m.cells memo m.registers q m.pc to → StepsOn g.around g.string_metatable k m (moment us m.cells q to m.fuel)
+    around_steps (inl x) = subst (λ us. StepsOn g.around g.string_metatable k m (moment us m.cells q to m.fuel)) (sym x.1) (known_steps memo holds q to x.0)
+    around_steps (inr x) = beyond_steps us q to x
 
   -- where an instruction was tried that left all as it was
-  module _ (memo : Memo) (holds : AllHold g.around k.upvalues m.cells memo) (o : Option ℕ) (ts : List Contents) (cs : List KeptCell) (r q : List Kept) (left : ℕ)
-      (t : ts ≡ m.tables) (c : cs ≡ m.cells) (e : r ≡ m.registers) (l : left ≡ m.fuel) (x : IfSome o (λ to. GoesAround k ts cs memo r q m.pc to)) where
-    goes_now : IfSome o (λ to. GoesAround k m.tables m.cells memo m.registers q m.pc to)
+  module _ (memo : Memo) (holds : AllHold g.around k.upvalues m.cells memo) (o : Option ℕ) (ts us : List Contents) (cs : List KeptCell) (r q : List Kept) (left : ℕ)
+      (t : ts ≡ m.tables) (c : cs ≡ m.cells) (e : r ≡ m.registers) (l : left ≡ m.fuel) (x : IfSome o (λ to. GoesAround k ts us cs memo r q m.pc to)) where
+    goes_now : IfSome o (λ to. GoesAround k m.tables us m.cells memo m.registers q m.pc to)
     goes_now =
-        subst (λ ts. IfSome o (λ to. GoesAround k ts m.cells memo m.registers q m.pc to)) t
-        (subst (λ cs. IfSome o (λ to. GoesAround k ts cs memo m.registers q m.pc to)) c (subst (λ r. IfSome o (λ to. GoesAround k ts cs memo r q m.pc to)) e x))
+        subst (λ ts. IfSome o (λ to. GoesAround k ts us m.cells memo m.registers q m.pc to)) t
+        (subst (λ cs. IfSome o (λ to. GoesAround k ts us cs memo m.registers q m.pc to)) c (subst (λ r. IfSome o (λ to. GoesAround k ts us cs memo r q m.pc to)) e x))
 
-    pub steps_then : IfSome o (λ to. StepsOn g.around g.string_metatable k m (moment ts cs q to left))
+    pub steps_then : IfSome o (λ to. StepsOn g.around g.string_metatable k m (moment us cs q to left))
     steps_then =
-        subst (λ ts. IfSome o (λ to. StepsOn g.around g.string_metatable k m (moment ts cs q to left))) (sym t)
-        (subst (λ cs. IfSome o (λ to. StepsOn g.around g.string_metatable k m (moment m.tables cs q to left))) (sym c)
-        (subst (λ left. IfSome o (λ to. StepsOn g.around g.string_metatable k m (moment m.tables m.cells q to left))) (sym l) (IfSome_then o goes_now (λ to y. around_steps memo holds q to y))))
+        subst (λ cs. IfSome o (λ to. StepsOn g.around g.string_metatable k m (moment us cs q to left))) (sym c)
+        (subst (λ left. IfSome o (λ to. StepsOn g.around g.string_metatable k m (moment us m.cells q to left))) (sym l) (IfSome_then o goes_now (λ to y. around_steps memo holds us q to y)))
 
-    pub one_then : IfSome o (λ to. IsStep g m (moment ts cs q to left))
+    pub one_then : IfSome o (λ to. IsStep g m (moment us cs q to left))
     one_then =
-        subst (λ ts. IfSome o (λ to. IsStep g m (moment ts cs q to left))) (sym t)
-        (subst (λ cs. IfSome o (λ to. IsStep g m (moment m.tables cs q to left))) (sym c)
-        (subst (λ left. IfSome o (λ to. IsStep g m (moment m.tables m.cells q to left))) (sym l) (IfSome_then o goes_now (λ to y. around_one memo holds q to y))))
+        subst (λ cs. IfSome o (λ to. IsStep g m (moment us cs q to left))) (sym c)
+        (subst (λ left. IfSome o (λ to. IsStep g m (moment us m.cells q to left))) (sym l) (IfSome_then o goes_now (λ to y. around_one memo holds us q to y)))

@@ -1,66 +1,89 @@
-// Reads that the loop does beside the instructions of the frame by itself: of variables of frames below whose values are known, and of fields that handlers
-// which are tables lead to.
+// What the loop does beside the instructions of the frame by itself: reads of variables of frames below whose values are known, reads of fields that handlers which
+// are tables lead to, comparisons of tables and of strings, and stores to fields of tables whose metatables have no handler for stores.
 ghost use Rattle.std.specs.Prelude.{◌≡◌, IfNone, IfSome};
 ghost use Rattle.machine_arms_tables.specs.Frame.{code};
-ghost use Rattle.machine_loop.specs.Around.{GoesAround, ReadsAbove};
+ghost use Rattle.machine_loop.specs.Around.{GoesAround, GoesBeyond};
 ghost use Rattle.machine_view.specs.Law.{HasInstruction};
 
 use crate::decoding::{number_in, opcode_in};
 use crate::memo::{Memo, read_known};
 use code_core::{Instruction, Opcode, fetch};
 use lua_heap::{Cell, Strings};
-use machine_arms_tables::{Closure, settle_beyond};
+use machine_arms_tables::{Closure, settle_beyond, store_beyond};
 use object_pool::Pool;
 use table_core::{Table, Value};
 
-/// Does such a read, and answers where the frame goes on. `None`, with all as before, at any other instruction.
+/// Does such a read, comparison or store, and answers where the frame goes on. `None`, with all as before, at any other instruction.
 #[inline(always)]
 pub(crate) fn go_around(
     closure: Closure,
     strings: &Strings,
-    tables: &Pool<Table>,
+    tables: &mut Pool<Table>,
     cells: &Pool<Cell>,
     registers: &mut [Value],
     memo: &Memo,
     pc: usize,
 ) -> Option<usize>
     requires { HasInstruction closure.words.now closure.constants.now registers.old pc }
-    ensures goes { IfSome result (λ to. GoesAround (code closure.entry strings.now) tables.now.objects cells.now.objects memo.now registers.old registers.new pc to) }
-    ensures kept { IfNone result (registers.new ≡ registers.old) }
+    ensures goes { IfSome result (λ to. GoesAround (code closure.entry strings.now) tables.old.objects tables.new.objects cells.now.objects memo.now registers.old registers.new pc to) }
+    ensures tables { IfNone result (tables.new ≡ tables.old) }
+    ensures registers { IfNone result (registers.new ≡ registers.old) }
 {
     match read_known(closure, registers, memo, pc) {
         Some(to) => Some(to),
-        None => read_beyond(closure, strings, tables, cells, registers, pc),
+        None => go_beyond(closure, strings, tables, cells, registers, pc),
     }
 }
 
-/// Does such a read or comparison, where the number of the opcode may be that of one: at all other instructions, as a CALL, the loop is left without another look
-/// at the opcode.
+/// Does one that looks beyond a value itself, where the number of the opcode may be that of one: at all other instructions, as a CALL, the loop is left without
+/// another look at the opcode.
 #[inline(always)]
-fn read_beyond(
+fn go_beyond(
     closure: Closure,
     strings: &Strings,
-    tables: &Pool<Table>,
+    tables: &mut Pool<Table>,
     cells: &Pool<Cell>,
     registers: &mut [Value],
     pc: usize,
 ) -> Option<usize>
     requires { HasInstruction closure.words.now closure.constants.now registers.old pc }
-    ensures reads { IfSome result (λ to. ReadsAbove (code closure.entry strings.now) tables.now.objects cells.now.objects registers.old registers.new pc to) }
-    ensures kept { IfNone result (registers.new ≡ registers.old) }
+    ensures goes { IfSome result (λ to. GoesBeyond (code closure.entry strings.now) tables.old.objects tables.new.objects cells.now.objects registers.old registers.new pc to) }
+    ensures tables { IfNone result (tables.new ≡ tables.old) }
+    ensures registers { IfNone result (registers.new ≡ registers.old) }
 {
     let i = fetch(closure.words, pc);
-    if !may_read(i) {
+    if !may_look_beyond(i) {
         return None;
     }
-    read_above(closure, strings, tables, cells, registers, pc)
+    go_above(closure, strings, tables, cells, registers, pc)
 }
 
-/// Whether an opcode's number is from that of GETTABUP to that of SELF, among which are all that read a field, or from that of EQ to that of LE.
+/// Whether an opcode's number is from that of GETTABUP to that of SELF, among which are all that read a field or store to one, or from that of EQ to that of LE.
 #[inline(always)]
-fn may_read(i: Instruction) -> bool {
+fn may_look_beyond(i: Instruction) -> bool {
     let number = number_in(i);
-    11 <= number && number <= 20 || 57 <= number && number <= 59
+    (11 <= number && number <= 20) || (57 <= number && number <= 59)
+}
+
+/// Does a read or comparison, or else a store.
+#[inline(always)]
+fn go_above(
+    closure: Closure,
+    strings: &Strings,
+    tables: &mut Pool<Table>,
+    cells: &Pool<Cell>,
+    registers: &mut [Value],
+    pc: usize,
+) -> Option<usize>
+    requires { HasInstruction closure.words.now closure.constants.now registers.old pc }
+    ensures goes { IfSome result (λ to. GoesBeyond (code closure.entry strings.now) tables.old.objects tables.new.objects cells.now.objects registers.old registers.new pc to) }
+    ensures tables { IfNone result (tables.new ≡ tables.old) }
+    ensures registers { IfNone result (registers.new ≡ registers.old) }
+{
+    match read_above(closure, strings, tables, cells, registers, pc) {
+        Some(to) => Some(to),
+        None => store_above(closure, strings, tables, cells, registers, pc),
+    }
 }
 
 /// Reads a field that handlers lead to, or compares two tables or two strings.
@@ -74,7 +97,7 @@ fn read_above(
     pc: usize,
 ) -> Option<usize>
     requires { HasInstruction closure.words.now closure.constants.now registers.old pc }
-    ensures reads { IfSome result (λ to. ReadsAbove (code closure.entry strings.now) tables.now.objects cells.now.objects registers.old registers.new pc to) }
+    ensures reads { IfSome result (λ to. GoesBeyond (code closure.entry strings.now) tables.now.objects tables.now.objects cells.now.objects registers.old registers.new pc to) }
     ensures kept { IfNone result (registers.new ≡ registers.old) }
 {
     let i = fetch(closure.words, pc);
@@ -83,6 +106,28 @@ fn read_above(
         return None;
     }
     settle_beyond(op, closure, strings, tables, cells, registers, i, pc)
+}
+
+/// Puts a value into a field of a table whose metatable has no handler for stores.
+#[inline(always)]
+fn store_above(
+    closure: Closure,
+    strings: &Strings,
+    tables: &mut Pool<Table>,
+    cells: &Pool<Cell>,
+    registers: &[Value],
+    pc: usize,
+) -> Option<usize>
+    requires { HasInstruction closure.words.now closure.constants.now registers.now pc }
+    ensures stores { IfSome result (λ to. GoesBeyond (code closure.entry strings.now) tables.old.objects tables.new.objects cells.now.objects registers.now registers.now pc to) }
+    ensures kept { IfNone result (tables.new ≡ tables.old) }
+{
+    let i = fetch(closure.words, pc);
+    let op = opcode_in(i)?;
+    if !stores_beyond(op) {
+        return None;
+    }
+    store_beyond(op, closure, strings, tables, cells, registers, i, pc)
 }
 
 /// Whether an instruction reads a field or compares two registers.
@@ -98,5 +143,14 @@ fn looks_beyond(op: Opcode) -> bool {
             | Opcode::Eq
             | Opcode::Lt
             | Opcode::Le
+    )
+}
+
+/// Whether it stores to a field.
+#[inline(always)]
+fn stores_beyond(op: Opcode) -> bool {
+    matches!(
+        op,
+        Opcode::SetTabUp | Opcode::SetTable | Opcode::SetI | Opcode::SetField
     )
 }

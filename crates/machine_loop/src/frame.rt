@@ -39,8 +39,8 @@ fn step_frame(
     run_instruction(op, closure, strings, tables, cells, registers, i, pc, fuel)
 }
 
-/// Runs one instruction, or does a read that looks beyond the frame or beyond a table, and answers where the frame goes on. `None`, with all as before, at
-/// any other instruction.
+/// Runs one instruction, or does a read, a comparison or a store that looks beyond the frame or beyond a value itself, and answers where the frame goes on. `None`,
+/// with all as before, at any other instruction.
 #[inline(always)]
 fn go_on(
     closure: Closure,
@@ -70,8 +70,8 @@ fn go_on(
 
 /// Runs instructions of the frame on top from the place `start` on, and tells where it stops: at one that takes more than the frame. It does stop, since each
 /// step of the machine comes nearer to the end of the turn. The world's frame stands there, and is ready for a step of any kind: what the loop did is some
-/// steps. Of variables in frames below, of which it has no registers, it reads those whose values are known, and of fields those that handlers which are tables
-/// lead to as well.
+/// steps. Of variables in frames below, of which it has no registers, it reads those whose values are known, of fields those that handlers which are tables lead
+/// to as well, and it stores to those of tables whose metatables have no handler for stores.
 #[inline(never)]
 pub fn run_frame(
     closure: Closure,

@@ -20,16 +20,16 @@ pub returns-in-GetField-clause-goes : goal.returns-in-GetField-clause-goes
 returns-in-GetField-clause-goes c = if_some c.get_field.result (λ to goes fuel. by_opcode c.in-GetField.is (goes c.args.cells.now.objects fuel)) c.get_field.ensures.goes
 
 pub returns-in-SetTabUp-clause-goes : goal.returns-in-SetTabUp-clause-goes
-returns-in-SetTabUp-clause-goes c = if_some c.set_upvalue_field.result (λ to goes fuel. by_opcode c.in-SetTabUp.is (goes c.args.strings.now fuel)) c.set_upvalue_field.ensures.goes
+returns-in-SetTabUp-clause-goes c = if_some c.set_upvalue_field.result (λ to goes fuel. by_opcode c.in-SetTabUp.is (goes fuel)) c.set_upvalue_field.ensures.goes
 
 pub returns-in-SetTable-clause-goes : goal.returns-in-SetTable-clause-goes
-returns-in-SetTable-clause-goes c = if_some c.set_element.result (λ to goes fuel. by_opcode c.in-SetTable.is (goes c.args.strings.now c.args.cells.now.objects fuel)) c.set_element.ensures.goes
+returns-in-SetTable-clause-goes c = if_some c.set_element.result (λ to goes fuel. by_opcode c.in-SetTable.is (goes c.args.cells.now.objects fuel)) c.set_element.ensures.goes
 
 pub returns-in-SetI-clause-goes : goal.returns-in-SetI-clause-goes
-returns-in-SetI-clause-goes c = if_some c.set_integer.result (λ to goes fuel. by_opcode c.in-SetI.is (goes c.args.strings.now c.args.cells.now.objects fuel)) c.set_integer.ensures.goes
+returns-in-SetI-clause-goes c = if_some c.set_integer.result (λ to goes fuel. by_opcode c.in-SetI.is (goes c.args.cells.now.objects fuel)) c.set_integer.ensures.goes
 
 pub returns-in-SetField-clause-goes : goal.returns-in-SetField-clause-goes
-returns-in-SetField-clause-goes c = if_some c.set_field.result (λ to goes fuel. by_opcode c.in-SetField.is (goes c.args.strings.now c.args.cells.now.objects fuel)) c.set_field.ensures.goes
+returns-in-SetField-clause-goes c = if_some c.set_field.result (λ to goes fuel. by_opcode c.in-SetField.is (goes c.args.cells.now.objects fuel)) c.set_field.ensures.goes
 
 pub returns-in-OpSelf-clause-goes : goal.returns-in-OpSelf-clause-goes
 returns-in-OpSelf-clause-goes c = if_some c.get_method.result (λ to goes fuel. by_opcode c.in-OpSelf.is (goes c.args.cells.now.objects fuel)) c.get_method.ensures.goes

@@ -26,5 +26,5 @@ pub next-requires : goal.next-requires
 next-requires c = next_there c.requires refl
 
 pub returns-clause-goes : goal.returns-clause-goes
-returns-clause-goes c texts =
-    set_element_does (code c.args.closure texts) c.requires (got c.args.registers.now c.a.ensures c.register-object.ensures) (got c.args.registers.now c.b.ensures c.register-key.ensures) c.operand-v.ensures (c.in_ok-put_field.ensures.settles texts) c.next.ensures
+returns-clause-goes c =
+    set_element_does (code c.args.closure c.args.strings.now) c.requires (got c.args.registers.now c.a.ensures c.register-object.ensures) (got c.args.registers.now c.b.ensures c.register-key.ensures) c.operand-v.ensures c.in_ok-put_within.ensures.settles c.next.ensures

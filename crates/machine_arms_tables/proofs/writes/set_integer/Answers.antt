@@ -20,5 +20,5 @@ pub next-requires : goal.next-requires
 next-requires c = next_there c.requires refl
 
 pub returns-clause-goes : goal.returns-clause-goes
-returns-clause-goes c texts =
-    set_integer_does (code c.args.closure texts) c.requires (got c.args.registers.now c.a.ensures c.register-object.ensures) c.operand-v.ensures (stored_at c.spelled-key.ensures c.b.ensures (c.in_ok-put_field.ensures.settles texts)) c.next.ensures
+returns-clause-goes c =
+    set_integer_does (code c.args.closure c.args.strings.now) c.requires (got c.args.registers.now c.a.ensures c.register-object.ensures) c.operand-v.ensures (stored_at c.spelled-key.ensures c.b.ensures c.in_ok-put_within.ensures.settles) c.next.ensures

@@ -21,5 +21,5 @@ pub next-requires : goal.next-requires
 next-requires c = next_there c.requires refl
 
 pub returns-clause-goes : goal.returns-clause-goes
-returns-clause-goes c texts =
-    set_upvalue_field_does (code c.args.closure texts) c.requires (named_so (λ n. upvalue_in c.args.closure.upvalues.now c.args.cells.now.objects n) c.a.ensures c.in_ok-object.ensures) (got c.args.closure.constants.now c.b.ensures c.constant-key.ensures) c.operand-v.ensures (c.in_ok-put_field.ensures.settles texts) c.next.ensures
+returns-clause-goes c =
+    set_upvalue_field_does (code c.args.closure c.args.strings.now) c.requires (named_so (λ n. upvalue_in c.args.closure.upvalues.now c.args.cells.now.objects n) c.a.ensures c.in_ok-object.ensures) (got c.args.closure.constants.now c.b.ensures c.constant-key.ensures) c.operand-v.ensures c.in_ok-put_within.ensures.settles c.next.ensures

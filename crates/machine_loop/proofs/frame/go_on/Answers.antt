@@ -38,7 +38,7 @@ returns-in-None-clause-steps g c =
     let r : c.step_frame.new.registers ≡ c.args.registers.now = search rules in
     let l : c.step_frame.new.fuel ≡ c.args.fuel.now = search rules in
     steps_then g.g (code c.args.closure c.args.strings.now) (moment c.args.tables.now.objects c.args.cells.now.objects c.args.registers.now c.args.pc c.args.fuel.now) c.requires.0 c.args.memo.now c.requires.1 c.go_around.result
-    c.step_frame.new.tables.objects c.step_frame.new.cells.objects c.step_frame.new.registers c.go_around.new.registers c.step_frame.new.fuel t s r l c.go_around.ensures.goes
+    c.step_frame.new.tables.objects c.go_around.new.tables.objects c.step_frame.new.cells.objects c.step_frame.new.registers c.go_around.new.registers c.step_frame.new.fuel t s r l c.go_around.ensures.goes
 
 pub returns-in-None-clause-one : goal.returns-in-None-clause-one
 returns-in-None-clause-one g c =
@@ -49,24 +49,24 @@ returns-in-None-clause-one g c =
     let r : c.step_frame.new.registers ≡ c.args.registers.now = search rules in
     let l : c.step_frame.new.fuel ≡ c.args.fuel.now = search rules in
     one_then g.g (code c.args.closure c.args.strings.now) (moment c.args.tables.now.objects c.args.cells.now.objects c.args.registers.now c.args.pc c.args.fuel.now) c.requires.0 c.args.memo.now c.requires.1 c.go_around.result
-    c.step_frame.new.tables.objects c.step_frame.new.cells.objects c.step_frame.new.registers c.go_around.new.registers c.step_frame.new.fuel t s r l c.go_around.ensures.goes
+    c.step_frame.new.tables.objects c.go_around.new.tables.objects c.step_frame.new.cells.objects c.step_frame.new.registers c.go_around.new.registers c.step_frame.new.fuel t s r l c.go_around.ensures.goes
 
 pub returns-in-None-clause-tables : goal.returns-in-None-clause-tables
 returns-in-None-clause-tables g c =
     let t : c.step_frame.new.tables ≡ c.args.tables.now = search rules in
-    none_then c.go_around.result (λ _. t) c.go_around.ensures.kept
+    none_then c.go_around.result (λ same. same ∙ t) c.go_around.ensures.tables
 
 pub returns-in-None-clause-cells : goal.returns-in-None-clause-cells
 returns-in-None-clause-cells g c =
     let s : c.step_frame.new.cells ≡ c.args.cells.now = search rules in
-    none_then c.go_around.result (λ _. s) c.go_around.ensures.kept
+    none_then c.go_around.result (λ _. s) c.go_around.ensures.registers
 
 pub returns-in-None-clause-registers : goal.returns-in-None-clause-registers
 returns-in-None-clause-registers g c =
     let r : c.step_frame.new.registers ≡ c.args.registers.now = search rules in
-    none_then c.go_around.result (λ same. same ∙ r) c.go_around.ensures.kept
+    none_then c.go_around.result (λ same. same ∙ r) c.go_around.ensures.registers
 
 pub returns-in-None-clause-unpaid : goal.returns-in-None-clause-unpaid
 returns-in-None-clause-unpaid g c =
     let l : c.step_frame.new.fuel ≡ c.args.fuel.now = search rules in
-    none_then c.go_around.result (λ _. l) c.go_around.ensures.kept
+    none_then c.go_around.result (λ _. l) c.go_around.ensures.registers

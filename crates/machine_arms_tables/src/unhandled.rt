@@ -1,0 +1,100 @@
+// Stores that the metatable of a table does not decide, since it has no handler for them: fields of objects of classes (luaV_finishset of lvm.c; Lua 5.4 manual, 2.4).
+ghost use Rattle.std.specs.Prelude.{◌≡◌, IfNone, IfSome, [], ◌∷◌, false, true};
+ghost use Rattle.int_core.specs.Operations.{store};
+ghost use Rattle.machine_arms_tables.specs.Fields.{LacksHandler, Settles, with_field};
+ghost use Rattle.table_core.specs.Value.{is_nil};
+
+use crate::fields::put_field;
+use crate::inherited::Reach;
+use lua_heap::{Strings, law};
+use meta_ops::{Event, Heap, handler_in};
+use object_pool::Pool;
+use table_core::{Key, Table, TableId, Value};
+
+/// Puts a value at a key of a value that is a table: where it has a value there or no metatable, and, where the reach is so far, where its metatable has no handler for
+/// stores. `None`, with all as before, where something else may decide it, where it is an error, and where memory is wanting.
+#[inline(always)]
+pub(crate) fn put_within(
+    strings: &Strings,
+    tables: &mut Pool<Table>,
+    object: Value,
+    key: Value,
+    v: Value,
+    reach: Reach,
+) -> Option<()>
+    ensures settles { IfSome result (λ _. Settles strings.now store (object ∷ key ∷ v ∷ []) tables.old.objects tables.new.objects []) }
+    ensures kept { IfNone result (tables.new ≡ tables.old) }
+{
+    match put_field(tables, object, key, v) {
+        Some(()) => Some(()),
+        None => put_above(strings, tables, object, key, v, reach),
+    }
+}
+
+/// Puts a value at a key of a table whose metatable may decide it.
+#[inline(always)]
+fn put_above(
+    strings: &Strings,
+    tables: &mut Pool<Table>,
+    object: Value,
+    key: Value,
+    v: Value,
+    reach: Reach,
+) -> Option<()>
+    ensures settles { IfSome result (λ _. Settles strings.now store (object ∷ key ∷ v ∷ []) tables.old.objects tables.new.objects []) }
+    ensures kept { IfNone result (tables.new ≡ tables.old) }
+{
+    match reach {
+        Reach::Own => None,
+        Reach::Inherited => put_unhandled(strings, tables, object, key, v),
+    }
+}
+
+/// Puts a value at a key of a table whose metatable has no handler for stores.
+fn put_unhandled(
+    strings: &Strings,
+    tables: &mut Pool<Table>,
+    object: Value,
+    key: Value,
+    v: Value,
+) -> Option<()>
+    ensures settles { IfSome result (λ _. Settles strings.now store (object ∷ key ∷ v ∷ []) tables.old.objects tables.new.objects []) }
+    ensures kept { IfNone result (tables.new ≡ tables.old) }
+{
+    law::tables_are_read();
+    let Value::Table(id) = object else {
+        return None;
+    };
+    if id.0 >= tables.len() {
+        return None;
+    }
+    if !lacks_handler(strings, tables, id) {
+        return None;
+    }
+    put_raw(tables.get_mut(id.0), key, v)
+}
+
+/// Whether a table's metatable has no handler for stores.
+fn lacks_handler(strings: &Strings, tables: &Pool<Table>, id: TableId) -> bool
+    ensures { result ≡ true → LacksHandler strings.now tables.now.objects id.0 }
+{
+    let heap = Heap {
+        tables,
+        strings,
+        string_meta: None,
+    };
+    match handler_in(heap, Event::NewIndex, Value::Table(id)) {
+        Value::Nil => true,
+        _ => false,
+    }
+}
+
+/// Puts a value at a key of a table, whatever its metatable says. `None`, with all as before, where the key is nil, and where memory is wanting.
+fn put_raw(table: &mut Table, key: Value, v: Value) -> Option<()>
+    ensures named { IfSome result (λ _. is_nil key ≡ false) }
+    ensures put { IfSome result (λ _. table.new ≡ with_field table.old key v) }
+    ensures kept { IfNone result (table.new ≡ table.old) }
+{
+    let named = Key::of(key)?;
+    table.set(named, v).ok()
+}
