@@ -8,3 +8,4 @@ mod CallForm
 mod TailForm
 mod MakeForm
 mod ConcatForm
+mod FillForm

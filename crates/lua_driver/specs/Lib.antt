@@ -3,4 +3,5 @@ pub mod Calling
 pub mod TailCalling
 pub mod Making
 pub mod Concatenating
+pub mod Filling
 pub mod Returning

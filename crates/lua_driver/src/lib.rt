@@ -4,6 +4,7 @@
 
 mod calling;
 mod concatenating;
+mod filling;
 mod making;
 mod returning;
 mod running;
