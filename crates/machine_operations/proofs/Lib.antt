@@ -10,3 +10,4 @@ pub mod Receivers
 pub mod Operated
 pub mod Came
 pub mod Awake
+pub mod Wholes

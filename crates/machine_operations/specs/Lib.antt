@@ -1,6 +1,7 @@
 pub mod Operands
 pub mod Following
 pub mod Joining
+pub mod WholeTexts
 pub mod Copying
 pub mod Operating
 pub mod Computing

@@ -1,10 +1,11 @@
 // Operands of a concatenation that are joined (luaV_concat of lvm.c).
-ghost use Rattle.std.specs.Prelude.{◌≡◌, ◌+◌, ◌<◌, ◌^◌, IfOk};
+ghost use Rattle.std.specs.Prelude.{◌≡◌, ◌+◌, ◌<◌, ◌≤◌, ◌^◌, IfOk};
 ghost use Rattle.meta_ops.specs.Heap.{IsIn};
 ghost use Rattle.move_laws.specs.Memory.{HasFrame, IsSound, ReadsSame};
 ghost use Rattle.machine_operations.specs.Joining.{Joins, MayJoin};
 
 use crate::concatenation::join_one;
+use crate::whole_texts::{join_whole, joined_text};
 use lua_heap::World;
 use meta_ops::{Fault, Outcome};
 use std::alloc::AllocError;
@@ -28,6 +29,53 @@ pub enum Joined {
 /// Joins so many operands, in registers from `first` on, to what stands behind them, from the last one on and as far as no handler is asked for.
 /// The world stands for the same as before, also after a refusal.
 pub fn join(
+    world: &mut World,
+    first: usize,
+    count: usize,
+    last: Value,
+) -> Result<Joined, AllocError>
+    requires sound { IsSound world.old }
+    requires frame { HasFrame world.old }
+    requires last { IsIn world.old.strings world.old.tables.objects last }
+    requires room { first + count < 2 ^ 64 }
+    requires safe { MayJoin world.old first count last }
+    ensures joins { IfOk result (λ joined. Joins world.old world.new first count last joined) }
+    ensures same { ReadsSame world.old world.new }
+    ensures sound { IsSound world.new }
+    ensures rest { world.new ≡ record world.old { strings = world.new.strings } }
+{
+    if count < 2 {
+        return join_in_turn(world, first, count, last);
+    }
+    join_at_once(world, first, count, last)
+}
+
+/// Joins them at once where all have texts, so that the texts between make no strings.
+fn join_at_once(
+    world: &mut World,
+    first: usize,
+    count: usize,
+    last: Value,
+) -> Result<Joined, AllocError>
+    requires sound { IsSound world.old }
+    requires frame { HasFrame world.old }
+    requires last { IsIn world.old.strings world.old.tables.objects last }
+    requires some { 1 ≤ count }
+    requires room { first + count < 2 ^ 64 }
+    requires safe { MayJoin world.old first count last }
+    ensures joins { IfOk result (λ joined. Joins world.old world.new first count last joined) }
+    ensures same { ReadsSame world.old world.new }
+    ensures sound { IsSound world.new }
+    ensures rest { world.new ≡ record world.old { strings = world.new.strings } }
+{
+    match joined_text(world, first, count, last) {
+        Some(text) => join_whole(world, first, count, last, text.as_slice()),
+        None => join_in_turn(world, first, count, last),
+    }
+}
+
+/// Joins them one after another.
+fn join_in_turn(
     world: &mut World,
     first: usize,
     count: usize,

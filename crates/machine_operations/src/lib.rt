@@ -9,6 +9,7 @@ mod following;
 mod joining;
 mod operands;
 mod operating;
+mod whole_texts;
 
 pub use computing::arithmetic;
 pub use concatenating::{concatenate, join_on};

@@ -9,11 +9,11 @@ abbrev is_some_text : Option (List ℕ) → Bool
 is_some_text None = false
 is_some_text (Some text) = true
 
-record HasText (v : Value) : Type 0 where
-  text : List ℕ
-  is : text_of v ≡ Some text
+pub record HasText (v : Value) : Type 0 where
+  pub text : List ℕ
+  pub is : text_of v ≡ Some text
 
-has_text : (v : Value) → is_text v ≡ true → HasText v
+pub has_text : (v : Value) → is_text v ≡ true → HasText v
 has_text v some = by (text_of v) refl some
   where
     by : (o : Option (List ℕ)) → text_of v ≡ o → is_some_text o ≡ true → HasText v

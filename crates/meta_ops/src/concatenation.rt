@@ -1,8 +1,9 @@
 // Concatenation (luaV_concat of lvm.c).
-ghost use Rattle.std.specs.Prelude.{◌≡◌, ℕ, List, [], ◌∷◌, ◌++◌, Some, IfOk, OnOk, OnErr};
+ghost use Rattle.std.specs.Prelude.{◌≡◌, ◌≤◌, ℕ, List, [], ◌∷◌, ◌++◌, Some, true, IfOk, IfSome, OnOk, OnErr, length};
 ghost use Rattle.int_core.specs.Operations.{concat_on, integer_text, is_text as has_text, text_of};
+ghost use Rattle.int_core.specs.Value.{greatest_string};
 ghost use Rattle.lua_heap.specs.Reading.{value};
-ghost use Rattle.meta_ops.specs.Concat.{IsString, text_or_none, with_joined};
+ghost use Rattle.meta_ops.specs.Concat.{AppendsText, IsString, text_or_none, with_joined};
 ghost use Rattle.meta_ops.specs.Heap.{heap_in, IsIn};
 ghost use Rattle.meta_ops.specs.Outcome.{settled};
 
@@ -93,6 +94,30 @@ fn push_text(text: &mut Vec<u8>, strings: &Strings, v: Value) -> Result<(), Allo
         }
         _ => Ok(()),
     }
+}
+
+/// Puts the text of a string or an integer at the end. `None` for another value, and where memory runs out: the text is of no use then.
+pub fn append_text(text: &mut Vec<u8>, strings: &Strings, v: Value) -> Option<()>
+    requires { IsString strings.now v }
+    ensures { IfSome result (λ _. AppendsText strings.now text.old.items text.new.items v) }
+{
+    if !is_text(v) {
+        return None;
+    }
+    match push_text(text, strings, v) {
+        Ok(()) => Some(()),
+        Err(_) => None,
+    }
+}
+
+/// Whether a string may have so many bytes.
+pub fn is_short(text: &[u8]) -> bool
+    ensures { result ≡ true → length text.now ≤ greatest_string }
+{
+    if text.len() > GREATEST_STRING {
+        return false;
+    }
+    true
 }
 
 /// Puts the decimal text of an integer at the end.

@@ -18,7 +18,7 @@ mod store;
 
 pub use callee::{Callee, callee_of};
 pub use compare::{equal, less, less_equal};
-pub use concatenation::concat;
+pub use concatenation::{append_text, concat, is_short};
 pub use event::Event;
 pub use fault::Fault;
 pub use handler::{handler_in, handler_of};

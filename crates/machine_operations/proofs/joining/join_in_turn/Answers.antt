@@ -2,7 +2,7 @@ use Rattle.std.proofs.Common.{◌≡◌, suc, ◌+◌, ◌-◌, arith, subst}
 use Rattle.meta_ops.specs.declared.outcome.Outcome.{Outcome}
 use Rattle.machine_operations.specs.Joining.{JoinsOne}
 use Rattle.machine_operations.proofs.Joins.{Joining, asks_joins, can_read, comes_same, fails_joins, found_goes, rest_then, whole_joins}
-use Rattle.machine_operations.proofs.joining.join.Goals as goal
+use Rattle.machine_operations.proofs.joining.join_in_turn.Goals as goal
 
 pub join_one-requires-clause-there : goal.join_one-requires-clause-there
 join_one-requires-clause-there c =
