@@ -25,3 +25,20 @@ pub(crate) fn string(
     let id = world.intern(bytes)?;
     Ok(Value::Str(id))
 }
+
+/// The same where most likely there is none yet.
+pub(crate) fn new_string(
+    world: &mut World,
+    arguments: &[Value],
+    bytes: &[u8],
+) -> Result<Value, AllocError>
+    requires short { length bytes.now ≤ greatest_string }
+    requires stands { Stands world.old arguments.now }
+    ensures named { IfOk result (λ made. value world.new.strings made ≡ known (string bytes.now)) }
+    ensures means { IfOk result (λ made. Means world.new.strings made (string bytes.now)) }
+    ensures kept { OnlyStrings world.old world.new arguments.now }
+{
+    new_strings_keep();
+    let id = world.intern_new(bytes)?;
+    Ok(Value::Str(id))
+}

@@ -12,7 +12,7 @@ ghost use Rattle.lib_base.specs.Texts.{IsShown, shown_of};
 use crate::answer::{Answer, argument};
 use crate::raw;
 use crate::shapes::{argument_shape, shape};
-use crate::strings::string;
+use crate::strings::{new_string, string};
 use library_arguments::{Digits, Fault, Refusal, Shape};
 use lua_heap::World;
 use lua_heap::law::strings_are_there;
@@ -68,7 +68,7 @@ fn integer_text(world: &mut World, arguments: &[Value], n: i64) -> Result<Answer
     if bytes.len() > MAX_TEXT {
         return Err(Fault::Refused(Refusal::Text(b"resulting string too large")));
     }
-    let made = string(world, arguments, bytes)?;
+    let made = new_string(world, arguments, bytes)?;
     Ok(Answer::One(made))
 }
 

@@ -1,5 +1,5 @@
 -- Contents among the keys of a set of strings.
-use Rattle.std.proofs.Common.{ℕ, zero, suc, ◌≡◌, ◌≤◌, List, [], ◌∷◌, ◌++◌, Some, Ok, Err, inl, inr, refl, sym, ap, ◌∙◌, subst, length, map, take, false}
+use Rattle.std.proofs.Common.{ℕ, zero, suc, ◌≡◌, ◌≤◌, List, [], ◌∷◌, ◌++◌, Some, Ok, Err, inl, inr, refl, sym, ap, ◌∙◌, subst, length, map, take, Bool, true, false}
 use Rattle.std.specs.Prelude.{◌||◌, if◌then◌else◌, Result, slice_get, option_map, bytes_eq, IfOk, OnOk, OnErr}
 use Rattle.std.specs.List.{list_any, position, AllByRecursion, IsDistinct}
 use Rattle.std.specs.declared.vec.Vec.{Vec}
@@ -10,7 +10,7 @@ use Rattle.machine_sound.proofs.Lists.{get_take}
 use Rattle.list_laws.proofs.Items.{get_either}
 use Rattle.int_core.specs.Value.{greatest_string}
 use Rattle.indexmap.specs.IndexSet.{insert_key}
-use Rattle.lua_heap.specs.Strings.{AreApart, AreShort}
+use Rattle.lua_heap.specs.Strings.{interned, AreApart, AreShort}
 
 module _ {A : Type 0} where
   abbrev pub contents : List (Vec ℕ A) → List (List ℕ)
@@ -26,6 +26,12 @@ module _ {A : Type 0} where
       let p = position-Some (λ k. bytes_eq text k.items) (k ∷ keys) i k e in
       slice_get-map (λ k. k.items) (k ∷ keys) i ∙ ap (option_map (λ k. k.items)) (slice_get-get_or (k ∷ keys) i k p.0)
       ∙ ap Some (sym ((bytes_eq-Decides text _).0 p.1))
+
+  -- the key at a place, which is equal to one with this text
+  pub stored_there : (text : List ℕ) (keys : List (Vec ℕ A)) (k : Vec ℕ A) → k.items ≡ text → (i : ℕ) (x : Vec ℕ A) → slice_get keys i ≡ Some x → bytes_eq k.items x.items ≡ true → slice_get (contents keys) i ≡ Some text
+  stored_there text keys k same i x e t =
+      slice_get-map (λ k. k.items) keys i ∙ ap (option_map (λ k. k.items)) e
+      ∙ ap Some (sym ((bytes_eq-Decides k.items x.items).0 t) ∙ same)
 
   pub contents_more : (keys : List (Vec ℕ A)) (k : Vec ℕ A) → contents (keys ++ k ∷ []) ≡ contents keys ++ k.items ∷ []
   contents_more [] k = refl
@@ -48,6 +54,13 @@ module _ {A : Type 0} where
 pub short_more : (texts : List (List ℕ)) (text : List ℕ) → AreShort texts → length text ≤ greatest_string → AreShort (texts ++ text ∷ [])
 short_more texts text h l i s e = elim (get_either texts text i s e) [ inl a ↦ h i s a | inr b ↦ subst (λ s. length s ≤ greatest_string) b.1 l ]
 
+short_interned : (texts : List (List ℕ)) (text : List ℕ) → AreShort texts → length text ≤ greatest_string → AreShort (interned texts text)
+short_interned texts text h l = by (list_any (bytes_eq text) texts)
+  where
+    by : (b : Bool) → AreShort (if b then texts else texts ++ text ∷ [])
+    by true = h
+    by false = short_more texts text h l
+
 pub short_take : (n : ℕ) (texts : List (List ℕ)) → AreShort texts → AreShort (take n texts)
 short_take n texts h i s e = h i s (get_take texts n i s e).0
 
@@ -65,3 +78,21 @@ module _ {A : Type 0} (text : List ℕ) (keys new : List (Vec ℕ A)) (k : Vec �
   pub short_inserted : {B E : Type 0} (r : Result B E) → IfOk r (λ _. new ≡ insert_key (λ a b. bytes_eq a.items b.items) keys k) → OnErr r (new ≡ keys) → AreShort (contents keys) → length text ≤ greatest_string → AreShort (contents new)
   short_inserted (Ok b) h n s l = subst AreShort (sym (put h)) (short_more (contents keys) text s l)
   short_inserted (Err e) h n s l = subst (λ keys. AreShort (contents keys)) (sym n) s
+
+-- what an insertion of any content comes to, or its refusal
+module _ {A : Type 0} (text : List ℕ) (keys new : List (Vec ℕ A)) (k : Vec ℕ A) (same : k.items ≡ text) where
+  pub put_or_there : new ≡ insert_key (λ a b. bytes_eq a.items b.items) keys k → contents new ≡ interned (contents keys) text
+  put_or_there e =
+      ap contents e
+      ∙ by (list_any (λ y. bytes_eq k.items y.items) keys) (list_any (bytes_eq k.items) (contents keys)) (any_content k.items keys)
+      ∙ ap (interned (contents keys)) same
+    where
+      by : (b d : Bool) → b ≡ d → contents (if b then keys else keys ++ k ∷ []) ≡ (if d then contents keys else contents keys ++ k.items ∷ [])
+      by true true q = refl
+      by true false q = absurd (cc)
+      by false true q = absurd (cc)
+      by false false q = contents_more keys k
+
+  pub short_put : {B E : Type 0} (r : Result B E) → IfOk r (λ _. new ≡ insert_key (λ a b. bytes_eq a.items b.items) keys k) → OnErr r (new ≡ keys) → AreShort (contents keys) → length text ≤ greatest_string → AreShort (contents new)
+  short_put (Ok b) h n s l = subst AreShort (sym (put_or_there h)) (short_interned (contents keys) text s l)
+  short_put (Err e) h n s l = subst (λ keys. AreShort (contents keys)) (sym n) s

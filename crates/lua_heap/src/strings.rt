@@ -95,6 +95,22 @@ impl Strings {
         Ok(id)
     }
 
+    /// The same where most likely there is none: its bytes are hashed once, and not once to look for them and once to add them.
+    pub fn intern_new(&mut self, bytes: &[u8]) -> Result<StrId, AllocError>
+        requires { length bytes.now ≤ greatest_string }
+        ensures named { IfOk result (λ id. slice_get self.new id.0 ≡ Some bytes.now) }
+        ensures added { OnOk result (self.new ≡ interned self.old bytes.now) }
+        ensures err { OnErr result (self.new ≡ self.old) }
+    {
+        let number = number_of(bytes);
+        if let Some(id) = self.recalled(number, bytes) {
+            return Ok(id);
+        }
+        let id = self.inserted(bytes)?;
+        self.remember(number, id);
+        Ok(id)
+    }
+
     /// The string with these bytes, where it was found last of those with this number.
     #[inline(always)]
     fn recalled(&self, number: usize, bytes: &[u8]) -> Option<StrId>
@@ -130,6 +146,20 @@ impl Strings {
             return Ok(id);
         }
         self.add(bytes)
+    }
+
+    /// The string with these bytes, for which a copy of them is made first, and added where there is none. A refusal changes nothing.
+    fn inserted(&mut self, bytes: &[u8]) -> Result<StrId, AllocError>
+        requires { length bytes.now ≤ greatest_string }
+        ensures named { IfOk result (λ id. slice_get self.new id.0 ≡ Some bytes.now) }
+        ensures added { OnOk result (self.new ≡ interned self.old bytes.now) }
+        ensures err { OnErr result (self.new ≡ self.old) }
+    {
+        let content = bytes.to_vec(*self.contents.allocator())?;
+        match self.contents.insert_full(content) {
+            Ok(told) => Ok(StrId(told.0)),
+            Err(_) => Err(AllocError),
+        }
     }
 
     /// Adds a string whose bytes no other has.

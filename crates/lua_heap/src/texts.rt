@@ -29,6 +29,17 @@ impl World {
         Ok(id)
     }
 
+    /// The same where most likely there is none yet.
+    pub fn intern_new(&mut self, bytes: &[u8]) -> Result<StrId, AllocError>
+        requires { length bytes.now ≤ greatest_string }
+        ensures named { IfOk result (λ id. slice_get self.new.strings id.0 ≡ Some bytes.now) }
+        ensures interned { OnOk result (Interns self.old self.new bytes.now) }
+        ensures err { OnErr result (self.new ≡ self.old) }
+    {
+        let id = self.strings.intern_new(bytes)?;
+        Ok(id)
+    }
+
     /// Prints bytes. A refusal prints nothing.
     pub fn print(&mut self, bytes: &[u8]) -> Result<(), AllocError>
         ensures printed { OnOk result (Prints self.old self.new bytes.now) }

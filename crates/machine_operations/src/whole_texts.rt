@@ -65,6 +65,6 @@ pub(crate) fn join_whole(
     ensures sound { IsSound world.new }
     ensures rest { world.new ≡ record world.old { strings = world.new.strings } }
 {
-    let id = world.intern(text)?;
+    let id = world.intern_new(text)?;
     Ok(Joined::Whole(Value::Str(id)))
 }

@@ -50,7 +50,7 @@ pub fn concat(
     if text.len() > GREATEST_STRING {
         return Ok(Outcome::Fault(Fault::TooLarge));
     }
-    let id = strings.intern(&text)?;
+    let id = strings.intern_new(&text)?;
     Ok(Outcome::Found(Value::Str(id)))
 }
 

@@ -25,7 +25,7 @@ returns-then-bytes-gt-MAX_TEXT-clause-answers c =
 pub returns-clause-answers : goal.returns-clause-answers
 returns-clause-answers c =
     let W = c.args.world.now in
-    let new = c.string.new.world in
+    let new = c.new_string.new.world in
     let vs = map (value W.strings) c.args.arguments.now in
     let bytes = c.as_slice-bytes.result.now in
     let digits : c.as_slice-bytes.result.now ≡ integer_text c.args.n = search (rules, to_z-of_z w64 c.args.n c.ranges.n) in
@@ -33,5 +33,5 @@ returns-clause-answers c =
     let h : length c.as_slice-bytes.result.now ≤ greatest_string = search rules in
     let g : known (string bytes) ≡ value new.strings c.in_ok-made.made = search rules in
     shown_is vs (heap_of W) bytes shown h
-    ∙ ap (λ H. done H (known (string bytes) ∷ [])) (same_heap W new c.args.arguments.now c.string.ensures.kept)
+    ∙ ap (λ H. done H (known (string bytes) ∷ [])) (same_heap W new c.args.arguments.now c.new_string.ensures.kept)
     ∙ ap (λ v. done (heap_of new) (v ∷ [])) g
