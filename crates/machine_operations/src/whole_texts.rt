@@ -1,5 +1,5 @@
 // Operands of a concatenation that all have texts, which are joined at once (luaV_concat of lvm.c).
-ghost use Rattle.std.specs.Prelude.{◌≡◌, ℕ, ◌+◌, ◌<◌, ◌≤◌, ◌^◌, IfOk, IfSome, length};
+ghost use Rattle.std.specs.Prelude.{◌≡◌, ℕ, ◌+◌, ◌<◌, ◌≤◌, ◌^◌, [], IfOk, IfSome, length};
 ghost use Rattle.int_core.specs.Value.{greatest_string};
 ghost use Rattle.machine_core.specs.Text.{read_register as reads};
 ghost use Rattle.meta_ops.specs.Heap.{IsIn};
@@ -11,7 +11,7 @@ use crate::joining::Joined;
 use lua_heap::World;
 use machine_moves::read_register;
 use meta_ops::{append_text, is_short, law};
-use std::alloc::AllocError;
+use std::alloc::{AllocError, Global};
 use table_core::Value;
 
 /// The texts of so many operands, in registers from `first` on, and of the last one behind them, where all have texts and a string may be so long. `None` says
@@ -40,12 +40,22 @@ fn texts_in_front(world: &World, first: usize, count: usize) -> Option<Vec<u8>>
     ensures { IfSome result (λ text. AreTexts world.now first count text.items) }
 {
     law::operands_are_there();
-    let mut text = Vec::new(world.alloc);
+    let mut text = roomy_text(world.alloc)?;
     for below in 0..count {
         let operand = read_register(world, first + below);
         append_text(&mut text, &world.strings, operand)?;
     }
     Some(text)
+}
+
+/// An empty text, with room for what most concatenations come to.
+fn roomy_text(alloc: Global) -> Option<Vec<u8>>
+    ensures { IfSome result (λ text. text.items ≡ []) }
+{
+    match Vec::with_capacity(alloc, 64) {
+        Ok(text) => Some(text),
+        Err(_) => None,
+    }
 }
 
 /// The operands are all in this text. A refusal changes nothing that the world stands for.

@@ -72,10 +72,22 @@ fn joined(
     requires right { IsString strings.now right }
     ensures { IfOk result (λ text. text.items ≡ text_or_none (text_of (value strings.now left)) ++ text_or_none (text_of (value strings.now right))) }
 {
-    let mut text = Vec::new(alloc);
+    let room = room_for(strings, left).saturating_add(room_for(strings, right));
+    let mut text = Vec::with_capacity(alloc, room)?;
     push_text(&mut text, strings, left)?;
     push_text(&mut text, strings, right)?;
     Ok(text)
+}
+
+/// How many bytes the text of a value takes at most.
+fn room_for(strings: &Strings, v: Value) -> usize
+    requires { IsString strings.now v }
+{
+    match v {
+        Value::Str(id) => strings.bytes(id).len(),
+        Value::Int(_) => 20,
+        _ => 0,
+    }
 }
 
 /// Puts the text of a value at the end; another value than a string or an integer has none.

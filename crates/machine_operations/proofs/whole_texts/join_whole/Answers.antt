@@ -1,4 +1,4 @@
-use Rattle.std.proofs.Common.{rules, ◌≡◌, ap, refl, subst, sym, ◌∙◌}
+use Rattle.std.proofs.Common.{rules, ap, refl, subst, sym, ◌∙◌}
 use Rattle.lua_heap.specs.declared.world.World.{World as Memory}
 use Rattle.lua_heap.specs.Changes.{Interns}
 use Rattle.move_laws.specs.Memory.{IsSound, ReadsSame}

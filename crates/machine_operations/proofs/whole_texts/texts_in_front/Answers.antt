@@ -6,7 +6,7 @@ use Rattle.machine_operations.proofs.Wholes.{is_string, one_more}
 use Rattle.machine_operations.proofs.whole_texts.texts_in_front.Goals as goal
 
 pub loop-below-init : goal.loop-below-init
-loop-below-init c = (omega arith, subst (AreTexts c.args.world.now c.args.first 0) (sym c.new-text.ensures.items) no_texts)
+loop-below-init c = (omega arith, subst (AreTexts c.args.world.now c.args.first 0) (sym c.in_ok-text.ensures) no_texts)
 
 pub read_register-operand-requires : goal.read_register-operand-requires
 read_register-operand-requires c = c.requires.there c.loop-below.below c.loop-below-test.true
