@@ -125,6 +125,7 @@ pub fn tail_call(
 }
 
 /// The values of one register fewer than `count` from one on, or for 0 those up to the end of the open list.
+#[inline(always)]
 pub(crate) fn read_values(world: &World, from: usize, count: usize) -> &[Value]
     requires sound { IsSound world.now }
     requires safe { MayReadValues world.now from count }
