@@ -393,7 +393,7 @@ static FUNCTIONS: [Case; 12] = [
 ];
 
 /// Tables and metatables.
-static TABLES: [Case; 11] = [
+static TABLES: [Case; 12] = [
     Case {
         options: "",
         script: "local t={1,2,nil,4} print(#t,next({}))",
@@ -480,6 +480,14 @@ static TABLES: [Case; 11] = [
         input: "",
         status: 0,
         out: "1\n3\n1\n2\n3\nreturn\n",
+        err: "",
+    },
+    Case {
+        options: "",
+        script: "print(1 ..2 ..3,\"a\"..-1 ..\"b\"..\"\"..0) local m=setmetatable({},{__concat=function(a,b) local s=type(a)==\"table\" and \"T\" or a local t=type(b)==\"table\" and \"T\" or b return \"(\"..s..t..\")\" end}) print(\"a\"..1 ..m..\"b\"..\"c\",m..\"x\"..\"y\",\"x\"..\"y\"..m) print(pcall(function() return \"a\"..\"b\"..nil..\"c\"..\"d\" end))",
+        input: "",
+        status: 0,
+        out: "123\ta-1b0\na1(Tbc)\t(Txy)\tx(yT)\nfalse\ts.lua:1: attempt to concatenate a nil value\nreturn\n",
         err: "",
     },
 ];
@@ -605,7 +613,7 @@ static LIBRARIES: [Case; 3] = [
 ];
 
 /// Limits on calls, chains of handlers and strings.
-static LIMITS: [Case; 3] = [
+static LIMITS: [Case; 4] = [
     Case {
         options: "",
         script: "local function f(n) return 1+f(n) end f(1)",
@@ -628,6 +636,14 @@ static LIMITS: [Case; 3] = [
         input: "",
         status: 0,
         out: "false\ts.lua:1: resulting string too large\nreturn\n",
+        err: "",
+    },
+    Case {
+        options: "",
+        script: "local k=string.rep(\"x\",8388608) print(pcall(function() return k..k..\"y\" end)) print(#(k..k..\"\")) print(pcall(function() return \"y\"..k..k end))",
+        input: "",
+        status: 0,
+        out: "false\ts.lua:1: resulting string too large\n16777216\nfalse\ts.lua:1: resulting string too large\nreturn\n",
         err: "",
     },
 ];
