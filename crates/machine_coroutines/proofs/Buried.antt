@@ -273,20 +273,30 @@ all_closed texts cells lists co s a there new e =
 abbrev pub HasStack : List (List ℕ) → Coro → KeptStack → Type 0
 HasStack texts c s = (frames_of (coroutine texts c) ≡ Some (frames (value texts) s)) × (open_cells_in c ≡ Some s.open_cells)
 
-module _ (W : Memory) (co : CoroId) (c d : Coro) (a : CellsAreListed W) (there : slice_get W.coros.objects co.0 ≡ Some c) (bare : open_cells_in d ≡ None) where
+-- a coroutine is taken out of its place, and another, which has no stack, is put there
+pub record IsTaken (W : Memory) (co : CoroId) (was put : Coro) : Type 0 where
+  pub listed : CellsAreListed W
+  pub there : slice_get W.coros.objects co.0 ≡ Some was
+  pub bare : open_cells_in put ≡ None
+
+pub taken : (W : Memory) (co : CoroId) {found replaced was put given : Coro} → CellsAreListed W → slice_get W.coros.objects co.0 ≡ Some found → replaced ≡ found → replaced ≡ was
+    → put ≡ given → open_cells_in given ≡ None → IsTaken W co was put
+taken W co listed there same is after bare = record { listed = listed; there = there ∙ ap (λ (k : Coro). Some k) (sym same ∙ is); bare = ap open_cells_in after ∙ bare }
+
+module _ {W : Memory} {co : CoroId} {c d : Coro} (k : IsTaken W co c d) where
   lists_are : map open_cells_in (slice_set W.coros.objects co.0 d) ≡ slice_set (map open_cells_in W.coros.objects) co.0 None
-  lists_are = map-set open_cells_in W.coros.objects co.0 d ∙ ap (slice_set (map open_cells_in W.coros.objects) co.0) bare
+  lists_are = map-set open_cells_in W.coros.objects co.0 d ∙ ap (slice_set (map open_cells_in W.coros.objects) co.0) k.bare
 
   own_list : {o : Option (List OpenCell)} → open_cells_in c ≡ o → slice_get (map open_cells_in W.coros.objects) co.0 ≡ Some o
-  own_list e = get_map open_cells_in W.coros.objects co.0 c there ∙ ap (λ o. Some o) e
+  own_list e = get_map open_cells_in W.coros.objects co.0 c k.there ∙ ap (λ o. Some o) e
 
   -- where there was no stack
   pub bare_listed : open_cells_in c ≡ None → AreListed W.cells.objects (map open_cells_in (slice_set W.coros.objects co.0 d))
-  bare_listed e = subst (AreListed W.cells.objects) (sym (lists_are ∙ set_same (map open_cells_in W.coros.objects) co.0 None (own_list e))) a
+  bare_listed e = subst (AreListed W.cells.objects) (sym (lists_are ∙ set_same (map open_cells_in W.coros.objects) co.0 None (own_list e))) k.listed
 
   pub bare_frames : {fs : List Frame} (fuel : ℕ) → frames_of (coroutine W.strings c) ≡ None → bind (slice_get (plain W fuel).coroutines co.0) frames_of ≡ Some fs → ⊥
   bare_frames {fs} fuel n e =
-      let bad : None ≡ Some fs = sym n ∙ ap (λ o. bind o frames_of) (sym (get_map (coroutine W.strings) W.coros.objects co.0 c there)) ∙ e in
+      let bad : None ≡ Some fs = sym n ∙ ap (λ o. bind o frames_of) (sym (get_map (coroutine W.strings) W.coros.objects co.0 c k.there)) ∙ e in
       cc
 
   pub bare_put : (spare fuel : ℕ) → plain (record W { coros = record { objects = slice_set W.coros.objects co.0 d; spare = spare } }) fuel ≡ put_coroutine (plain W fuel) co.0 (coroutine W.strings d)
@@ -296,26 +306,26 @@ module _ (W : Memory) (co : CoroId) (c d : Coro) (a : CellsAreListed W) (there :
   -- and where there was one
   module _ (s : KeptStack) (h : HasStack W.strings c s) where
     pub stack_within : AreWithin s.open_cells (length W.cells.objects)
-    stack_within = each_within W.cells.objects (map open_cells_in W.coros.objects) co s.open_cells a (own_list h.1)
+    stack_within = each_within W.cells.objects (map open_cells_in W.coros.objects) co s.open_cells k.listed (own_list h.1)
 
     pub stack_put : (fuel : ℕ) → bind (slice_get (plain W fuel).coroutines co.0) frames_of ≡ None → ⊥
     stack_put fuel e =
-        let bad : Some (frames (value W.strings) s) ≡ None = sym h.0 ∙ ap (λ o. bind o frames_of) (sym (get_map (coroutine W.strings) W.coros.objects co.0 c there)) ∙ e in
+        let bad : Some (frames (value W.strings) s) ≡ None = sym h.0 ∙ ap (λ o. bind o frames_of) (sym (get_map (coroutine W.strings) W.coros.objects co.0 c k.there)) ∙ e in
         cc
 
     pub stack_once : IsOnce s.open_cells
-    stack_once = a.once co.0 s.open_cells (own_list h.1)
+    stack_once = k.listed.once co.0 s.open_cells (own_list h.1)
 
     module _ (cells : List KeptCell) (e : ClosesEach s s.open_cells W.cells.objects cells) where
       pub stack_listed : AreListed cells (map open_cells_in (slice_set W.coros.objects co.0 d))
-      stack_listed = subst (AreListed cells) (sym lists_are) (buried_listed W.cells.objects (map open_cells_in W.coros.objects) co s.open_cells a (own_list h.1) s cells e)
+      stack_listed = subst (AreListed cells) (sym lists_are) (buried_listed W.cells.objects (map open_cells_in W.coros.objects) co s.open_cells k.listed (own_list h.1) s cells e)
 
       pub stack_buried : (spare more fuel : ℕ) (fs : List Frame) → bind (slice_get (plain W fuel).coroutines co.0) frames_of ≡ Some fs
           → plain (record W { cells = record { objects = cells; spare = spare }; coros = record { objects = slice_set W.coros.objects co.0 d; spare = more } }) fuel ≡ bury (plain W fuel) co.0 fs (coroutine W.strings d)
       unfolding bury put_coroutine
       stack_buried spare more fuel fs g =
           let V = plain W fuel in
-          let same : frames (value W.strings) s ≡ fs = some_same _ _ (sym h.0 ∙ ap (λ o. bind o frames_of) (sym (get_map (coroutine W.strings) W.coros.objects co.0 c there)) ∙ g) in
+          let same : frames (value W.strings) s ≡ fs = some_same _ _ (sym h.0 ∙ ap (λ o. bind o frames_of) (sym (get_map (coroutine W.strings) W.coros.objects co.0 c k.there)) ∙ g) in
           ap (λ cs. record V { cells = cs; coroutines = map (coroutine W.strings) (slice_set W.coros.objects co.0 d) })
-          (all_closed W.strings W.cells.objects (map open_cells_in W.coros.objects) co s a (own_list h.1) cells e ∙ ap (λ fs. all_closed_from co.0 0 fs V.cells) same)
+          (all_closed W.strings W.cells.objects (map open_cells_in W.coros.objects) co s k.listed (own_list h.1) cells e ∙ ap (λ fs. all_closed_from co.0 0 fs V.cells) same)
           ∙ ap (λ ks. record V { cells = all_closed_from co.0 0 fs V.cells; coroutines = ks }) (map-set (coroutine W.strings) W.coros.objects co.0 d)
