@@ -1,5 +1,5 @@
 -- What the instructions on numbers and truths compute, on values as they are kept.
-use Rattle.std.specs.Prelude.{ℕ, zero, suc, ◌+◌, ℤ, pos, negsuc, int_lt, int_le, Bool, true, false, cond, List, Option, Some, None, slice_set}
+use Rattle.std.specs.Prelude.{ℕ, zero, suc, ◌+◌, ℤ, pos, negsuc, int_lt, int_le, Bool, true, false, ◌&&◌, cond, not, List, Option, Some, None, is_some, slice_set}
 use Rattle.code_core.specs.declared.opcode.Opcode.{Opcode}
 use Rattle.code_core.specs.declared.opcode.Opcode.TheVariants.{Move, LoadI, LoadK, LoadKx, LoadFalse, LFalseSkip, LoadTrue, LoadNil, AddI, ShrI, ShlI, Not, Test, TestSet, AddK, SubK, MulK, ModK, IDivK, BAndK, BOrK, BXorK, Add, Sub, Mul, Mod, IDiv, BAnd, BOr, BXor, Shl, Shr, Lt, Le, LtI, LeI, GtI, GeI}
 use Rattle.int_core.specs.Operations.{Event, of_add, of_sub, of_mul, of_mod, of_idiv, of_band, of_bor, of_bxor, of_shl, of_shr}
@@ -19,6 +19,18 @@ is_truthy _ = true
 -- equality, where no handler decides it: two tables may have one, unless they are the same
 abbrev pub equal_at_once : Value → Value → Option Bool
 equal_at_once v w = cond (value_eq v w) (Some true) (cond (are_tables v w) None (Some false))
+
+-- an operator on a register and a constant
+abbrev pub has_constant : Opcode → Bool
+has_constant AddK = true
+has_constant SubK = true
+has_constant MulK = true
+has_constant ModK = true
+has_constant IDivK = true
+has_constant BAndK = true
+has_constant BOrK = true
+has_constant BXorK = true
+has_constant _ = false
 
 -- the operator of an instruction on two registers, or on a register and a constant
 abbrev pub event_of : Opcode → Option Event
@@ -42,31 +54,9 @@ event_of Shl = Some of_shl
 event_of Shr = Some of_shr
 event_of _ = None
 
--- its operands are two registers
+-- an operator on two registers
 abbrev pub has_registers : Opcode → Bool
-has_registers Add = true
-has_registers Sub = true
-has_registers Mul = true
-has_registers Mod = true
-has_registers IDiv = true
-has_registers BAnd = true
-has_registers BOr = true
-has_registers BXor = true
-has_registers Shl = true
-has_registers Shr = true
-has_registers _ = false
-
--- a register and a constant
-abbrev pub has_constant : Opcode → Bool
-has_constant AddK = true
-has_constant SubK = true
-has_constant MulK = true
-has_constant ModK = true
-has_constant IDivK = true
-has_constant BAndK = true
-has_constant BOrK = true
-has_constant BXorK = true
-has_constant _ = false
+has_registers op = is_some (event_of op) && not (has_constant op)
 
 -- the order that a comparison asks for, of the value in the register and the other operand
 abbrev pub ordered_by : Opcode → Option (ℤ → ℤ → Bool)
