@@ -62,24 +62,12 @@ are_ordered _ _ = false
 
 pub integer-other : (a b : Kept) (m : ℤ) → a ≡ Int m → ((n : ℤ) → b ≡ Int n → ⊥) → are_ordered a b ≡ false
 integer-other (Int x) (Int y) m is other = absurd (other y refl)
-integer-other (Int x) Nil m is other = refl
-integer-other (Int x) (Boolean y) m is other = refl
-integer-other (Int x) (Str y) m is other = refl
-integer-other (Int x) (Prim y) m is other = refl
-integer-other (Int x) (Table y) m is other = refl
-integer-other (Int x) (Func y) m is other = refl
-integer-other (Int x) (Coro y) m is other = refl
+integer-other (Int x) _ m is other = refl
 integer-other _ b m is other = absurd (cc)
 
 pub string-other : (a b : Kept) (s : StrId) → a ≡ Str s → ((t : StrId) → b ≡ Str t → ⊥) → are_ordered a b ≡ false
 string-other (Str x) (Str y) s is other = absurd (other y refl)
-string-other (Str x) Nil s is other = refl
-string-other (Str x) (Boolean y) s is other = refl
-string-other (Str x) (Int y) s is other = refl
-string-other (Str x) (Prim y) s is other = refl
-string-other (Str x) (Table y) s is other = refl
-string-other (Str x) (Func y) s is other = refl
-string-other (Str x) (Coro y) s is other = refl
+string-other (Str x) _ s is other = refl
 string-other _ b s is other = absurd (cc)
 
 pub neither-ordered : (a b : Kept) → ((n : ℤ) → a ≡ Int n → ⊥) → ((t : StrId) → a ≡ Str t → ⊥) → are_ordered a b ≡ false
@@ -93,26 +81,9 @@ module _ (texts : List (List ℕ)) (H : Heap) (event : Event) (by_number : ℤ �
       ≡ asked (handler_of H event (value texts a) (value texts b)) (value texts a ∷ value texts b ∷ []) (fault (cannot_compare (value texts a) (value texts b)))
   ordered-others (Int x) (Int y) none = absurd (true≢false none)
   ordered-others (Str x) (Str y) none = absurd (true≢false none)
-  ordered-others (Int x) Nil none = refl
-  ordered-others (Int x) (Boolean y) none = refl
-  ordered-others (Int x) (Str y) none = refl
-  ordered-others (Int x) (Prim y) none = refl
-  ordered-others (Int x) (Table y) none = refl
-  ordered-others (Int x) (Func y) none = refl
-  ordered-others (Int x) (Coro y) none = refl
-  ordered-others (Str x) Nil none = refl
-  ordered-others (Str x) (Boolean y) none = refl
-  ordered-others (Str x) (Int y) none = refl
-  ordered-others (Str x) (Prim y) none = refl
-  ordered-others (Str x) (Table y) none = refl
-  ordered-others (Str x) (Func y) none = refl
-  ordered-others (Str x) (Coro y) none = refl
-  ordered-others Nil b none = refl
-  ordered-others (Boolean x) b none = refl
-  ordered-others (Prim x) b none = refl
-  ordered-others (Table x) b none = refl
-  ordered-others (Func x) b none = refl
-  ordered-others (Coro x) b none = refl
+  ordered-others (Int x) _ none = refl
+  ordered-others (Str x) _ none = refl
+  ordered-others _ b none = refl
 
 -- length
 
