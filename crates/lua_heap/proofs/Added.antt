@@ -319,3 +319,14 @@ keeps_code old new rest trees list = record {
         (h.each n p code (ap (λ (ts : List Tree). slice_get (functions_in ts) n) (sym trees) ∙ e) (ap (λ l. slice_get l n) (sym list) ∙ f));
   };
 }
+
+-- code that is added is found under the number behind those that were there
+
+code_behind : {A : Type 0} (xs ys : List A) (x : A) → slice_get (xs ++ x ∷ ys) (length xs) ≡ Some x
+code_behind [] ys x = refl
+code_behind (z ∷ xs) ys x = code_behind xs ys x
+
+pub code_there : (old new : Memory) (p : Prototype) (n : ℕ) → AddsCode old new p → n ≡ length (functions old.codes) → prototype_at (functions new.codes) n ≡ p
+code_there old new p n a e =
+    ap (prototype_at (functions new.codes)) e ∙ ap (λ ps. prototype_at ps (length (functions old.codes))) a.functions
+    ∙ ap code_or_none (code_behind (functions old.codes) _ p)

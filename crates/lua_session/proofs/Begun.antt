@@ -1,6 +1,6 @@
 -- The world in memory in which a script has begun.
-use Rattle.std.proofs.Common.{ℕ, ◌≡◌, List, [], ◌∷◌, ◌++◌, length, Some, refl, ap, sym, ◌∙◌}
-use Rattle.std.specs.Prelude.{map, slice_get}
+use Rattle.std.proofs.Common.{ℕ, ◌≡◌, List, [], ◌++◌, length, Some, ap, sym, ◌∙◌}
+use Rattle.std.specs.Prelude.{map}
 use Rattle.std.proofs.lemmas.List.{length-map}
 use Rattle.int_core.specs.Value.{a_function, object}
 use Rattle.code_core.specs.Prototype.{Prototype}
@@ -12,21 +12,11 @@ use Rattle.table_core.specs.declared.value.Value.TheVariants.{Func as FunctionVa
 use Rattle.lua_heap.specs.declared.world.Coro.TheVariants.{Fresh}
 use Rattle.lua_heap.specs.declared.world.Func.{Func}
 use Rattle.lua_heap.specs.declared.world.World.{World as Memory}
-use Rattle.lua_heap.specs.Adding.{AddsCode}
 use Rattle.lua_heap.specs.Changes.{with_function, with_coroutine, AddsFunction, AddsCoroutine}
-use Rattle.lua_heap.specs.Codes.{functions, code_or_none, prototype_at}
+use Rattle.lua_heap.specs.Codes.{functions, prototype_at}
 use Rattle.lua_heap.specs.Plain.{function, cell, plain}
 use Rattle.lua_session.specs.Beginning.{kept_cells}
 use Rattle.lua_session.proofs.Cells.{kept_read}
-
-got_behind : {A : Type 0} (xs ys : List A) (x : A) → slice_get (xs ++ x ∷ ys) (length xs) ≡ Some x
-got_behind [] ys x = refl
-got_behind (z ∷ xs) ys x = got_behind xs ys x
-
-pub code_behind : (old new : Memory) (p : Prototype) (n : ℕ) → AddsCode old new p → n ≡ length (functions old.codes) → prototype_at (functions new.codes) n ≡ p
-code_behind old new p n a e =
-    ap (prototype_at (functions new.codes)) e ∙ ap (λ ps. prototype_at ps (length (functions old.codes))) a.functions
-    ∙ ap code_or_none (got_behind (functions old.codes) _ p)
 
 abbrev with_cells : World → (count : ℕ) → World
 with_cells P count = record P { cells = P.cells ++ main_cells P.globals count }

@@ -1,6 +1,6 @@
 -- Functions of loaded code in memory, and what is handed over.
 use Rattle.std.proofs.Common.{◌≡◌, ℕ, List, [], ◌∷◌, ◌++◌, length, Option, Some, None, refl, ap, ap₂, sym, subst, ◌∙◌}
-use Rattle.std.specs.Prelude.{drop, map, slice_get}
+use Rattle.std.specs.Prelude.{drop, map}
 use Rattle.std.proofs.lemmas.List.{length-map, map_push}
 use Rattle.code_core.specs.Prototype.{Prototype}
 use Rattle.int_core.specs.Value.{Value}
@@ -15,9 +15,8 @@ use Rattle.lua_heap.specs.declared.world.Cell.{Cell as KeptCell}
 use Rattle.lua_heap.specs.declared.world.Cell.TheVariants.{Closed}
 use Rattle.lua_heap.specs.declared.world.Func.{Func}
 use Rattle.lua_heap.specs.declared.world.World.{World as Memory}
-use Rattle.lua_heap.specs.Adding.{AddsCode}
 use Rattle.lua_heap.specs.Cells.{AreListed, open_cells_in}
-use Rattle.lua_heap.specs.Codes.{AreCodes, functions, code_or_none, prototype_at}
+use Rattle.lua_heap.specs.Codes.{AreCodes, functions, prototype_at}
 use Rattle.lua_heap.specs.Plain.{function, cell, plain}
 use Rattle.lua_heap.specs.Reading.{value}
 use Rattle.move_laws.specs.Memory.{HasStack, InOrder, IsSound, Leads, Makes, ReadsSame}
@@ -40,15 +39,6 @@ reads_same {old} {mid} {new} s r h = record {
 
 pub itself : (W : Memory) → ReadsSame W W
 itself W = record { is = λ fuel. refl }
-
-code_behind : {A : Type 0} (xs ys : List A) (x : A) → slice_get (xs ++ x ∷ ys) (length xs) ≡ Some x
-code_behind [] ys x = refl
-code_behind (z ∷ xs) ys x = code_behind xs ys x
-
-pub code_there : (old new : Memory) (p : Prototype) (n : ℕ) → AddsCode old new p → n ≡ length (functions old.codes) → prototype_at (functions new.codes) n ≡ p
-code_there old new p n a e =
-    ap (prototype_at (functions new.codes)) e ∙ ap (λ ps. prototype_at ps (length (functions old.codes))) a.functions
-    ∙ ap code_or_none (code_behind (functions old.codes) _ p)
 
 -- a cell and a function of the code
 

@@ -6,7 +6,8 @@ use Rattle.lua_heap.specs.declared.world.Func.{Func}
 use Rattle.lua_heap.specs.declared.world.World.{World as Memory}
 use Rattle.lua_heap.specs.Cells.{open_cells_in}
 use Rattle.move_laws.specs.Memory.{ReadsSame}
-use Rattle.machine_loads.proofs.Loaded.{code_there, made_from, made_is, order_made, reads_same, room_made}
+use Rattle.lua_heap.proofs.Added.{code_there}
+use Rattle.machine_loads.proofs.Loaded.{made_from, made_is, order_made, reads_same, room_made}
 use Rattle.machine_loads.proofs.making.make_function.Goals as goal
 
 pub returns-clause-made : goal.returns-clause-made
