@@ -13,13 +13,14 @@ use crate::codes::{Code, Codes, Tree};
 use crate::strings::Strings;
 use crate::world::World;
 use code_core::{Checked, Const, Proto};
-use std::alloc::{AllocError, Global};
+use int_core::Allocated;
+use std::alloc::Global;
 use table_core::{ProtoId, Value};
 
 impl World {
     /// Adds code: its function goes last, then those that are defined in it, in the order of the text.
     /// A sound world stays what it is; a refusal changes nothing.
-    pub fn add_code(&mut self, code: Checked) -> Result<ProtoId, AllocError>
+    pub fn add_code(&mut self, code: Checked) -> Allocated<ProtoId>
         requires { AreCodes self.old.strings self.old.codes }
         ensures id { IfOk result (λ id. id.0 ≡ length (functions self.old.codes)) }
         ensures added { OnOk result (AddsCode self.old self.new code) }
@@ -32,7 +33,7 @@ impl World {
 
 impl Codes {
     /// Adds code, and its strings where they are not there. A refusal changes nothing.
-    fn add(&mut self, strings: &mut Strings, code: Checked) -> Result<ProtoId, AllocError>
+    fn add(&mut self, strings: &mut Strings, code: Checked) -> Allocated<ProtoId>
         ensures id { IfOk result (λ id. id.0 ≡ length self.old.list.items) }
         ensures trees { IfOk result (λ id. self.new.trees.items ≡ self.old.trees.items ++ record { first = id.0; code = code } ∷ []) }
         ensures list { OnOk result (AddsFunctions strings.new self.old.list.items self.new.list.items (code ∷ preorder code.inner)) }
@@ -59,11 +60,7 @@ impl Codes {
 }
 
 /// Adds a function, then those that are defined in it. What a refusal leaves begins with what was there.
-fn add_function(
-    strings: &mut Strings,
-    list: &mut Vec<Code>,
-    proto: &Proto,
-) -> Result<(), AllocError>
+fn add_function(strings: &mut Strings, list: &mut Vec<Code>, proto: &Proto) -> Allocated<()>
     requires { IsChecked proto.now }
     ensures strings { Begins (List ℕ) strings.old strings.new }
     ensures begins { Begins Code list.old.items list.new.items }
@@ -83,7 +80,7 @@ fn add_function(
 }
 
 /// What is kept of a function, without the numbers of those that are defined in it.
-fn own_code(strings: &mut Strings, proto: &Proto, alloc: Global) -> Result<Code, AllocError>
+fn own_code(strings: &mut Strings, proto: &Proto, alloc: Global) -> Allocated<Code>
     requires { IsChecked proto.now }
     ensures strings { Begins (List ℕ) strings.old strings.new }
     ensures code { IfOk result (λ code. IsOwnCode strings.new proto.now code) }
@@ -103,11 +100,7 @@ fn own_code(strings: &mut Strings, proto: &Proto, alloc: Global) -> Result<Code,
 }
 
 /// The values of constants, whose strings are added where they are not there.
-fn values_of(
-    strings: &mut Strings,
-    constants: &[Const],
-    alloc: Global,
-) -> Result<Vec<Value>, AllocError>
+fn values_of(strings: &mut Strings, constants: &[Const], alloc: Global) -> Allocated<Vec<Value>>
     requires { list_all constant_fits constants.now ≡ true }
     ensures strings { Begins (List ℕ) strings.old strings.new }
     ensures values { IfOk result (λ vs. map (value strings.new) vs.items ≡ map (λ c. known (constant c)) constants.now) }
@@ -121,7 +114,7 @@ fn values_of(
 }
 
 /// The value of a constant.
-fn value_of(strings: &mut Strings, literal: &Const) -> Result<Value, AllocError>
+fn value_of(strings: &mut Strings, literal: &Const) -> Allocated<Value>
     requires { constant_fits literal.now ≡ true }
     ensures strings { Begins (List ℕ) strings.old strings.new }
     ensures value { IfOk result (λ v. value strings.new v ≡ known (constant literal.now)) }

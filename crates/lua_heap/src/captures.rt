@@ -8,12 +8,13 @@ ghost use Rattle.lua_heap.specs.Captures.{CanOpen, HasTopRegister, OpensOnTop, c
 ghost use Rattle.lua_heap.specs.Plain.{plain};
 
 use crate::world::{Cell, Coro, World};
+use int_core::Allocated;
 use std::alloc::AllocError;
 use table_core::CellId;
 
 impl World {
     /// The cell of a register of the function on top, which is opened where there is none. A refusal changes nothing.
-    pub fn open_cell(&mut self, register: u32) -> Result<CellId, AllocError>
+    pub fn open_cell(&mut self, register: u32) -> Allocated<CellId>
         requires listed { CellsAreListed self.old }
         requires there { HasTopRegister self.old register }
         ensures opened { OnOk result ((fuel : ℕ) (s : RunningStack) → stack_of (plain self.old fuel) ≡ Some s → plain self.new fuel ≡ with_open_cell (plain self.old fuel) s register) }
@@ -49,7 +50,7 @@ fn found_on_top(coro: &Coro, register: usize) -> Option<CellId>
 }
 
 /// Lists a cell at a register of the function on top, and tells that function's frame.
-fn open_on_top(coro: &mut Coro, register: usize, cell: CellId) -> Result<u32, AllocError>
+fn open_on_top(coro: &mut Coro, register: usize, cell: CellId) -> Allocated<u32>
     requires { CanOpen coro.old register }
     ensures opened { IfOk result (λ frame. OpensOnTop coro.old coro.new frame register cell) }
     ensures err { OnErr result (coro.new ≡ coro.old) }

@@ -9,8 +9,9 @@ ghost use Rattle.lua_heap.specs.Cells.{CellsAreListed, list_or_empty, open_cells
 ghost use Rattle.lua_heap.specs.Plain.{coroutine, plain};
 
 use crate::world::{Coro, World};
+use int_core::Allocated;
 use lua_stack::Stack;
-use std::alloc::{AllocError, Global};
+use std::alloc::Global;
 use std::mem;
 use table_core::CoroId;
 
@@ -63,7 +64,7 @@ impl World {
     }
 
     /// Another coroutine runs, from where it stands. A refusal changes nothing.
-    pub fn go_into(&mut self, co: CoroId) -> Result<(), AllocError>
+    pub fn go_into(&mut self, co: CoroId) -> Allocated<()>
         requires { co.0 < length self.old.coros.objects }
         ensures plain { OnOk result ((fuel : ℕ) → plain self.new fuel ≡ go_into (plain self.old fuel) co.0 (awake (slice_get (plain self.old fuel).coroutines co.0))) }
         ensures listed { CellsAreListed self.old → CellsAreListed self.new }

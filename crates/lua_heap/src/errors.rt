@@ -8,7 +8,7 @@ ghost use Rattle.lua_heap.specs.Plain.{plain};
 ghost use Rattle.lua_heap.specs.Reading.{value};
 
 use crate::world::World;
-use std::alloc::AllocError;
+use int_core::Allocated;
 use table_core::Value;
 
 /// The most bytes of a string.
@@ -16,7 +16,7 @@ const GREATEST_STRING: usize = 16_777_216;
 
 impl World {
     /// A text as a string; in place of one that is too long another text says so.
-    pub fn limited(&mut self, text: &[u8]) -> Result<Value, AllocError>
+    pub fn limited(&mut self, text: &[u8]) -> Allocated<Value>
         ensures value { IfOk result (λ v. value self.new.strings v ≡ limited text.now) }
         ensures added { OnOk result (AddsTexts self.old self.new) }
         ensures err { OnErr result (self.new ≡ self.old) }
@@ -30,7 +30,7 @@ impl World {
     }
 
     /// The text of an error of the function on top, with its place in front.
-    pub fn raise_text(&mut self, text: &[u8]) -> Result<Value, AllocError>
+    pub fn raise_text(&mut self, text: &[u8]) -> Allocated<Value>
         requires { AreCodes self.old.strings self.old.codes }
         ensures value { IfOk result (λ v. (fuel : ℕ) → value self.new.strings v ≡ blamed (plain self.old fuel) text.now) }
         ensures added { OnOk result (AddsTexts self.old self.new) }
@@ -43,7 +43,7 @@ impl World {
     }
 
     /// A string with the place of a level in front (`error` of the Lua 5.4 manual, 6.1); another value as it is.
-    pub fn place_text(&mut self, message: Value, level: usize) -> Result<Value, AllocError>
+    pub fn place_text(&mut self, message: Value, level: usize) -> Allocated<Value>
         requires codes { AreCodes self.old.strings self.old.codes }
         requires there { HasText self.old.strings message }
         ensures value { IfOk result (λ v. (fuel : ℕ) → value self.new.strings v ≡ placed (plain self.old fuel) level (value self.old.strings message)) }

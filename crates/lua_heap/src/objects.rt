@@ -3,12 +3,12 @@ ghost use Rattle.std.specs.Prelude.{◌≡◌, length, IfOk, OnOk, OnErr};
 ghost use Rattle.lua_heap.specs.Changes.{AddsTable, AddsFunction, AddsCell, AddsCoroutine};
 
 use crate::world::{Cell, Coro, Func, World};
-use std::alloc::AllocError;
+use int_core::Allocated;
 use table_core::{CellId, CoroId, FuncId, Table, TableId};
 
 impl World {
     /// Adds a table. A refusal changes nothing.
-    pub fn add_table(&mut self, table: Table) -> Result<TableId, AllocError>
+    pub fn add_table(&mut self, table: Table) -> Allocated<TableId>
         ensures id { IfOk result (λ id. id.0 ≡ length self.old.tables.objects) }
         ensures added { OnOk result (AddsTable self.old self.new table) }
         ensures err { OnErr result (self.new ≡ self.old) }
@@ -18,7 +18,7 @@ impl World {
     }
 
     /// Adds a Lua function. A refusal changes nothing.
-    pub fn add_func(&mut self, func: Func) -> Result<FuncId, AllocError>
+    pub fn add_func(&mut self, func: Func) -> Allocated<FuncId>
         ensures id { IfOk result (λ id. id.0 ≡ length self.old.funcs.objects) }
         ensures added { OnOk result (AddsFunction self.old self.new func) }
         ensures err { OnErr result (self.new ≡ self.old) }
@@ -28,7 +28,7 @@ impl World {
     }
 
     /// Adds a cell. A refusal changes nothing.
-    pub fn add_cell(&mut self, cell: Cell) -> Result<CellId, AllocError>
+    pub fn add_cell(&mut self, cell: Cell) -> Allocated<CellId>
         ensures id { IfOk result (λ id. id.0 ≡ length self.old.cells.objects) }
         ensures added { OnOk result (AddsCell self.old self.new cell) }
         ensures err { OnErr result (self.new ≡ self.old) }
@@ -38,7 +38,7 @@ impl World {
     }
 
     /// Adds a coroutine. A refusal changes nothing.
-    pub fn add_coro(&mut self, coro: Coro) -> Result<CoroId, AllocError>
+    pub fn add_coro(&mut self, coro: Coro) -> Allocated<CoroId>
         ensures id { IfOk result (λ id. id.0 ≡ length self.old.coros.objects) }
         ensures added { OnOk result (AddsCoroutine self.old self.new coro) }
         ensures err { OnErr result (self.new ≡ self.old) }

@@ -10,8 +10,9 @@ ghost use Rattle.lua_heap.specs.Plain.{plain};
 use crate::codes::Codes;
 use crate::strings::Strings;
 use crate::world::{Mark, Prelude, World};
+use int_core::Allocated;
 use object_pool::Pool;
-use std::alloc::{AllocError, Global};
+use std::alloc::Global;
 use table_core::{StrId, Table, TableId};
 
 /// The fields of metatables that mean something, in the order of their numbers, and last the one that says how a table is saved.
@@ -49,7 +50,7 @@ const PERSIST: StrId = StrId(25);
 
 impl World {
     /// A world with empty globals and an empty environment of the prelude, in which nothing has run.
-    pub fn new(alloc: Global) -> Result<World, AllocError>
+    pub fn new(alloc: Global) -> Allocated<World>
         ensures plain { IfOk result (λ world. (fuel : ℕ) → plain world fuel ≡ opened_world fuel) }
         ensures strings { IfOk result (λ world. world.strings ≡ first_texts) }
         ensures codes { IfOk result (λ world. AreCodes world.strings world.codes) }
@@ -114,7 +115,7 @@ impl World {
 }
 
 /// Adds the strings that are not there yet, one after another.
-fn intern_all(strings: &mut Strings, texts: &[&[u8]]) -> Result<(), AllocError>
+fn intern_all(strings: &mut Strings, texts: &[&[u8]]) -> Allocated<()>
     requires { list_all (λ text. nat_le (length text.now) greatest_string) texts.now ≡ true }
     ensures { OnOk result (strings.new ≡ all_interned strings.old (map (λ text. text.now) texts.now)) }
 {

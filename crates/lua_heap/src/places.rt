@@ -11,9 +11,10 @@ ghost use Rattle.lua_heap.specs.Plain.{plain};
 
 use crate::world::{Coro, World};
 use code_core::{AbsLine, Proto};
+use int_core::Allocated;
 use itoa::Buffer;
 use lua_stack::Stack;
-use std::alloc::{AllocError, Global};
+use std::alloc::Global;
 use table_core::FuncId;
 
 /// A line of a source.
@@ -25,7 +26,7 @@ struct Position<'a> {
 
 impl World {
     /// `NAME:LINE: ` of a function with lines in the running coroutine, where the one on top has level 0; nothing where there is none.
-    pub fn where_text(&self, level: usize) -> Result<Vec<u8>, AllocError>
+    pub fn where_text(&self, level: usize) -> Allocated<Vec<u8>>
         requires { AreCodes self.now.strings self.now.codes }
         ensures { IfOk result (λ text. (fuel : ℕ) → text.items ≡ where_text (plain self.now fuel) level) }
     {
@@ -161,7 +162,7 @@ fn given_line(lines: &[AbsLine], pc: usize) -> Option<u32>
 }
 
 /// `NAME:LINE: `
-fn position_text(alloc: Global, source: &[u8], line: u32) -> Result<Vec<u8>, AllocError>
+fn position_text(alloc: Global, source: &[u8], line: u32) -> Allocated<Vec<u8>>
     ensures { IfOk result (λ text. text.items ≡ position source.now line) }
 {
     let mut text = Vec::from_slice(alloc, source_name(source))?;

@@ -5,6 +5,7 @@ ghost use Rattle.int_core.specs.Value.{greatest_string};
 ghost use Rattle.lua_heap.specs.Strings.{interned, AreApart, AreShort};
 
 use indexmap::IndexSet;
+use int_core::Allocated;
 use std::alloc::{AllocError, Global};
 use std::marker::Model;
 use table_core::StrId;
@@ -80,7 +81,7 @@ impl Strings {
     }
 
     /// The string with these bytes, which is added where there is none. A refusal changes nothing.
-    pub fn intern(&mut self, bytes: &[u8]) -> Result<StrId, AllocError>
+    pub fn intern(&mut self, bytes: &[u8]) -> Allocated<StrId>
         requires { length bytes.now ≤ greatest_string }
         ensures named { IfOk result (λ id. slice_get self.new id.0 ≡ Some bytes.now) }
         ensures added { OnOk result (self.new ≡ interned self.old bytes.now) }
@@ -136,7 +137,7 @@ impl Strings {
     }
 
     /// The string with these bytes, found by its hash, or added. A refusal changes nothing.
-    fn kept(&mut self, bytes: &[u8]) -> Result<StrId, AllocError>
+    fn kept(&mut self, bytes: &[u8]) -> Allocated<StrId>
         requires { length bytes.now ≤ greatest_string }
         ensures named { IfOk result (λ id. slice_get self.new id.0 ≡ Some bytes.now) }
         ensures added { OnOk result (self.new ≡ interned self.old bytes.now) }
@@ -163,7 +164,7 @@ impl Strings {
     }
 
     /// Adds a string whose bytes no other has.
-    fn add(&mut self, bytes: &[u8]) -> Result<StrId, AllocError>
+    fn add(&mut self, bytes: &[u8]) -> Allocated<StrId>
         requires short { length bytes.now ≤ greatest_string }
         requires new { list_any (bytes_eq bytes.now) self.old ≡ false }
         ensures id { IfOk result (λ id. id.0 ≡ length self.old) }

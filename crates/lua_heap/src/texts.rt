@@ -6,7 +6,7 @@ ghost use Rattle.lua_heap.specs.Changes.{Interns, Prints};
 ghost use Rattle.lua_heap.specs.Plain.{plain};
 
 use crate::world::World;
-use std::alloc::AllocError;
+use int_core::Allocated;
 use table_core::StrId;
 
 impl World {
@@ -19,7 +19,7 @@ impl World {
     }
 
     /// The string with these bytes, which is added where there is none. A sound world stays what it is; a refusal changes nothing.
-    pub fn intern(&mut self, bytes: &[u8]) -> Result<StrId, AllocError>
+    pub fn intern(&mut self, bytes: &[u8]) -> Allocated<StrId>
         requires { length bytes.now ≤ greatest_string }
         ensures named { IfOk result (λ id. slice_get self.new.strings id.0 ≡ Some bytes.now) }
         ensures interned { OnOk result (Interns self.old self.new bytes.now) }
@@ -41,7 +41,7 @@ impl World {
     }
 
     /// Prints bytes. A refusal prints nothing.
-    pub fn print(&mut self, bytes: &[u8]) -> Result<(), AllocError>
+    pub fn print(&mut self, bytes: &[u8]) -> Allocated<()>
         ensures printed { OnOk result (Prints self.old self.new bytes.now) }
         ensures err { OnErr result ((fuel : ℕ) → plain self.new fuel ≡ plain self.old fuel) }
         ensures rest { self.new ≡ record self.old { printed = self.new.printed } }

@@ -9,11 +9,11 @@ ghost use Rattle.move_laws.specs.Memory.{InOrder, IsSafe, IsSound, Steps};
 ghost use Rattle.machine_moves.specs.Ending.{ending_of};
 ghost use Rattle.machine_call_rows.specs.Rows.{IsWaitOfCall, MayKeep, MayReadValues, ReadsValues};
 
+use int_core::Allocated;
 use lua_heap::World;
 use lua_stack::Wait;
 use machine_calls::{Prepared, call_in_place, call_over, call_registers};
 use machine_moves::{Ending, read_list, read_register, read_registers};
-use std::alloc::AllocError;
 use table_core::Value;
 
 /// The value of a register is called for a unit of the budget, with the values of one register fewer than `count` behind it, or for 0 those up to the end
@@ -26,7 +26,7 @@ pub fn call(
     count: usize,
     keeps: usize,
     iterates: bool,
-) -> Result<Ending, AllocError>
+) -> Allocated<Ending>
     requires sound { IsSound world.old }
     requires keeps { MayKeep world.old keeps }
     requires near { function + 1 < 2 ^ 64 }
@@ -50,7 +50,7 @@ fn call_function(
     count: usize,
     keeps: usize,
     iterates: bool,
-) -> Result<bool, AllocError>
+) -> Allocated<bool>
     requires sound { IsSound world.old }
     requires keeps { MayKeep world.old keeps }
     requires near { function + 1 < 2 ^ 64 }
@@ -83,7 +83,7 @@ fn call_apart(
     count: usize,
     keeps: usize,
     iterates: bool,
-) -> Result<Ending, AllocError>
+) -> Allocated<Ending>
     requires sound { IsSound world.old }
     requires keeps { MayKeep world.old keeps }
     requires near { function + 1 < 2 ^ 64 }
@@ -111,7 +111,7 @@ pub fn tail_call(
     budget: &mut u64,
     function: usize,
     count: usize,
-) -> Result<Ending, AllocError>
+) -> Allocated<Ending>
     requires sound { IsSound world.old }
     requires near { function + 1 < 2 ^ 64 }
     requires safe { (p : Prototype) (pc : ℕ) → IsSafe (expand (text_of p pc (TailCall function count))) [] world.old }

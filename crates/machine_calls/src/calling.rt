@@ -14,9 +14,9 @@ ghost use Rattle.machine_calls.specs.Calling.{CanCall, CanEnter, told_of};
 ghost use Rattle.machine_calls.specs.Entering.{EntersSo};
 
 use crate::entering::enter_function;
+use int_core::Allocated;
 use lua_heap::World;
 use meta_ops::{Callee, Event, Fault, Heap, callee_of, handler_in};
-use std::alloc::AllocError;
 use table_core::Value;
 
 /// What a call came to.
@@ -40,7 +40,7 @@ pub fn call_value(
     budget: &mut u64,
     called: Value,
     arguments: Vec<Value>,
-) -> Result<Called, AllocError>
+) -> Allocated<Called>
     requires running { HasStack world.old }
     requires codes { AreCodes world.old.strings world.old.codes }
     requires callable { CanCall world.old (meant world.old.strings called) }
@@ -73,7 +73,7 @@ pub fn with_links(
     called: Value,
     links: usize,
     arguments: Vec<Value>,
-) -> Result<Vec<Value>, AllocError>
+) -> Allocated<Vec<Value>>
     ensures { IfOk result (λ all. map (meant heap.entry.strings.now) all.items ≡ through links (heap_of heap.entry) (meant heap.entry.strings.now called) (map (meant heap.entry.strings.now) arguments.items)) }
 {
     let mut at = called;
@@ -86,11 +86,7 @@ pub fn with_links(
 }
 
 /// Enters a function or a primitive. Want of memory leaves all as before.
-pub fn enter_callee(
-    world: &mut World,
-    function: Value,
-    arguments: Vec<Value>,
-) -> Result<Called, AllocError>
+pub fn enter_callee(world: &mut World, function: Value, arguments: Vec<Value>) -> Allocated<Called>
     requires running { HasStack world.old }
     requires codes { AreCodes world.old.strings world.old.codes }
     requires function { CanEnter world.old (meant world.old.strings function) }

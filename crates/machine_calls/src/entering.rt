@@ -10,18 +10,14 @@ ghost use Rattle.move_laws.specs.Memory.{HasStack};
 ghost use Rattle.machine_calls.specs.Entering.{EntersSo, HasFunction, HasShape, entered_or_not};
 ghost use Rattle.machine_calls.specs.Waiting.{IsFull};
 
+use int_core::Allocated;
 use lua_heap::{Coro, World, law};
 use lua_stack::{GREATEST_DEPTH, Shape, Stack};
 use machine_moves::running;
-use std::alloc::AllocError;
 use table_core::{FuncId, Value};
 
 /// Enters a function with these arguments, and says whether there was room. Where there is none, and where memory is wanting, all is as before.
-pub fn enter_function(
-    world: &mut World,
-    function: FuncId,
-    arguments: &[Value],
-) -> Result<bool, AllocError>
+pub fn enter_function(world: &mut World, function: FuncId, arguments: &[Value]) -> Allocated<bool>
     requires running { HasStack world.old }
     requires codes { AreCodes world.old.strings world.old.codes }
     requires function { HasFunction world.old function.0 }
@@ -60,7 +56,7 @@ fn enter_stack(
     function: FuncId,
     shape: Shape,
     arguments: &[Value],
-) -> Result<bool, AllocError>
+) -> Allocated<bool>
     requires { shape.params ≤ shape.stack }
     ensures room { IfOk result (λ room. room ≡ nat_le (length stack.old.frames + 1) greatest_depth) }
     ensures entered { IfOk result (λ room. room ≡ true → Enters stack.old stack.new function shape arguments.now) }

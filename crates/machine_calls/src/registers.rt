@@ -8,10 +8,10 @@ ghost use Rattle.machine_calls.specs.Preparing.{CanPrepare};
 ghost use Rattle.machine_calls.specs.Waiting.{IsFull};
 
 use crate::entering::{is_full, shape_of};
+use int_core::Allocated;
 use lua_heap::{Coro, World};
 use lua_stack::Wait;
 use machine_moves::{code_on_top, running};
-use std::alloc::AllocError;
 use table_core::FuncId;
 
 /// Calls a Lua function for a unit of the budget, with the values of so many registers behind the one from which on the Lua frame on top gives its
@@ -24,7 +24,7 @@ pub fn call_registers(
     register: usize,
     given: usize,
     wait: Wait,
-) -> Result<bool, AllocError>
+) -> Allocated<bool>
     requires order { InOrder world.old }
     requires ready { CanPrepare world.old (GivenUp register) }
     requires room { HasGiven world.old register given }
@@ -52,7 +52,7 @@ fn enter_registers(
     register: usize,
     given: usize,
     wait: Wait,
-) -> Result<(), AllocError>
+) -> Allocated<()>
     requires order { InOrder world.old }
     requires ready { CanPrepare world.old (GivenUp register) }
     requires room { HasGiven world.old register given }

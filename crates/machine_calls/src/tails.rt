@@ -9,11 +9,11 @@ ghost use Rattle.machine_calls.specs.Tails.{MayCallInPlace, CallsInPlace, Enters
 use crate::calling::with_links;
 use crate::entering::enter_function;
 use crate::leaving::drop_frame;
+use int_core::Allocated;
 use lua_heap::World;
 use machine_errors::raise;
 use machine_moves::Ending;
 use meta_ops::{Callee, Heap, callee_of};
-use std::alloc::AllocError;
 use table_core::Value;
 
 /// Calls a value with these arguments for a unit of the budget, in place of the Lua frame on top, whose cells are closed (Lua 5.4 manual, 3.4.10). Where it
@@ -23,7 +23,7 @@ pub fn call_in_place(
     budget: &mut u64,
     called: Value,
     arguments: Vec<Value>,
-) -> Result<Ending, AllocError>
+) -> Allocated<Ending>
     requires sound { IsSound world.old }
     requires frame { HasFrame world.old }
     requires safe { MayCallInPlace world.old called arguments.items }
@@ -52,11 +52,7 @@ pub fn call_in_place(
 }
 
 /// Enters a function or a primitive in place of the Lua frame on top.
-fn enter_in_place(
-    world: &mut World,
-    function: Value,
-    arguments: Vec<Value>,
-) -> Result<Ending, AllocError>
+fn enter_in_place(world: &mut World, function: Value, arguments: Vec<Value>) -> Allocated<Ending>
     requires sound { IsSound world.old }
     requires frame { HasFrame world.old }
     requires function { CanEnter world.old (meant world.old.strings function) }

@@ -13,12 +13,12 @@ ghost use Rattle.machine_calls.specs.Waiting.{AsksSo, CallsSo, EntersOver, IsHel
 use crate::calling::with_links;
 use crate::entering::{enter_function, is_full};
 use crate::preparing::{Prepared, make_ready};
+use int_core::Allocated;
 use lua_heap::World;
 use lua_stack::Wait;
 use machine_errors::{begin_leaving_with, blamed_text};
 use machine_moves::Ending;
 use meta_ops::{Callee, Heap, callee_of};
-use std::alloc::AllocError;
 use table_core::{FuncId, Value};
 
 /// The Lua frame on top waits, and asks for a value to be called with these arguments. A refusal changes nothing.
@@ -28,7 +28,7 @@ pub fn ask_over(
     arguments: Vec<Value>,
     wait: Wait,
     prepared: Prepared,
-) -> Result<Ending, AllocError>
+) -> Allocated<Ending>
     requires order { InOrder world.old }
     requires ready { CanPrepare world.old prepared }
     ensures leads { IfOk result (λ ending. AsksSo world.old world.new called arguments.items wait prepared (ending_of ending)) }
@@ -52,7 +52,7 @@ pub fn call_over(
     arguments: Vec<Value>,
     wait: Wait,
     prepared: Prepared,
-) -> Result<Ending, AllocError>
+) -> Allocated<Ending>
     requires sound { IsSound world.old }
     requires ready { CanPrepare world.old prepared }
     requires safe { MayCall world.old called arguments.items wait prepared }
@@ -87,7 +87,7 @@ fn enter_over(
     arguments: Vec<Value>,
     wait: Wait,
     prepared: Prepared,
-) -> Result<Ending, AllocError>
+) -> Allocated<Ending>
     requires sound { IsSound world.old }
     requires ready { CanPrepare world.old prepared }
     requires function { CanEnter world.old (meant world.old.strings function) }
@@ -115,7 +115,7 @@ fn enter_function_over(
     arguments: &[Value],
     wait: Wait,
     prepared: Prepared,
-) -> Result<Ending, AllocError>
+) -> Allocated<Ending>
     requires sound { IsSound world.old }
     requires ready { CanPrepare world.old prepared }
     requires function { HasFunction world.old function.0 }
@@ -136,12 +136,7 @@ fn enter_function_over(
 }
 
 /// Raises an error of the Lua frame on top, which has made itself ready for a call. A refusal changes nothing.
-fn raise_over(
-    world: &mut World,
-    text: &[u8],
-    wait: Wait,
-    prepared: Prepared,
-) -> Result<Ending, AllocError>
+fn raise_over(world: &mut World, text: &[u8], wait: Wait, prepared: Prepared) -> Allocated<Ending>
     requires sound { IsSound world.old }
     requires ready { CanPrepare world.old prepared }
     requires held_wait { IsHeldWait world.old.strings wait }

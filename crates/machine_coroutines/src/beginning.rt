@@ -13,10 +13,11 @@ ghost use Rattle.machine_coroutines.specs.Beginning.{IsLeft, PushesClosing, told
 ghost use Rattle.machine_coroutines.specs.declared.beginning.Begun.TheVariants.{Entered};
 
 use crate::burying::bury;
+use int_core::Allocated;
 use lua_heap::{Coro, World};
 use lua_stack::{GREATEST_DEPTH, Stack};
 use machine_moves::running;
-use std::alloc::{AllocError, Global};
+use std::alloc::Global;
 use table_core::{CoroId, Value};
 
 /// What the closing of a coroutine begins with.
@@ -45,7 +46,7 @@ enum Left {
 
 /// Puts a frame on top under which the variables of a coroutine are closed. The coroutine is dead, and its cells are closed. Where it cannot be closed or
 /// there is no room, and where memory is wanting, all is as before.
-pub fn begin_closing(world: &mut World, co: CoroId) -> Result<Begun, AllocError>
+pub fn begin_closing(world: &mut World, co: CoroId) -> Allocated<Begun>
     requires running { HasStack world.old }
     requires listed { CellsAreListed world.old }
     requires there { co.0 < length world.old.coros.objects }
@@ -70,7 +71,7 @@ pub fn begin_closing(world: &mut World, co: CoroId) -> Result<Begun, AllocError>
 }
 
 /// What a coroutine leaves that is closed.
-fn left_by(coro: &Coro, alloc: Global) -> Result<Left, AllocError>
+fn left_by(coro: &Coro, alloc: Global) -> Allocated<Left>
     ensures { IfOk result (λ left. IsLeft coro.now left) }
 {
     match coro {
@@ -84,11 +85,7 @@ fn left_by(coro: &Coro, alloc: Global) -> Result<Left, AllocError>
 }
 
 /// Puts a frame of `coroutine.close` on top, and says whether there was room. Where there is none, and where memory is wanting, all is as before.
-fn push_closing(
-    world: &mut World,
-    error: Option<Value>,
-    values: &[Value],
-) -> Result<bool, AllocError>
+fn push_closing(world: &mut World, error: Option<Value>, values: &[Value]) -> Allocated<bool>
     requires { HasStack world.old }
     ensures pushes { IfOk result (λ room. PushesClosing world.old world.new error values.now room) }
     ensures same { IfOk result (λ room. room ≡ false → world.new ≡ world.old) }
@@ -104,7 +101,7 @@ fn push_closing(
 }
 
 /// Puts such a frame on top of a stack that has room for one.
-fn push_on(stack: &mut Stack, error: Option<Value>, values: &[Value]) -> Result<bool, AllocError>
+fn push_on(stack: &mut Stack, error: Option<Value>, values: &[Value]) -> Allocated<bool>
     ensures room { IfOk result (λ room. room ≡ nat_le (length stack.old.frames + 1) greatest_depth) }
     ensures pushed { IfOk result (λ room. stack.new.frames ≡ cond room (stack.old.frames ++ kept_closing error values.now ∷ []) stack.old.frames) }
     ensures same { IfOk result (λ room. room ≡ false → stack.new ≡ stack.old) }

@@ -8,13 +8,13 @@ ghost use Rattle.move_laws.specs.Memory.{HasStack, InOrder, IsSafe, Leads};
 ghost use Rattle.machine_moves.specs.Ending.{ending_of};
 
 use crate::ends::{end_coroutine, fail_coroutine, pending_values};
+use int_core::Allocated;
 use lua_heap::World;
 use machine_moves::{Ending, give_values, hand_over, put_in_front, take_moving};
-use std::alloc::AllocError;
 use table_core::Value;
 
 /// A resumed coroutine has returned: it is dead, and `coroutine.resume` answers true and the results (Lua 5.4 manual, 6.2). A refusal changes nothing.
-pub fn return_running(world: &mut World) -> Result<Ending, AllocError>
+pub fn return_running(world: &mut World) -> Allocated<Ending>
     requires order { InOrder world.old }
     requires running { HasStack world.old }
     requires safe { IsSafe (handed_to (no_top false)) [] world.old }
@@ -31,7 +31,7 @@ pub fn return_running(world: &mut World) -> Result<Ending, AllocError>
 
 /// Nothing in a resumed coroutine catches an error: the coroutine has failed, and `coroutine.resume` answers false and the error. A refusal changes
 /// nothing.
-pub fn fail_running(world: &mut World) -> Result<Ending, AllocError>
+pub fn fail_running(world: &mut World) -> Allocated<Ending>
     requires order { InOrder world.old }
     requires running { HasStack world.old }
     requires safe { IsSafe coroutine_fails [] world.old }
@@ -61,7 +61,7 @@ pub fn return_from_main(world: &mut World) -> Ending
 }
 
 /// The main script has failed, and the error moves. A refusal changes nothing.
-pub fn fail_main(world: &mut World) -> Result<Ending, AllocError>
+pub fn fail_main(world: &mut World) -> Allocated<Ending>
     requires order { InOrder world.old }
     requires running { HasStack world.old }
     ensures leads { IfOk result (λ ending. Leads (unwound (no_top true)) [] world.old world.new (ending_of ending)) }

@@ -10,9 +10,9 @@ ghost use Rattle.move_laws.specs.Memory.{HasStack, Makes};
 ghost use Rattle.machine_coroutines.specs.Ends.{IsPending};
 
 use crate::burying::bury;
+use int_core::Allocated;
 use lua_heap::{Coro, World};
 use machine_moves::{running, running_stack};
-use std::alloc::AllocError;
 use table_core::Value;
 
 /// The running coroutine has returned, and the one that resumed it goes on.
@@ -39,7 +39,7 @@ pub fn fail_coroutine(world: &mut World, error: Value, pending: Vec<Value>)
 }
 
 /// The values that an error would leave to be closed: those of the pending registers of all frames, from the bottom.
-pub fn pending_values(world: &World) -> Result<Vec<Value>, AllocError>
+pub fn pending_values(world: &World) -> Allocated<Vec<Value>>
     requires { HasStack world.now }
     ensures { IfOk result (λ values. IsPending world.now values.items) }
 {

@@ -12,13 +12,13 @@ ghost use Rattle.machine_coroutines.specs.Closings.{LeavesWith};
 
 use crate::closing::{Closing, find_close, set_error, take_closing};
 use crate::endings::first_of;
+use int_core::Allocated;
 use lua_heap::World;
 use machine_moves::{Ending, give_values, hand_over, pop_frame, take_moving};
-use std::alloc::AllocError;
 use table_core::Value;
 
 /// A `__close` method has returned: the next one is called, or `coroutine.close` answers. A refusal changes nothing.
-pub fn close_on(world: &mut World) -> Result<Ending, AllocError>
+pub fn close_on(world: &mut World) -> Allocated<Ending>
     requires order { InOrder world.old }
     requires closing { TopIs world.old ClosingTop }
     ensures leads { IfOk result (λ ending. Leads (handed_to closing_top) [] world.old world.new (ending_of ending)) }
@@ -32,7 +32,7 @@ pub fn close_on(world: &mut World) -> Result<Ending, AllocError>
 
 /// A `__close` method has failed: its error takes the place of the one that there was, and the next one is called, or `coroutine.close` answers.
 /// A refusal changes nothing.
-pub fn close_on_error(world: &mut World) -> Result<Ending, AllocError>
+pub fn close_on_error(world: &mut World) -> Allocated<Ending>
     requires order { InOrder world.old }
     requires closing { TopIs world.old ClosingTop }
     ensures leads { IfOk result (λ ending. Leads (unwound closing_top) [] world.old world.new (ending_of ending)) }

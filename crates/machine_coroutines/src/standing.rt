@@ -10,9 +10,9 @@ ghost use Rattle.lua_heap.specs.Reading.{value as meant};
 ghost use Rattle.move_laws.specs.Memory.{HasStack, Makes};
 ghost use Rattle.machine_coroutines.specs.Standing.{status_in};
 
+use int_core::Allocated;
 use lua_heap::{Coro, World, law};
 use machine_moves::running;
-use std::alloc::AllocError;
 use table_core::{CoroId, Value};
 
 /// How a coroutine stands.
@@ -47,7 +47,7 @@ pub fn runs_main(world: &World) -> bool
 }
 
 /// A new coroutine, with a function as its body. A refusal changes nothing.
-pub fn create(world: &mut World, body: Value) -> Result<CoroId, AllocError>
+pub fn create(world: &mut World, body: Value) -> Allocated<CoroId>
     requires { is_function (meant world.old.strings body) ≡ true }
     ensures makes { IfOk result (λ id. (env : List Meant) (x : Arg) → arg env x ≡ meant world.old.strings body → Makes world.old world.new (creates x) env (object a_coroutine id.0 ∷ []) tt) }
     ensures running { HasStack world.old → HasStack world.new }

@@ -4,14 +4,14 @@ ghost use Rattle.lua_heap.specs.Cells.{CellsAreListed};
 ghost use Rattle.move_laws.specs.Memory.{HasStack};
 ghost use Rattle.machine_errors.specs.Asking.{AsksOver};
 
+use int_core::Allocated;
 use lua_heap::World;
 use machine_moves::{Over, give_values, push_frame};
-use std::alloc::AllocError;
 use table_core::Value;
 
 /// Puts a frame on top, over which the first of these values is to be called with the others, and says whether there was room. Where there is none, the
 /// machine's world is as before. A refusal changes nothing.
-pub(crate) fn ask_over(world: &mut World, over: Over, asked: Vec<Value>) -> Result<bool, AllocError>
+pub(crate) fn ask_over(world: &mut World, over: Over, asked: Vec<Value>) -> Allocated<bool>
     requires { HasStack world.old }
     ensures asks { IfOk result (λ room. AsksOver world.old world.new over asked.items room) }
     ensures listed { CellsAreListed world.old → CellsAreListed world.new }

@@ -10,14 +10,14 @@ ghost use Rattle.move_laws.specs.Memory.{HasStack, InOrder, IsSafe, IsSound, Mak
 ghost use Rattle.machine_errors.specs.Catching.{Catches, uncaught};
 
 use crate::handlers::call_handler;
+use int_core::Allocated;
 use lua_heap::World;
 use lua_stack::Top;
 use machine_moves::{Ending, running_stack};
-use std::alloc::AllocError;
 
 /// An error has been raised: a message handler is to be called, or the frame on top is left with the error. Nothing is done, and none is the answer,
 /// where nothing in a resumed coroutine catches the error. After a refusal the machine's world is as before.
-pub fn call_catcher(world: &mut World) -> Result<Option<Ending>, AllocError>
+pub fn call_catcher(world: &mut World) -> Allocated<Option<Ending>>
     requires sound { IsSound world.old }
     requires safe { IsSafe raised_row [] world.old }
     ensures catches { IfOk result (λ found. Catches world.old world.new found) }

@@ -12,9 +12,10 @@ ghost use Rattle.machine_errors.specs.Handlers.{IsFailure};
 
 use crate::asking::ask_over;
 use crate::protected::first_of;
+use int_core::Allocated;
 use lua_heap::World;
 use machine_moves::{Ending, Over, give_values, pop_frame, put_in_front, take_moving};
-use std::alloc::{AllocError, Global};
+use std::alloc::Global;
 use table_core::Value;
 
 /// The error that takes the place of one that a message handler cannot be called with, or fails with.
@@ -23,7 +24,7 @@ const HANDLER_FAILURE: &[u8] = b"error in error handling";
 /// The message handler of an `xpcall` is to be called with the error that moves, before any frame is left. Where the stack has no room, the error is
 /// `error in error handling`. After a refusal the
 /// machine's world is as before.
-pub fn call_handler(world: &mut World, handler: Value) -> Result<Ending, AllocError>
+pub fn call_handler(world: &mut World, handler: Value) -> Allocated<Ending>
     requires sound { IsSound world.old }
     requires running { HasStack world.old }
     ensures leads { IfOk result (λ ending. (env : List Meant) → Leads (raised_to xpcall_top (length env)) (env ++ meant world.old.strings handler ∷ []) world.old world.new (ending_of ending)) }
@@ -38,7 +39,7 @@ pub fn call_handler(world: &mut World, handler: Value) -> Result<Ending, AllocEr
 }
 
 /// The frame on top is left with `error in error handling`. A refusal changes nothing.
-pub fn give_up(world: &mut World) -> Result<Ending, AllocError>
+pub fn give_up(world: &mut World) -> Allocated<Ending>
     requires { IsSound world.old }
     ensures leads { IfOk result (λ ending. (env : List Meant) → Leads gives_up env world.old world.new (ending_of ending)) }
     ensures order { InOrder world.new }
@@ -50,7 +51,7 @@ pub fn give_up(world: &mut World) -> Result<Ending, AllocError>
 }
 
 /// An error reaches the frame over which a message handler was called: it becomes `error in error handling`. A refusal changes nothing.
-pub fn fail_handler(world: &mut World) -> Result<Ending, AllocError>
+pub fn fail_handler(world: &mut World) -> Allocated<Ending>
     requires sound { IsSound world.old }
     requires frame { HasOther world.old }
     ensures leads { IfOk result (λ ending. (env : List Meant) → Leads (unwound handler_top) env world.old world.new (ending_of ending)) }
@@ -64,7 +65,7 @@ pub fn fail_handler(world: &mut World) -> Result<Ending, AllocError>
 }
 
 /// Results reach it: the first one is the error with which the frames below are left. A refusal changes nothing.
-pub fn answer_handler(world: &mut World) -> Result<Ending, AllocError>
+pub fn answer_handler(world: &mut World) -> Allocated<Ending>
     requires order { InOrder world.old }
     requires frame { HasOther world.old }
     ensures leads { IfOk result (λ ending. (env : List Meant) → Leads (handed_to handler_top) env world.old world.new (ending_of ending)) }
@@ -79,7 +80,7 @@ pub fn answer_handler(world: &mut World) -> Result<Ending, AllocError>
 }
 
 /// The text of that error, alone among the values that are to move. A refusal changes nothing.
-fn handler_failure(world: &mut World) -> Result<Vec<Value>, AllocError>
+fn handler_failure(world: &mut World) -> Allocated<Vec<Value>>
     ensures failure { IfOk result (λ failure. IsFailure (meant world.new.strings) failure.items) }
     ensures added { OnOk result (AddsTexts world.old world.new) }
     ensures err { OnErr result (world.new ≡ world.old) }
@@ -92,7 +93,7 @@ fn handler_failure(world: &mut World) -> Result<Vec<Value>, AllocError>
 }
 
 /// One value.
-fn one_value(alloc: Global, v: Value) -> Result<Vec<Value>, AllocError>
+fn one_value(alloc: Global, v: Value) -> Allocated<Vec<Value>>
     ensures { IfOk result (λ one. one.items ≡ v ∷ []) }
 {
     let mut one = Vec::new(alloc);

@@ -9,13 +9,13 @@ ghost use Rattle.machine_moves.specs.Tops.{HasOther};
 ghost use Rattle.machine_moves.specs.Ending.{ending_of};
 ghost use Rattle.machine_errors.specs.Protected.{AnswersWith, first_of};
 
+use int_core::Allocated;
 use lua_heap::World;
 use machine_moves::{Ending, give_values, hand_over, pop_frame, put_in_front, take_moving};
-use std::alloc::AllocError;
 use table_core::Value;
 
 /// Results reach the frame of a `pcall` or an `xpcall`: it answers true and the results. A refusal changes nothing.
-pub fn answer_results(world: &mut World) -> Result<Ending, AllocError>
+pub fn answer_results(world: &mut World) -> Allocated<Ending>
     requires order { InOrder world.old }
     requires frame { HasOther world.old }
     ensures leads { IfOk result (λ ending. (env : List Meant) → Leads (handed_to pcall_top) env world.old world.new (ending_of ending)) }
@@ -27,7 +27,7 @@ pub fn answer_results(world: &mut World) -> Result<Ending, AllocError>
 }
 
 /// An error reaches it: it answers false and the error. A refusal changes nothing.
-pub fn answer_error(world: &mut World) -> Result<Ending, AllocError>
+pub fn answer_error(world: &mut World) -> Allocated<Ending>
     requires order { InOrder world.old }
     requires frame { HasOther world.old }
     ensures leads { IfOk result (λ ending. (env : List Meant) → Leads caught env world.old world.new (ending_of ending)) }

@@ -8,16 +8,16 @@ ghost use Rattle.machine_moves.specs.Ending.{ending_of};
 use crate::asking::{ask_over, from};
 use crate::protected::first_of;
 use crate::raising::blame;
+use int_core::Allocated;
 use lua_heap::World;
 use machine_moves::{Ending, Over, put_in_front};
-use std::alloc::AllocError;
 
 /// The error of a call for which the stack has no room.
 const STACK_OVERFLOW: &[u8] = b"stack overflow";
 
 /// The row of `pcall`: its first argument is to be called with the others over a frame that catches errors. After a refusal the machine's world is as
 /// before.
-pub fn pcall(world: &mut World) -> Result<Ending, AllocError>
+pub fn pcall(world: &mut World) -> Allocated<Ending>
     requires sound { IsSound world.old }
     requires running { HasStack world.old }
     ensures leads { IfOk result (λ ending. (env : List Meant) → Leads pcall_row env world.old world.new (ending_of ending)) }
@@ -33,7 +33,7 @@ pub fn pcall(world: &mut World) -> Result<Ending, AllocError>
 }
 
 /// The row of `xpcall`: the same, with its second argument as the message handler of that frame.
-pub fn xpcall(world: &mut World) -> Result<Ending, AllocError>
+pub fn xpcall(world: &mut World) -> Allocated<Ending>
     requires sound { IsSound world.old }
     requires running { HasStack world.old }
     ensures leads { IfOk result (λ ending. (env : List Meant) → Leads xpcall_row env world.old world.new (ending_of ending)) }

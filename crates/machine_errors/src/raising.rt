@@ -12,14 +12,14 @@ ghost use Rattle.machine_moves.specs.Moves.{CanCut};
 ghost use Rattle.machine_moves.specs.declared.ending.Ending.TheVariants.{Raised};
 ghost use Rattle.machine_errors.specs.Raising.{CanLeave, IsBlamed, LeavesWith};
 
+use int_core::Allocated;
 use lua_heap::{Coro, World};
 use lua_stack::Wait;
 use machine_moves::{Ending, close_cells, code_on_top, give_values, running};
-use std::alloc::AllocError;
 use table_core::Value;
 
 /// Raises an error of the function on top, whose frame begins to be left at once. A refusal changes nothing.
-pub fn raise(world: &mut World, text: &[u8]) -> Result<Ending, AllocError>
+pub fn raise(world: &mut World, text: &[u8]) -> Allocated<Ending>
     requires sound { IsSound world.old }
     requires frame { HasFrame world.old }
     ensures leads { IfOk result (λ ending. (env : List Meant) → Leads (raises text.now) env world.old world.new (ending_of ending)) }
@@ -32,7 +32,7 @@ pub fn raise(world: &mut World, text: &[u8]) -> Result<Ending, AllocError>
 }
 
 /// Raises an error with the place of the function on top, while no frame is left yet. A refusal changes nothing.
-pub fn blame(world: &mut World, text: &[u8]) -> Result<Ending, AllocError>
+pub fn blame(world: &mut World, text: &[u8]) -> Allocated<Ending>
     requires { IsSound world.old }
     ensures leads { IfOk result (λ ending. (env : List Meant) → Leads (blames text.now) env world.old world.new (ending_of ending)) }
     ensures raised { IfOk result (λ ending. ending ≡ Raised) }
@@ -45,7 +45,7 @@ pub fn blame(world: &mut World, text: &[u8]) -> Result<Ending, AllocError>
 }
 
 /// An error's text behind the place of the function on top, alone among the values that are to move. A refusal changes nothing.
-pub fn blamed_text(world: &mut World, text: &[u8]) -> Result<Vec<Value>, AllocError>
+pub fn blamed_text(world: &mut World, text: &[u8]) -> Allocated<Vec<Value>>
     requires { AreCodes world.old.strings world.old.codes }
     ensures blamed { IfOk result (λ error. IsBlamed world.old world.new text.now error.items) }
     ensures added { OnOk result (AddsTexts world.old world.new) }

@@ -15,12 +15,11 @@ ghost use Rattle.machine_errors.specs.Throwing.{Sends, level_of};
 use crate::asking::from;
 use crate::protected::first_of;
 use crate::raising::blame;
-use int_core::read_integer;
+use int_core::{Allocated, read_integer};
 use library_arguments::Refusal;
 use lua_heap::law::strings_are_there;
 use lua_heap::{World, type_name};
 use machine_moves::{Ending, give_values};
-use std::alloc::AllocError;
 use table_core::Value;
 
 /// The place that `error` puts in front of a string.
@@ -36,7 +35,7 @@ enum Level {
 
 /// The row of `error`: its first argument is an error. A string gets the place of the function of a level in front, which the second argument says.
 /// A refusal changes nothing.
-pub fn error(world: &mut World) -> Result<Ending, AllocError>
+pub fn error(world: &mut World) -> Allocated<Ending>
     requires { IsSound world.old }
     ensures leads { IfOk result (λ ending. (env : List Meant) → Leads error_row env world.old world.new (ending_of ending)) }
     ensures order { InOrder world.new }
@@ -71,7 +70,7 @@ fn level_of(world: &World, level: Value) -> Level
 }
 
 /// A value moves as an error.
-fn throw(world: &mut World, thrown: Value) -> Result<Ending, AllocError>
+fn throw(world: &mut World, thrown: Value) -> Allocated<Ending>
     requires { InOrder world.old }
     ensures sends { IfOk result (λ ending. Sends world.old world.new (λ fuel. meant world.old.strings thrown)) }
     ensures raised { IfOk result (λ ending. ending ≡ Raised) }
@@ -85,7 +84,7 @@ fn throw(world: &mut World, thrown: Value) -> Result<Ending, AllocError>
 }
 
 /// So does a string with the place of a level in front, or another value.
-fn throw_placed(world: &mut World, message: Value, level: usize) -> Result<Ending, AllocError>
+fn throw_placed(world: &mut World, message: Value, level: usize) -> Allocated<Ending>
     requires sound { IsSound world.old }
     requires there { HasText world.old.strings message }
     ensures sends { IfOk result (λ ending. Sends world.old world.new (λ fuel. placed (plain world.old fuel) level (meant world.old.strings message))) }
@@ -102,7 +101,7 @@ fn throw_placed(world: &mut World, message: Value, level: usize) -> Result<Endin
 }
 
 /// The error of a level that is no integer.
-fn refuse_level(world: &mut World, level: Value) -> Result<Ending, AllocError>
+fn refuse_level(world: &mut World, level: Value) -> Allocated<Ending>
     requires { IsSound world.old }
     ensures leads { IfOk result (λ ending. (env : List Meant) → Leads (blames (wrong_type 2 (codes "error") (codes "number") (shape (meant world.old.strings level)))) env world.old world.new (ending_of ending)) }
     ensures order { InOrder world.new }

@@ -4,15 +4,15 @@ ghost use Rattle.machine_core.specs.FrameRows.{raised_row};
 ghost use Rattle.move_laws.specs.Memory.{InOrder, IsSafe, IsSound, Leads, ReadsSame};
 ghost use Rattle.machine_moves.specs.Ending.{ending_of};
 
+use int_core::Allocated;
 use lua_heap::World;
 use machine_coroutines::fail_running;
 use machine_errors::call_catcher;
 use machine_moves::Ending;
-use std::alloc::AllocError;
 
 /// An error has been raised: its message handler is to be called, the frame on top is left with it, or it ends the running coroutine. After a refusal the
 /// machine's world is as before.
-pub fn catch_error(world: &mut World) -> Result<Ending, AllocError>
+pub fn catch_error(world: &mut World) -> Allocated<Ending>
     requires sound { IsSound world.old }
     requires safe { IsSafe raised_row [] world.old }
     ensures leads { IfOk result (λ ending. Leads raised_row [] world.old world.new (ending_of ending)) }

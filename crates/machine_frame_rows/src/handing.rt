@@ -6,15 +6,15 @@ ghost use Rattle.machine_core.specs.Moves.{no_top, runs_main};
 ghost use Rattle.move_laws.specs.Memory.{HasStack, InOrder, IsSafe, Leads};
 ghost use Rattle.machine_moves.specs.Ending.{ending_of};
 
+use int_core::Allocated;
 use lua_heap::World;
 use lua_stack::Top;
 use machine_coroutines::{close_on, return_from_main, return_running};
 use machine_errors::{answer_handler, answer_results};
 use machine_moves::{Ending, see_top};
-use std::alloc::AllocError;
 
 /// Results reach the frame on top, or are what the running coroutine ends with. A refusal changes nothing.
-pub fn hand_results(world: &mut World) -> Result<Ending, AllocError>
+pub fn hand_results(world: &mut World) -> Allocated<Ending>
     requires order { InOrder world.old }
     requires safe { IsSafe results_row [] world.old }
     ensures leads { IfOk result (λ ending. Leads results_row [] world.old world.new (ending_of ending)) }
@@ -32,7 +32,7 @@ pub fn hand_results(world: &mut World) -> Result<Ending, AllocError>
 }
 
 /// The running coroutine ends with results.
-fn end_with_results(world: &mut World) -> Result<Ending, AllocError>
+fn end_with_results(world: &mut World) -> Allocated<Ending>
     requires order { InOrder world.old }
     requires running { HasStack world.old }
     requires safe { IsSafe (handed_to (no_top (runs_main (plain world.old 0)))) [] world.old }

@@ -7,16 +7,16 @@ ghost use Rattle.move_laws.specs.Memory.{HasStack, InOrder, IsSafe, IsSound, Lea
 ghost use Rattle.machine_moves.specs.Ending.{ending_of};
 
 use crate::handing::runs_main;
+use int_core::Allocated;
 use lua_heap::World;
 use lua_stack::Top;
 use machine_coroutines::{close_on_error, fail_main, fail_running};
 use machine_errors::{answer_error, fail_handler};
 use machine_moves::{Ending, see_top};
 use machine_returns::unwind_function;
-use std::alloc::AllocError;
 
 /// An error reaches the frame on top, which is left with it or catches it, or it ends the running coroutine. After a refusal the machine's world is as before.
-pub fn unwind_top(world: &mut World) -> Result<Ending, AllocError>
+pub fn unwind_top(world: &mut World) -> Allocated<Ending>
     requires sound { IsSound world.old }
     requires safe { IsSafe unwinding_row [] world.old }
     ensures leads { IfOk result (λ ending. Leads unwinding_row [] world.old world.new (ending_of ending)) }
@@ -34,7 +34,7 @@ pub fn unwind_top(world: &mut World) -> Result<Ending, AllocError>
 }
 
 /// The running coroutine ends with an error.
-fn end_with_error(world: &mut World) -> Result<Ending, AllocError>
+fn end_with_error(world: &mut World) -> Allocated<Ending>
     requires order { InOrder world.old }
     requires running { HasStack world.old }
     requires safe { IsSafe (unwound (no_top (runs_main (plain world.old 0)))) [] world.old }

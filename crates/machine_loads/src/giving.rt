@@ -9,13 +9,13 @@ ghost use Rattle.machine_loads.specs.Loading.{HandsOver, with_loaded};
 
 use crate::making::make_function;
 use code_core::Checked;
+use int_core::Allocated;
 use lua_heap::World;
 use machine_moves::{Ending, give_values, hand_over};
-use std::alloc::AllocError;
 use table_core::Value;
 
 /// Gives a function of this code, with the environment among the values on their way. Where memory is wanting, all reads as before.
-pub fn give_function(world: &mut World, code: Checked) -> Result<Ending, AllocError>
+pub fn give_function(world: &mut World, code: Checked) -> Allocated<Ending>
     requires sound { IsSound world.old }
     requires running { HasStack world.old }
     ensures gives { IfOk result (λ ending. HandsOver (λ fuel. with_loaded (plain world.old fuel) code) (object a_function (length world.old.funcs.objects) ∷ []) world.new (ending_of ending)) }
@@ -30,7 +30,7 @@ pub fn give_function(world: &mut World, code: Checked) -> Result<Ending, AllocEr
 }
 
 /// Gives nil and a text, or another text in place of one that is too long for a string. Where memory is wanting, all reads as before.
-pub fn give_reason(world: &mut World, why: &[u8]) -> Result<Ending, AllocError>
+pub fn give_reason(world: &mut World, why: &[u8]) -> Allocated<Ending>
     requires sound { IsSound world.old }
     requires running { HasStack world.old }
     ensures gives { IfOk result (λ ending. HandsOver (plain world.old) (known nil ∷ limited why.now ∷ []) world.new (ending_of ending)) }

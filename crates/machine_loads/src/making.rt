@@ -6,14 +6,14 @@ ghost use Rattle.lua_heap.specs.Reading.{value};
 ghost use Rattle.machine_loads.specs.Loading.{MakesLoaded, given_environment};
 
 use code_core::Checked;
+use int_core::Allocated;
 use lua_heap::law::cells_stay_listed;
 use lua_heap::{Cell, Func, World};
-use std::alloc::AllocError;
 use table_core::{CellId, FuncId, Value};
 
 /// A function of this code, whose outer variables are one new cell with the environment among the values on their way. Where memory is wanting, all reads
 /// as before.
-pub fn make_function(world: &mut World, code: Checked) -> Result<FuncId, AllocError>
+pub fn make_function(world: &mut World, code: Checked) -> Allocated<FuncId>
     requires { IsSound world.old }
     ensures made { IfOk result (λ id. MakesLoaded world.old world.new code id.0) }
     ensures order { InOrder world.new }

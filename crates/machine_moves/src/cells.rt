@@ -9,11 +9,11 @@ ghost use Rattle.move_laws.specs.Memory.{HasFrame, Makes, StandsAt};
 ghost use Rattle.machine_moves.specs.Moves.{CanOpen, NoneIsOpenFrom};
 
 use crate::chain::running;
+use int_core::Allocated;
 use lua_heap::World;
-use std::alloc::AllocError;
 
 /// A register gets a cell, where it has none. After a refusal the machine's world is as before.
-pub fn open_register(world: &mut World, register: u32) -> Result<(), AllocError>
+pub fn open_register(world: &mut World, register: u32) -> Allocated<()>
     requires listed { CellsAreListed world.old }
     requires there { CanOpen world.old register }
     ensures makes { OnOk result ((env : List Meant) → Makes world.old world.new (opens register) env [] tt) }

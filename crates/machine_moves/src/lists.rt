@@ -12,8 +12,8 @@ use crate::chain::{running, running_stack};
 use crate::code::code_on_top;
 use crate::registers::span;
 use code_core::Instruction;
+use int_core::Allocated;
 use lua_heap::{Coro, World};
-use std::alloc::AllocError;
 use table_core::Value;
 
 /// The arguments beyond the parameters.
@@ -51,7 +51,7 @@ fn word_in_front(world: &World) -> Instruction
 }
 
 /// Writes values from a register on as an open list. A refusal changes nothing.
-pub fn write_list(world: &mut World, at: usize, values: &[Value]) -> Result<(), AllocError>
+pub fn write_list(world: &mut World, at: usize, values: &[Value]) -> Allocated<()>
     requires { CanDo world.old (writes at 0) }
     ensures makes { OnOk result ((env : List Meant) (slot : ℕ) → drop slot env ≡ map (meant world.old.strings) values.now → Makes world.old world.new (on_own (writes at slot)) env [] (is_known nil)) }
     ensures at { OnOk result ((pc : ℕ) → StandsAt world.old pc → StandsAt world.new pc) }

@@ -7,8 +7,9 @@ ghost use Rattle.machine_core.specs.Moves.{give, give_with};
 ghost use Rattle.machine_core.specs.Moves.{take_moving as takes};
 ghost use Rattle.move_laws.specs.Memory.{Makes};
 
+use int_core::Allocated;
 use lua_heap::World;
-use std::alloc::{AllocError, Global};
+use std::alloc::Global;
 use std::mem;
 use table_core::Value;
 
@@ -32,11 +33,7 @@ pub fn give_values(world: &mut World, values: Vec<Value>)
 }
 
 /// Values with others in front.
-pub fn put_in_front(
-    alloc: Global,
-    front: &[Value],
-    values: &[Value],
-) -> Result<Vec<Value>, AllocError>
+pub fn put_in_front(alloc: Global, front: &[Value], values: &[Value]) -> Allocated<Vec<Value>>
     ensures { IfOk result (λ all. all.items ≡ front.now ++ values.now) }
 {
     let mut all = Vec::with_capacity(alloc, front.len().saturating_add(values.len()))?;

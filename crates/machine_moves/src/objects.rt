@@ -5,12 +5,12 @@ ghost use Rattle.machine_core.specs.Text.{make_table as makes_one};
 ghost use Rattle.machine_core.specs.Moves.{outside};
 ghost use Rattle.move_laws.specs.Memory.{HasFrame, Makes, StandsAt};
 
+use int_core::Allocated;
 use lua_heap::World;
-use std::alloc::AllocError;
 use table_core::{Table, TableId};
 
 /// A new table, without a field. A refusal changes nothing.
-pub fn make_table(world: &mut World) -> Result<TableId, AllocError>
+pub fn make_table(world: &mut World) -> Allocated<TableId>
     requires { HasFrame world.old }
     ensures makes { IfOk result (λ id. (env : List Meant) → Makes world.old world.new (outside makes_one) env (object a_table id.0 ∷ []) true) }
     ensures at { (pc : ℕ) → StandsAt world.old pc → StandsAt world.new pc }

@@ -4,12 +4,12 @@ ghost use Rattle.meta_ops.specs.Operation.{AreIn};
 ghost use Rattle.move_laws.specs.Memory.{HasFrame};
 ghost use Rattle.machine_moves.specs.Operations.{Settles, joins};
 
+use int_core::Allocated;
 use lua_heap::World;
 use meta_ops::{Operation, Outcome, operate};
-use std::alloc::AllocError;
 
 /// What an operation other than a concatenation comes to. Only a store that is done changes the world; a refusal changes nothing.
-pub fn settle(world: &mut World, operation: Operation) -> Result<Outcome, AllocError>
+pub fn settle(world: &mut World, operation: Operation) -> Allocated<Outcome>
     requires frame { HasFrame world.old }
     requires operands { AreIn world.old.strings world.old.tables.objects operation }
     requires kind { joins operation ≡ false }

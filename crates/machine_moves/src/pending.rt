@@ -9,8 +9,8 @@ ghost use Rattle.move_laws.specs.Memory.{CanDo, Makes, StandsAt, StaysOnTop};
 ghost use Rattle.machine_moves.specs.Moves.{CanSee, value_seen};
 
 use crate::chain::{running, running_stack};
+use int_core::Allocated;
 use lua_heap::{Coro, World};
-use std::alloc::AllocError;
 use table_core::Value;
 
 /// The value of the last pending register from one on.
@@ -26,7 +26,7 @@ pub fn see_pending(world: &World, register: usize) -> Option<Value>
 }
 
 /// Marks a register as pending. A refusal changes nothing.
-pub fn mark_pending(world: &mut World, register: usize) -> Result<(), AllocError>
+pub fn mark_pending(world: &mut World, register: usize) -> Allocated<()>
     requires { CanDo world.old (marks register) }
     ensures makes { OnOk result ((env : List Meant) → Makes world.old world.new (on_own (marks register)) env [] (is_known nil)) }
     ensures at { OnOk result ((pc : ℕ) → StandsAt world.old pc → StandsAt world.new pc) }

@@ -13,9 +13,9 @@ ghost use Rattle.machine_moves.specs.Tops.{HasOther, TopIs, frame_pushed, kept_o
 
 use crate::chain::{running, running_stack};
 use crate::ending::Ending;
+use int_core::Allocated;
 use lua_heap::{Coro, World};
 use lua_stack::{GREATEST_DEPTH, Stack, Top};
-use std::alloc::AllocError;
 use table_core::Value;
 
 /// A frame over which a value is called.
@@ -69,7 +69,7 @@ pub fn pop_frame(world: &mut World)
 
 /// Puts a frame on top, over which a value is to be called, and says whether there was room. Where there is none, and where memory is wanting, all
 /// is as before.
-pub fn push_frame(world: &mut World, over: Over) -> Result<bool, AllocError>
+pub fn push_frame(world: &mut World, over: Over) -> Allocated<bool>
     requires { HasStack world.old }
     ensures makes { IfOk result (λ room. (env : List Meant) (what : OverWhat) → frame_over what env ≡ frame_pushed (meant world.old.strings) over → Makes world.old world.new (pushes what) env [] room) }
     ensures err { OnErr result (world.new ≡ world.old) }
@@ -84,7 +84,7 @@ pub fn push_frame(world: &mut World, over: Over) -> Result<bool, AllocError>
 }
 
 /// Puts a frame on top of a stack that has room for one.
-fn push_over(stack: &mut Stack, over: Over) -> Result<bool, AllocError>
+fn push_over(stack: &mut Stack, over: Over) -> Allocated<bool>
     ensures room { IfOk result (λ room. room ≡ nat_le (length stack.old.frames + 1) greatest_depth) }
     ensures pushed { IfOk result (λ room. stack.new.frames ≡ cond room (stack.old.frames ++ kept_over over ∷ []) stack.old.frames) }
     ensures cells { stack.new.open_cells ≡ stack.old.open_cells }

@@ -17,11 +17,11 @@ ghost use Rattle.machine_operations.specs.Computing.{IsReadAsInteger, MayCompute
 use crate::following::advance;
 use crate::operands::event_of;
 use instruction_forms::{Operand, Operator};
+use int_core::Allocated;
 use lua_heap::World;
 use machine_errors::raise;
 use machine_moves::{Ending, go_to, read_constant, read_register, read_upvalue, write_register};
 use meta_ops::{Event, by_zero, computed};
-use std::alloc::AllocError;
 use table_core::Value;
 
 /// An operator on two integers: the result goes to a register, and the instruction behind is passed over; that one does what is not on integers
@@ -33,7 +33,7 @@ pub fn arithmetic(
     left: Operand,
     right: Operand,
     to: usize,
-) -> Result<Ending, AllocError>
+) -> Allocated<Ending>
     requires stands { StandsSound world.old pc 2 }
     requires safe { (p : Prototype) → IsSafe (expand (text_of p pc (Arithmetic operator left right to))) [] world.old }
     ensures leads { IfOk result (λ ending. (p : Prototype) → Leads (expand (text_of p pc (Arithmetic operator left right to))) [] world.old world.new (ending_of ending)) }
@@ -82,7 +82,7 @@ fn compute(
     m: Option<i64>,
     n: Option<i64>,
     to: usize,
-) -> Result<Ending, AllocError>
+) -> Allocated<Ending>
     requires stands { StandsSound world.old pc 2 }
     requires safe { MayCompute world.old (event_meant event) m n to }
     ensures leads { IfOk result (λ ending. (env : List Meant) → Leads (expand (fast (event_meant event) to m n)) env world.old world.new (ending_of ending)) }
@@ -106,7 +106,7 @@ fn compute_integers(
     m: i64,
     n: i64,
     to: usize,
-) -> Result<Ending, AllocError>
+) -> Allocated<Ending>
     requires stands { StandsSound world.old pc 2 }
     requires safe { MayCompute world.old (event_meant event) (Some m) (Some n) to }
     ensures leads { IfOk result (λ ending. (env : List Meant) → Leads (expand (fast (event_meant event) to (Some m) (Some n))) env world.old world.new (ending_of ending)) }

@@ -11,13 +11,13 @@ ghost use Rattle.machine_operations.specs.Joining.{AreValid, rest_row, told_for}
 
 use crate::following::{advance, first_or_nil, keep};
 use crate::joining::{Joined, join};
+use int_core::Allocated;
 use lua_heap::World;
 use lua_stack::Wait;
 use machine_calls::{Prepared, ask_over, call_over};
 use machine_errors::raise;
 use machine_moves::{Ending, put_in_front, read_register};
 use meta_ops::law;
-use std::alloc::AllocError;
 use table_core::Value;
 
 /// The values of so many registers are joined, from the last one on (Lua 5.4 manual, 3.4.6). A handler is called for a unit of the budget. After a
@@ -28,7 +28,7 @@ pub fn concatenate(
     pc: usize,
     first: usize,
     count: usize,
-) -> Result<Ending, AllocError>
+) -> Allocated<Ending>
     requires stands { StandsSound world.old pc 2 }
     requires size { first + count < 2 ^ 64 }
     requires safe { (p : Prototype) → IsSafe (expand (text_of p pc (Concatenate first count))) [] world.old }
@@ -72,7 +72,7 @@ pub fn join_on(
     first: usize,
     left: usize,
     came: &[Value],
-) -> Result<Ending, AllocError>
+) -> Allocated<Ending>
     requires stands { StandsSound world.old pc 2 }
     requires size { first + left < 2 ^ 64 }
     requires came { AreValid world.old came.now }

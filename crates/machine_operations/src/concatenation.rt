@@ -6,18 +6,14 @@ ghost use Rattle.move_laws.specs.Memory.{CanDo, HasFrame, IsSound, ReadsSame};
 ghost use Rattle.machine_core.specs.Text.{read_register as reads};
 ghost use Rattle.machine_operations.specs.Joining.{Concats, JoinsOne};
 
+use int_core::Allocated;
 use lua_heap::World;
 use machine_moves::read_register;
 use meta_ops::{Outcome, concat, law};
-use std::alloc::AllocError;
 use table_core::Value;
 
 /// What `left .. right` comes to (Lua 5.4 manual, 3.4.6). The result is a string of the world, which stands for the same as before; a refusal changes nothing.
-pub fn settle_concatenation(
-    world: &mut World,
-    left: Value,
-    right: Value,
-) -> Result<Outcome, AllocError>
+pub fn settle_concatenation(world: &mut World, left: Value, right: Value) -> Allocated<Outcome>
     requires sound { IsSound world.old }
     requires frame { HasFrame world.old }
     requires left { IsIn world.old.strings world.old.tables.objects left }
@@ -43,11 +39,7 @@ pub fn settle_concatenation(
 }
 
 /// A register's value is put in front of what has been joined.
-pub(crate) fn join_one(
-    world: &mut World,
-    register: usize,
-    whole: Value,
-) -> Result<Outcome, AllocError>
+pub(crate) fn join_one(world: &mut World, register: usize, whole: Value) -> Allocated<Outcome>
     requires sound { IsSound world.old }
     requires there { CanDo world.old (reads register) }
     requires whole { IsIn world.old.strings world.old.tables.objects whole }

@@ -6,9 +6,9 @@ ghost use Rattle.machine_operations.specs.Joining.{Joins, MayJoin};
 
 use crate::concatenation::join_one;
 use crate::whole_texts::{join_whole, joined_text};
+use int_core::Allocated;
 use lua_heap::World;
 use meta_ops::{Fault, Outcome};
-use std::alloc::AllocError;
 use table_core::Value;
 
 /// What joining operands came to.
@@ -28,12 +28,7 @@ pub enum Joined {
 
 /// Joins so many operands, in registers from `first` on, to what stands behind them, from the last one on and as far as no handler is asked for.
 /// The world stands for the same as before, also after a refusal.
-pub fn join(
-    world: &mut World,
-    first: usize,
-    count: usize,
-    last: Value,
-) -> Result<Joined, AllocError>
+pub fn join(world: &mut World, first: usize, count: usize, last: Value) -> Allocated<Joined>
     requires sound { IsSound world.old }
     requires frame { HasFrame world.old }
     requires last { IsIn world.old.strings world.old.tables.objects last }
@@ -51,12 +46,7 @@ pub fn join(
 }
 
 /// Joins them at once where all have texts, so that the texts between make no strings.
-fn join_at_once(
-    world: &mut World,
-    first: usize,
-    count: usize,
-    last: Value,
-) -> Result<Joined, AllocError>
+fn join_at_once(world: &mut World, first: usize, count: usize, last: Value) -> Allocated<Joined>
     requires sound { IsSound world.old }
     requires frame { HasFrame world.old }
     requires last { IsIn world.old.strings world.old.tables.objects last }
@@ -75,12 +65,7 @@ fn join_at_once(
 }
 
 /// Joins them one after another.
-fn join_in_turn(
-    world: &mut World,
-    first: usize,
-    count: usize,
-    last: Value,
-) -> Result<Joined, AllocError>
+fn join_in_turn(world: &mut World, first: usize, count: usize, last: Value) -> Allocated<Joined>
     requires sound { IsSound world.old }
     requires frame { HasFrame world.old }
     requires last { IsIn world.old.strings world.old.tables.objects last }

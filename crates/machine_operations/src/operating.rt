@@ -20,13 +20,14 @@ use crate::copying::{copy_first, prepared};
 use crate::following::follow;
 use crate::operands::{Values, operation_on, read_operands};
 use instruction_forms::{After, Operands, Operation as Named};
+use int_core::Allocated;
 use lua_heap::World;
 use lua_stack::Wait;
 use machine_calls::call_over;
 use machine_errors::{begin_leaving_with, blamed_text};
 use machine_moves::{Ending, settle};
 use meta_ops::{Fault, Operation, Outcome, law};
-use std::alloc::{AllocError, Global};
+use std::alloc::Global;
 use table_core::Value;
 
 /// An operation on operands, the first of which may go to a register as well: what is found at once goes on its way, else a handler is called for a unit of
@@ -39,7 +40,7 @@ pub fn operate(
     operands: Operands,
     also: Option<usize>,
     after: After,
-) -> Result<Ending, AllocError>
+) -> Allocated<Ending>
     requires stands { StandsSound world.old pc 2 }
     requires copy { CanCopy world.old also }
     requires safe { (place : Place) → place_of (plain world.old 0) ≡ Some place → IsSafe (expand (text_of place.function.code pc (Operate operation operands also after))) [] world.old }
@@ -85,7 +86,7 @@ fn first_of(values: Values) -> Value
 }
 
 /// The arguments of a handler: an object in place of the first operand, and the others.
-fn arguments(alloc: Global, operation: Operation, object: Value) -> Result<Vec<Value>, AllocError>
+fn arguments(alloc: Global, operation: Operation, object: Value) -> Allocated<Vec<Value>>
     ensures { IfOk result (λ all. (texts : List (List ℕ)) → map (value texts) all.items ≡ value texts object ∷ more_of texts operation) }
 {
     match operation {
@@ -137,12 +138,7 @@ fn end_with(
 }
 
 /// The first operand is copied, and the frame begins to be left with an error. A refusal changes nothing that the world stands for.
-fn fail(
-    world: &mut World,
-    also: Option<usize>,
-    first: Value,
-    fault: Fault,
-) -> Result<Ending, AllocError>
+fn fail(world: &mut World, also: Option<usize>, first: Value, fault: Fault) -> Allocated<Ending>
     requires sound { IsSound world.old }
     requires whole { CanLeave world.old }
     requires copy { CanCopy world.old also }

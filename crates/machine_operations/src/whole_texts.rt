@@ -8,10 +8,11 @@ ghost use Rattle.machine_operations.specs.Joining.{Joins, MayJoin};
 ghost use Rattle.machine_operations.specs.WholeTexts.{AreTexts, AreWhole};
 
 use crate::joining::Joined;
+use int_core::Allocated;
 use lua_heap::World;
 use machine_moves::read_register;
 use meta_ops::{append_text, is_short, law};
-use std::alloc::{AllocError, Global};
+use std::alloc::Global;
 use table_core::Value;
 
 /// The texts of so many operands, in registers from `first` on, and of the last one behind them, where all have texts and a string may be so long. `None` says
@@ -65,7 +66,7 @@ pub(crate) fn join_whole(
     count: usize,
     last: Value,
     text: &[u8],
-) -> Result<Joined, AllocError>
+) -> Allocated<Joined>
     requires sound { IsSound world.old }
     requires frame { HasFrame world.old }
     requires short { length text.now ≤ greatest_string }

@@ -11,11 +11,11 @@ ghost use Rattle.machine_returns.specs.Waking.{IsSolid};
 ghost use Rattle.machine_returns.specs.Closing.{MayClose, MayPass};
 
 use crate::closables::find_close;
+use int_core::Allocated;
 use lua_heap::World;
 use lua_stack::Wait;
 use machine_calls::{Prepared, ask_over, call_over};
 use machine_moves::{Ending, close_cells, go_to, put_in_front, see_pending};
-use std::alloc::AllocError;
 use table_core::Value;
 
 /// The variables of the frame on top are closed from a register on, at the place `pc`: the last one first, by its method. Where none is left the cells that
@@ -25,7 +25,7 @@ pub fn close_variables(
     budget: &mut u64,
     pc: usize,
     register: u32,
-) -> Result<Ending, AllocError>
+) -> Allocated<Ending>
     requires stands { StandsSound world.old pc 2 }
     requires safe { IsSafe (expand (closes register)) [] world.old }
     ensures steps { IfOk result (λ ending. Steps (expand (closes register)) [] world.old budget.old world.new budget.new (ending_of ending)) }
@@ -50,7 +50,7 @@ pub fn close_variables(
 
 /// The frame on top goes on closing its variables from a register on, at the place `pc`: the last one first, by its method in a step of its own. Where none
 /// is left the cells that are open there are closed, and the frame goes on behind the instruction. A refusal changes nothing.
-pub fn go_on_closing(world: &mut World, pc: usize, register: u32) -> Result<Ending, AllocError>
+pub fn go_on_closing(world: &mut World, pc: usize, register: u32) -> Allocated<Ending>
     requires solid { IsSolid world.old }
     requires at { StandsAt world.old pc }
     requires room { pc + 2 < 2 ^ 64 }

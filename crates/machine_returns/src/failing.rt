@@ -12,15 +12,15 @@ ghost use Rattle.machine_returns.specs.Failing.{first_or};
 
 use crate::closables::find_close;
 use crate::leaving::leave_with_error;
+use int_core::Allocated;
 use lua_heap::World;
 use lua_stack::Wait;
 use machine_calls::{Prepared, ask_over};
 use machine_moves::{Ending, put_in_front, see_pending, take_moving};
-use std::alloc::AllocError;
 use table_core::Value;
 
 /// An error reaches the Lua frame on top, which is left with it. A refusal leaves all that stands there as it was.
-pub fn unwind_function(world: &mut World) -> Result<Ending, AllocError>
+pub fn unwind_function(world: &mut World) -> Allocated<Ending>
     requires solid { IsSolid world.old }
     requires frame { HasFrame world.old }
     ensures leads { IfOk result (λ ending. Leads (unwound lua_top) [] world.old world.new (ending_of ending)) }
@@ -39,7 +39,7 @@ pub fn unwind_function(world: &mut World) -> Result<Ending, AllocError>
 
 /// The Lua frame on top is left with the first of these values as its error. The last of its variables that is still to be closed is closed first, by
 /// its method in a step of its own; without an error its value stands for one. A refusal changes nothing.
-pub fn fail_with(world: &mut World, moved: &[Value]) -> Result<Ending, AllocError>
+pub fn fail_with(world: &mut World, moved: &[Value]) -> Allocated<Ending>
     requires solid { IsSolid world.old }
     requires frame { HasFrame world.old }
     ensures leads { IfOk result (λ ending. Leads (goes_on_by fails) (map (meant world.old.strings) moved.now) world.old world.new (ending_of ending)) }

@@ -13,10 +13,10 @@ use crate::failing::fail_with;
 use crate::results::take_results;
 use crate::returning::go_on_returning;
 use code_core::Instruction;
+use int_core::Allocated;
 use lua_heap::World;
 use lua_stack::Wait;
 use machine_moves::Ending;
-use std::alloc::AllocError;
 use table_core::Value;
 
 /// The Lua frame on top was woken at the instruction `word`, at the place `pc`, and goes on with the values that came: results of a call or of an iterator,
@@ -27,7 +27,7 @@ pub fn go_on_called(
     word: Instruction,
     wait: Wait,
     values: &[Value],
-) -> Result<Ending, AllocError>
+) -> Allocated<Ending>
     requires solid { IsSolid world.old }
     requires at { StandsAt world.old pc }
     requires room { pc + 2 < 2 ^ 64 }

@@ -10,19 +10,15 @@ ghost use Rattle.machine_moves.specs.Ending.{ending_of};
 ghost use Rattle.machine_moves.specs.declared.ending.Ending.TheVariants.{Spent};
 ghost use Rattle.machine_moves.specs.Tops.{shape_of};
 
+use int_core::Allocated;
 use lua_heap::World;
 use lua_stack::Top;
 use machine_calls::leave_frame;
 use machine_moves::{Ending, put_in_front, read_registers};
-use std::alloc::AllocError;
 use table_core::Value;
 
 /// The frame on top is left with the values of so many registers. A refusal changes nothing.
-pub(crate) fn leave_with_results(
-    world: &mut World,
-    from: usize,
-    count: usize,
-) -> Result<Ending, AllocError>
+pub(crate) fn leave_with_results(world: &mut World, from: usize, count: usize) -> Allocated<Ending>
     requires order { InOrder world.old }
     requires there { CanDo world.old (reads from count) }
     ensures leads { IfOk result (λ ending. (when : When) (env : List Meant) → Leads (expand_by when (own (reads from count) (λ w _. leave (results w)))) env world.old world.new (ending_of ending)) }
@@ -37,7 +33,7 @@ pub(crate) fn leave_with_results(
 }
 
 /// The frame on top is left with an error. A refusal changes nothing.
-pub(crate) fn leave_with_error(world: &mut World, error: Value) -> Result<Ending, AllocError>
+pub(crate) fn leave_with_error(world: &mut World, error: Value) -> Allocated<Ending>
     requires order { InOrder world.old }
     requires frame { HasFrame world.old }
     ensures leads { IfOk result (λ ending. (when : When) (env : List Meant) (x : Arg) → arg env x ≡ meant world.old.strings error → Leads (expand_by when (leave (thrown x))) env world.old world.new (ending_of ending)) }

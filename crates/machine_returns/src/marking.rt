@@ -14,20 +14,15 @@ ghost use Rattle.machine_returns.specs.Marking.{MayMark, marked};
 
 use crate::closables::is_closable;
 use crate::names::not_closable;
+use int_core::Allocated;
 use lua_heap::World;
 use machine_errors::raise;
 use machine_moves::{Ending, go_to, mark_pending, read_register};
-use std::alloc::AllocError;
 use table_core::Value;
 
 /// The variable in a register is to be closed where its block ends, unless it is nil or false; one that has no closing method is an error (Lua 5.4 manual,
 /// 3.3.8). The frame goes on so far ahead of `pc`. A refusal changes nothing.
-pub fn mark(
-    world: &mut World,
-    pc: usize,
-    register: usize,
-    ahead: usize,
-) -> Result<Ending, AllocError>
+pub fn mark(world: &mut World, pc: usize, register: usize, ahead: usize) -> Allocated<Ending>
     requires stands { StandsSound world.old pc ahead }
     requires safe { (place : Place) → place_of (plain world.old 0) ≡ Some place → IsSafe (expand (text_of place.function.code pc (Mark register ahead))) [] world.old }
     ensures leads { IfOk result (λ ending. (place : Place) → place_of (plain world.old 0) ≡ Some place → Leads (expand (text_of place.function.code pc (Mark register ahead))) [] world.old world.new (ending_of ending)) }
@@ -46,12 +41,7 @@ pub fn mark(
 }
 
 /// The register is pending from now on.
-fn mark_register(
-    world: &mut World,
-    pc: usize,
-    register: usize,
-    ahead: usize,
-) -> Result<Ending, AllocError>
+fn mark_register(world: &mut World, pc: usize, register: usize, ahead: usize) -> Allocated<Ending>
     requires order { InOrder world.old }
     requires at { StandsAt world.old pc }
     requires room { pc + ahead < 2 ^ 64 }
@@ -66,7 +56,7 @@ fn mark_register(
 }
 
 /// The variable in a register cannot be closed.
-fn refuse(world: &mut World, pc: usize, register: usize) -> Result<Ending, AllocError>
+fn refuse(world: &mut World, pc: usize, register: usize) -> Allocated<Ending>
     requires sound { IsSound world.old }
     requires at { StandsAt world.old pc }
     ensures leads { IfOk result (λ ending. (place : Place) → place_of (plain world.old 0) ≡ Some place → (env : List Meant) → Leads (raises (open_text place.function.code pc register)) env world.old world.new (ending_of ending)) }

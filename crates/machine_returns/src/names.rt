@@ -7,12 +7,12 @@ ghost use Rattle.machine_moves.specs.Code.{HasCode};
 ghost use Rattle.machine_returns.specs.Names.{IsProtoOnTop, TellsOpen, name_in, name_of};
 
 use code_core::{LocVar, Proto};
+use int_core::Allocated;
 use lua_heap::{World, law};
 use machine_moves::function_on_top;
-use std::alloc::AllocError;
 
 /// The text of the error of a variable that cannot be closed, at a place of the function on top.
-pub(crate) fn not_closable(world: &World, pc: usize, register: usize) -> Result<Vec<u8>, AllocError>
+pub(crate) fn not_closable(world: &World, pc: usize, register: usize) -> Allocated<Vec<u8>>
     requires codes { AreCodes world.now.strings world.now.codes }
     requires frame { HasCode world.now }
     ensures { IfOk result (λ text. TellsOpen world.now pc register text.items) }

@@ -13,10 +13,10 @@ ghost use Rattle.machine_moves.specs.Ending.{ending_of};
 ghost use Rattle.machine_returns.specs.Results.{MayTake, writing};
 ghost use Rattle.machine_calls.specs.Preparing.{HasTop};
 
+use int_core::Allocated;
 use lua_heap::{Coro, World};
 use lua_stack::Stack;
 use machine_moves::{Ending, go_to, running, write_list};
-use std::alloc::AllocError;
 use table_core::Value;
 
 /// Values go to so many registers from one on, at the place `pc`: to one fewer than `count`, or for 0 all of them as an open list. The frame goes on
@@ -28,7 +28,7 @@ pub fn take_results(
     to: usize,
     count: usize,
     values: &[Value],
-) -> Result<Ending, AllocError>
+) -> Allocated<Ending>
     requires order { InOrder world.old }
     requires at { StandsAt world.old pc }
     requires room { pc + 2 < 2 ^ 64 }
@@ -44,12 +44,7 @@ pub fn take_results(
 
 /// Writes them. A refusal changes nothing.
 #[inline(always)]
-fn write_values(
-    world: &mut World,
-    to: usize,
-    count: usize,
-    values: &[Value],
-) -> Result<(), AllocError>
+fn write_values(world: &mut World, to: usize, count: usize, values: &[Value]) -> Allocated<()>
     requires { CanDo world.old (writing to count 0) }
     ensures makes { OnOk result ((env : List Meant) (slot : ℕ) → drop slot env ≡ map (meant world.old.strings) values.now → Makes world.old world.new (on_own (writing to count slot)) env [] (is_known nil)) }
     ensures at { OnOk result ((pc : ℕ) → StandsAt world.old pc → StandsAt world.new pc) }

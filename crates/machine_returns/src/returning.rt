@@ -14,11 +14,11 @@ ghost use Rattle.machine_returns.specs.Returning.{Gives, MayReturn};
 
 use crate::closables::find_close;
 use crate::leaving::leave_with_results;
+use int_core::Allocated;
 use lua_heap::World;
 use lua_stack::Wait;
 use machine_calls::{Prepared, ask_over, call_over};
 use machine_moves::{Ending, put_in_front, read_list, see_pending};
-use std::alloc::AllocError;
 use table_core::Value;
 
 /// The frame on top returns the values of one register fewer than `count` from one on, or for 0 those up to the end of the open list. A refusal may leave
@@ -28,7 +28,7 @@ pub fn return_values(
     budget: &mut u64,
     from: usize,
     count: usize,
-) -> Result<Ending, AllocError>
+) -> Allocated<Ending>
     requires sound { IsSound world.old }
     requires safe { (p : Prototype) (pc : ℕ) → IsSafe (expand (text_of p pc (Return from count))) [] world.old }
     ensures steps { IfOk result (λ ending. (p : Prototype) (pc : ℕ) → Steps (expand (text_of p pc (Return from count))) [] world.old budget.old world.new budget.new (ending_of ending)) }
@@ -58,7 +58,7 @@ pub fn return_some(
     budget: &mut u64,
     from: usize,
     count: usize,
-) -> Result<Ending, AllocError>
+) -> Allocated<Ending>
     requires sound { IsSound world.old }
     requires there { CanDo world.old (reads from count) }
     requires safe { MayReturn world.old from count }
@@ -83,7 +83,7 @@ pub fn return_some(
 
 /// The frame on top goes on returning the values of so many registers from one on. The last of its variables that is still to be closed is closed
 /// first, by its method in a step of its own. A refusal changes nothing.
-pub fn go_on_returning(world: &mut World, from: usize, count: usize) -> Result<Ending, AllocError>
+pub fn go_on_returning(world: &mut World, from: usize, count: usize) -> Allocated<Ending>
     requires solid { IsSolid world.old }
     requires there { CanDo world.old (reads from count) }
     ensures leads { IfOk result (λ ending. (env : List Meant) → Leads (goes_on_by (returns from count)) env world.old world.new (ending_of ending)) }

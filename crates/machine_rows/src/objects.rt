@@ -9,13 +9,13 @@ ghost use Rattle.machine_core.specs.Moves.{go};
 ghost use Rattle.move_laws.specs.Memory.{InOrder, IsSafe, Leads, StandsAt};
 
 use crate::loads::behind;
+use int_core::Allocated;
 use lua_heap::World;
 use machine_moves::{go_to, make_table, write_register};
-use std::alloc::AllocError;
 use table_core::Value;
 
 /// A new table goes to a register. A refusal changes nothing.
-pub fn new_table(world: &mut World, pc: usize, to: usize) -> Result<(), AllocError>
+pub fn new_table(world: &mut World, pc: usize, to: usize) -> Allocated<()>
     requires at { StandsAt world.old pc }
     requires room { pc + 2 < 2 ^ 64 }
     requires order { InOrder world.old }

@@ -11,10 +11,10 @@ use crate::event::Event;
 use crate::fault::Fault;
 use crate::heap::Heap;
 use crate::outcome::{Outcome, asked};
-use int_core::write_integer;
+use int_core::{Allocated, write_integer};
 use lua_heap::Strings;
 use object_pool::Pool;
-use std::alloc::{AllocError, Global};
+use std::alloc::Global;
 use table_core::{Table, TableId, Value};
 
 /// No string has more bytes.
@@ -28,7 +28,7 @@ pub fn concat(
     string_meta: Option<TableId>,
     left: Value,
     right: Value,
-) -> Result<Outcome, AllocError>
+) -> Allocated<Outcome>
     requires left { IsIn strings.old tables.now.objects left }
     requires right { IsIn strings.old tables.now.objects right }
     ensures does { IfOk result (λ o. concat_on (heap_in strings.old tables.now.objects string_meta) (text_of (value strings.old left)) (text_of (value strings.old right)) (value strings.old left) (value strings.old right) ≡ settled strings.new (heap_in strings.old tables.now.objects string_meta) (value strings.old right ∷ []) o) }
@@ -62,12 +62,7 @@ fn is_text(v: Value) -> bool
 }
 
 /// The texts of both operands, one after the other.
-fn joined(
-    alloc: Global,
-    strings: &Strings,
-    left: Value,
-    right: Value,
-) -> Result<Vec<u8>, AllocError>
+fn joined(alloc: Global, strings: &Strings, left: Value, right: Value) -> Allocated<Vec<u8>>
     requires left { IsString strings.now left }
     requires right { IsString strings.now right }
     ensures { IfOk result (λ text. text.items ≡ text_or_none (text_of (value strings.now left)) ++ text_or_none (text_of (value strings.now right))) }
@@ -91,7 +86,7 @@ fn room_for(strings: &Strings, v: Value) -> usize
 }
 
 /// Puts the text of a value at the end; another value than a string or an integer has none.
-fn push_text(text: &mut Vec<u8>, strings: &Strings, v: Value) -> Result<(), AllocError>
+fn push_text(text: &mut Vec<u8>, strings: &Strings, v: Value) -> Allocated<()>
     requires { IsString strings.now v }
     ensures { OnOk result (text.new.items ≡ text.old.items ++ text_or_none (text_of (value strings.now v))) }
 {
@@ -133,7 +128,7 @@ pub fn is_short(text: &[u8]) -> bool
 }
 
 /// Puts the decimal text of an integer at the end.
-fn push_integer(text: &mut Vec<u8>, n: i64) -> Result<(), AllocError>
+fn push_integer(text: &mut Vec<u8>, n: i64) -> Allocated<()>
     ensures { OnOk result (text.new.items ≡ text.old.items ++ integer_text n) }
 {
     let mut digits = [0; 20];

@@ -4,8 +4,9 @@ ghost use Rattle.int_core.specs.Operations.{cannot_compare, of_type};
 ghost use Rattle.lua_heap.specs.Reading.{value};
 ghost use Rattle.meta_ops.specs.Outcome.{fault_text};
 
+use int_core::Allocated;
 use lua_heap::type_name;
-use std::alloc::{AllocError, Global};
+use std::alloc::Global;
 use table_core::Value;
 
 /// What is wrong with an operation.
@@ -41,7 +42,7 @@ pub enum Fault {
 
 impl Fault {
     /// The text of the error that it raises, without the place that stands in front.
-    pub fn text(self, alloc: Global) -> Result<Vec<u8>, AllocError>
+    pub fn text(self, alloc: Global) -> Allocated<Vec<u8>>
         ensures { IfOk result (λ text. (texts : List (List ℕ)) → text.items ≡ fault_text texts self) }
     {
         match self {
@@ -66,7 +67,7 @@ impl Fault {
 }
 
 /// The text where a value does not fit what is attempted.
-fn wrong_type(alloc: Global, attempt: &[u8], v: Value) -> Result<Vec<u8>, AllocError>
+fn wrong_type(alloc: Global, attempt: &[u8], v: Value) -> Allocated<Vec<u8>>
     ensures { IfOk result (λ text. (texts : List (List ℕ)) → text.items ≡ of_type attempt.now (value texts v)) }
 {
     let mut text = Vec::new(alloc);
@@ -79,7 +80,7 @@ fn wrong_type(alloc: Global, attempt: &[u8], v: Value) -> Result<Vec<u8>, AllocE
 }
 
 /// The text where two values have no order.
-fn no_order(alloc: Global, left: Value, right: Value) -> Result<Vec<u8>, AllocError>
+fn no_order(alloc: Global, left: Value, right: Value) -> Allocated<Vec<u8>>
     ensures { IfOk result (λ text. (texts : List (List ℕ)) → text.items ≡ cannot_compare (value texts left) (value texts right)) }
 {
     let (left, right) = (type_name(left), type_name(right));

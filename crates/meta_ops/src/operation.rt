@@ -14,9 +14,10 @@ use crate::lengths::length;
 use crate::numbers::arithmetic;
 use crate::outcome::Outcome;
 use crate::store::store_field;
+use int_core::Allocated;
 use lua_heap::Strings;
 use object_pool::Pool;
-use std::alloc::{AllocError, Global};
+use std::alloc::Global;
 use table_core::{Table, TableId, Value};
 
 /// An operation with its operands (Lua 5.4 manual, 2.4 and 3.4).
@@ -63,7 +64,7 @@ pub fn operate(
     strings: &mut Strings,
     string_meta: Option<TableId>,
     operation: Operation,
-) -> Result<Outcome, AllocError>
+) -> Allocated<Outcome>
     requires { AreIn strings.old tables.old.objects operation }
     ensures does { IfOk result (λ o. does (kind_of operation) (operands_of strings.old operation) (heap_in strings.old tables.old.objects string_meta) ≡ settled strings.new (heap_in strings.old tables.new.objects string_meta) (more_of strings.old operation) o) }
     ensures strings { OnOk result (strings.new ≡ strings_after strings.old operation) }

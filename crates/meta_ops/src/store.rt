@@ -15,9 +15,9 @@ use crate::fault::Fault;
 use crate::handler::{handler_in, is_function, is_nil};
 use crate::heap::Heap;
 use crate::outcome::Outcome;
+use int_core::Allocated;
 use lua_heap::{Strings, law};
 use object_pool::Pool;
-use std::alloc::AllocError;
 use table_core::{Key, Table, TableId, Value};
 
 /// What the writing of a field comes to.
@@ -96,7 +96,7 @@ pub fn store_field(
     object: Value,
     key: Value,
     v: Value,
-) -> Result<Outcome, AllocError>
+) -> Allocated<Outcome>
     ensures does { IfOk result (λ o. store_of greatest_chain (heap_in strings.now tables.old.objects string_meta) (value strings.now object) (value strings.now key) (value strings.now v) ≡ settled strings.now (heap_in strings.now tables.new.objects string_meta) (value strings.now key ∷ value strings.now v ∷ []) o) }
     ensures kept { IfOk result (λ o. is_done o ≡ false → tables.new ≡ tables.old) }
     ensures err { OnErr result (tables.new ≡ tables.old) }
@@ -122,7 +122,7 @@ pub fn store_field(
 }
 
 /// Writes a field of a table, whatever its metatable says. A number that no table has takes nothing.
-fn put(tables: &mut Pool<Table>, id: TableId, key: Value, v: Value) -> Result<Outcome, AllocError>
+fn put(tables: &mut Pool<Table>, id: TableId, key: Value, v: Value) -> Allocated<Outcome>
     ensures outcome { IfOk result (λ o. o ≡ put_outcome key) }
     ensures objects { OnOk result (tables.new.objects ≡ put_in tables.old.objects id.0 key v) }
     ensures kept { IfOk result (λ o. is_done o ≡ false → tables.new ≡ tables.old) }
