@@ -12,19 +12,14 @@ ghost use Rattle.machine_moves.specs.Ending.{ending_of};
 ghost use Rattle.machine_objects.specs.Opening.{MayOpen, Opens, upvalues_at};
 
 use crate::functions::{inner_code, make_function, upvalue, upvalue_count};
+use int_core::Allocated;
 use lua_heap::World;
 use machine_moves::{Ending, go_to, open_register, write_register};
-use std::alloc::AllocError;
 use table_core::{ProtoId, Value};
 
 /// A function of an inner prototype goes to a register; the registers that it captures get cells first, where they have none. A refusal may leave some of
 /// these cells open.
-pub fn new_function(
-    world: &mut World,
-    pc: usize,
-    inner: usize,
-    to: usize,
-) -> Result<Ending, AllocError>
+pub fn new_function(world: &mut World, pc: usize, inner: usize, to: usize) -> Allocated<Ending>
     requires stands { StandsSound world.old pc 2 }
     requires small { inner < 2 ^ 32 }
     requires safe { (place : Place) → place_of (plain world.old 0) ≡ Some place → IsSafe (expand (text_of place.function.code pc (NewFunction inner to))) [] world.old }
@@ -41,7 +36,7 @@ pub fn new_function(
 }
 
 /// Each register that a function of this code captures gets a cell, where it has none. A refusal may leave some of them open.
-fn open_captured(world: &mut World, code: ProtoId) -> Result<(), AllocError>
+fn open_captured(world: &mut World, code: ProtoId) -> Allocated<()>
     requires order { InOrder world.old }
     requires within { code.0 < length (functions world.old.codes) }
     requires safe { MayOpen world.old (upvalues_at world.old code) }
@@ -57,7 +52,7 @@ fn open_captured(world: &mut World, code: ProtoId) -> Result<(), AllocError>
 }
 
 /// So does the register of one of its upvalues, where that is one.
-fn open_upvalue(world: &mut World, code: ProtoId, at: usize) -> Result<(), AllocError>
+fn open_upvalue(world: &mut World, code: ProtoId, at: usize) -> Allocated<()>
     requires order { InOrder world.old }
     requires within { code.0 < length (functions world.old.codes) }
     requires there { at < length (upvalues_at world.old code) }

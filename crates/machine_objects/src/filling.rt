@@ -15,6 +15,7 @@ ghost use Rattle.machine_moves.specs.Ending.{ending_of};
 ghost use Rattle.machine_objects.specs.Filling.{FrameRuns, Lists, MayList, as_table, filled_rows, filling};
 ghost use Rattle.table_core.specs.declared.value.Value.TheVariants.{Int};
 
+use int_core::Allocated;
 use lua_heap::{World, law};
 use machine_errors::raise;
 use machine_moves::{
@@ -34,7 +35,7 @@ pub fn fill_table(
     count: usize,
     last: usize,
     far: bool,
-) -> Result<Ending, AllocError>
+) -> Allocated<Ending>
     requires sound { IsSound world.old }
     requires at { StandsAt world.old pc }
     requires runs { FrameRuns world.old }
@@ -61,7 +62,7 @@ fn fill_behind(
     count: usize,
     last: usize,
     ahead: usize,
-) -> Result<Ending, AllocError>
+) -> Allocated<Ending>
     requires sound { IsSound world.old }
     requires at { StandsAt world.old pc }
     requires runs { FrameRuns world.old }
@@ -90,7 +91,7 @@ fn table_of(v: Value) -> Option<TableId>
 }
 
 /// A value that is no table cannot be filled.
-fn refuse(world: &mut World, filled: Value) -> Result<Ending, AllocError>
+fn refuse(world: &mut World, filled: Value) -> Allocated<Ending>
     requires sound { IsSound world.old }
     requires frame { HasFrame world.old }
     ensures leads { IfOk result (λ ending. (env : List Meant) → Leads (raises (of_type (codes "index") (meant world.old.strings filled))) env world.old world.new (ending_of ending)) }
@@ -110,7 +111,7 @@ fn fill_from(
     count: usize,
     last: usize,
     ahead: usize,
-) -> Result<Ending, AllocError>
+) -> Allocated<Ending>
     requires sound { IsSound world.old }
     requires at { StandsAt world.old pc }
     requires runs { FrameRuns world.old }
@@ -141,7 +142,7 @@ fn listed_values(world: &World, from: usize, count: usize) -> &[Value]
 }
 
 /// Values go to the indexes behind `last` of a table. A refusal may leave some of them there.
-fn fill(world: &mut World, id: TableId, last: usize, values: &[Value]) -> Result<(), AllocError>
+fn fill(world: &mut World, id: TableId, last: usize, values: &[Value]) -> Allocated<()>
     requires frame { HasFrame world.old }
     requires there { id.0 < length world.old.tables.objects }
     ensures makes { OnOk result ((env : List Meant) (x : Arg) (slot : ℕ) → arg env x ≡ object a_table id.0 → drop slot env ≡ map (meant world.old.strings) values.now → Makes world.old world.new (outside (fills x last slot)) env [] true) }
@@ -156,7 +157,7 @@ fn fill(world: &mut World, id: TableId, last: usize, values: &[Value]) -> Result
 }
 
 /// They go to its rows.
-fn fill_rows(table: &mut Table, last: usize, values: &[Value]) -> Result<(), AllocError>
+fn fill_rows(table: &mut Table, last: usize, values: &[Value]) -> Allocated<()>
     ensures rows { OnOk result (table.new.rows ≡ filled_rows last values.now table.old.rows) }
     ensures metatable { table.new.metatable ≡ table.old.metatable }
 {
@@ -170,7 +171,7 @@ fn fill_rows(table: &mut Table, last: usize, values: &[Value]) -> Result<(), All
 }
 
 /// The key that an index is. No memory holds as many values as one that is no integer would take.
-fn key_of(index: usize) -> Result<Key, AllocError>
+fn key_of(index: usize) -> Allocated<Key>
     ensures { IfOk result (λ key. key ≡ Int (pos index)) }
 {
     let n = i64::try_from(index).map_err(|_| AllocError)?;

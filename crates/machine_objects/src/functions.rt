@@ -9,13 +9,13 @@ ghost use Rattle.machine_objects.specs.Opening.{upvalues_at};
 ghost use Rattle.machine_objects.specs.Objects.{CanMake, CanCapture, HasCell, HasInner, HasOpen, IsCell, IsInner, IsOpen, AreCaptured};
 
 use code_core::UpDesc;
+use int_core::Allocated;
 use lua_heap::{Func, World, law};
 use machine_moves::{cell_of, function_on_top, running_stack};
-use std::alloc::AllocError;
 use table_core::{CellId, FuncId, ProtoId};
 
 /// A function of an inner prototype of the function on top, with the cells that it captures, which are open. A refusal changes nothing.
-pub fn make_function(world: &mut World, inner: u32) -> Result<FuncId, AllocError>
+pub fn make_function(world: &mut World, inner: u32) -> Allocated<FuncId>
     requires order { InOrder world.old }
     requires there { CanMake world.old inner }
     ensures makes { IfOk result (λ id. (env : List Meant) → Makes world.old world.new (outside (makes_one inner)) env (object a_function id.0 ∷ []) true) }
@@ -40,7 +40,7 @@ pub(crate) fn inner_code(world: &World, inner: u32) -> ProtoId
 }
 
 /// The cells that a function of this code captures.
-fn captured_cells(world: &World, code: ProtoId) -> Result<Vec<CellId>, AllocError>
+fn captured_cells(world: &World, code: ProtoId) -> Allocated<Vec<CellId>>
     requires order { InOrder world.now }
     requires there { CanCapture world.now code }
     ensures { IfOk result (λ cells. AreCaptured world.now code cells.items) }

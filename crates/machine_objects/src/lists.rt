@@ -7,18 +7,13 @@ ghost use Rattle.instruction_forms.specs.declared.form.Form.TheVariants.{ExtraAr
 ghost use Rattle.move_laws.specs.Memory.{InOrder, IsSafe, Leads, StandsAt};
 ghost use Rattle.machine_moves.specs.Ending.{ending_of};
 
+use int_core::Allocated;
 use lua_heap::World;
 use machine_moves::{Ending, read_varargs};
 use machine_returns::take_results;
-use std::alloc::AllocError;
 
 /// The arguments beyond the parameters go to registers: to one fewer than `count`, or for 0 all of them as an open list. A refusal changes nothing.
-pub fn extra_arguments(
-    world: &mut World,
-    pc: usize,
-    to: usize,
-    count: usize,
-) -> Result<Ending, AllocError>
+pub fn extra_arguments(world: &mut World, pc: usize, to: usize, count: usize) -> Allocated<Ending>
     requires at { StandsAt world.old pc }
     requires room { pc + 2 < 2 ^ 64 }
     requires order { InOrder world.old }
