@@ -3,10 +3,10 @@ use Rattle.std.proofs.Common.{◌≡◌, ℕ, List, [], ◌∷◌, ◌++◌, Opt
 use Rattle.std.specs.Prelude.{ℤ}
 use Rattle.int_core.specs.Operations.{Event, by_zero, computed}
 use Rattle.int_core.specs.Value.{Value, shape, integer}
-use Rattle.machine_core.specs.Text.{written, read_register, read_constant, read_upvalue, write_register, raise, Text}
+use Rattle.machine_core.specs.Text.{Own, written, read_register, read_constant, read_upvalue, write_register, raise, Text}
 use Rattle.machine_core.specs.InstructionRows.{fast, integer_of_shape, skip, then}
 use Rattle.machine_core.specs.FrameRows.{expand}
-use Rattle.machine_core.specs.Moves.{on_own, outside, Ending, Row, run}
+use Rattle.machine_core.specs.Moves.{on_own, outside, Ending, Row, act, run}
 use Rattle.table_core.specs.declared.value.Value.{Value as Kept}
 use Rattle.lua_heap.specs.declared.world.World.{World as Memory}
 use Rattle.lua_heap.specs.Plain.{plain}
@@ -30,23 +30,21 @@ can_constant {W} {n} i = can_do (read_constant n) (λ _ s. expand (i.more (integ
 pub has_upvalue : {W : Memory} {u : ℕ} → IsReadAsInteger W (Upvalue u) → HasUpvalue W u
 has_upvalue {W} {u} i = can_upvalue (record { more = λ _. i.more None; env = i.env; safe = i.safe })
 
+-- a move that tells a value
+reads_own : (W : Memory) (m : Own) (v : Kept) (n : Option ℤ) → ((env : List Value) → Makes W W (on_own m) env (value W.strings v ∷ []) (shape (value W.strings v))) → n ≡ integer_of_shape (shape (value W.strings v))
+    → (more : Option ℤ → Text) (env : List Value) (fuel : ℕ)
+    → run (act (on_own m) (λ _ s. expand (more (integer_of_shape s)))) env (plain W fuel) ≡ run (expand (more n)) (env ++ value W.strings v ∷ []) (plain W fuel)
+reads_own W m v n h e more env fuel =
+    act_is (on_own m) (λ _ s. expand (more (integer_of_shape s))) env (plain W fuel) (plain W fuel) (value W.strings v ∷ []) (shape (value W.strings v)) ((h env).is fuel)
+    ∙ ap (λ n. run (expand (more n)) (env ++ value W.strings v ∷ []) (plain W fuel)) (sym e)
+
 pub reads_register : (W : Memory) (r : ℕ) (v : Kept) (n : Option ℤ) → ((env : List Value) → Makes W W (on_own (read_register r)) env (value W.strings v ∷ []) (shape (value W.strings v)))
     → n ≡ integer_of_shape (shape (value W.strings v)) → ReadsInteger W (Register r) n
-reads_register W r v n h e = record {
-  values = value W.strings v ∷ [];
-  goes = λ more env fuel.
-      act_is (on_own (read_register r)) (λ _ s. expand (more (integer_of_shape s))) env (plain W fuel) (plain W fuel) (value W.strings v ∷ []) (shape (value W.strings v)) ((h env).is fuel)
-      ∙ ap (λ n. run (expand (more n)) (env ++ value W.strings v ∷ []) (plain W fuel)) (sym e);
-}
+reads_register W r v n h e = record { values = value W.strings v ∷ []; goes = reads_own W (read_register r) v n h e }
 
 pub reads_constant : (W : Memory) (k : ℕ) (v : Kept) (n : Option ℤ) → ((env : List Value) → Makes W W (on_own (read_constant k)) env (value W.strings v ∷ []) (shape (value W.strings v)))
     → n ≡ integer_of_shape (shape (value W.strings v)) → ReadsInteger W (Constant k) n
-reads_constant W k v n h e = record {
-  values = value W.strings v ∷ [];
-  goes = λ more env fuel.
-      act_is (on_own (read_constant k)) (λ _ s. expand (more (integer_of_shape s))) env (plain W fuel) (plain W fuel) (value W.strings v ∷ []) (shape (value W.strings v)) ((h env).is fuel)
-      ∙ ap (λ n. run (expand (more n)) (env ++ value W.strings v ∷ []) (plain W fuel)) (sym e);
-}
+reads_constant W k v n h e = record { values = value W.strings v ∷ []; goes = reads_own W (read_constant k) v n h e }
 
 pub reads_upvalue : (W : Memory) (u : ℕ) (v : Kept) (t : Bool) → ((env : List Value) → Makes W W (outside (read_upvalue u)) env (value W.strings v ∷ []) t) → ReadsInteger W (Upvalue u) None
 reads_upvalue W u v t h = record {

@@ -97,6 +97,10 @@ pub record Joining (old now : Memory) (first count left : ℕ) (last whole : Kep
   pub safe : MayJoin now first left whole
   pub goes : (when : When) (env : List Value) → Names old first count env last → GoesOn when old now first count left whole env
 
+-- one operand at least is left
+pub one_left : {old now : Memory} {first count left below : ℕ} {last whole : Kept} → left ≡ suc below → Joining old now first count left last whole → Joining old now first count (suc below) last whole
+one_left {old} {now} {first} {count} {last = last} {whole = whole} e j = subst (λ left. Joining old now first count left last whole) e j
+
 pub begins : (old : Memory) (first count : ℕ) (last : Kept) → IsSound old → HasFrame old → IsIn old.strings old.tables.objects last → MayJoin old first count last → Joining old old first count count last last
 begins old first count last s f t m = record {
   sound = s;
@@ -115,7 +119,7 @@ can_read {W} {first} {below} m = can_do (read_register (first + below)) (λ u _.
 same_frame : {old new : Memory} → ReadsSame old new → HasFrame old → HasFrame new
 same_frame r f = record { place = f.place; is = ap place_of (r.is 0) ∙ f.is }
 
-same_then : {old now new : Memory} → ReadsSame old now → ReadsSame now new → ReadsSame old new
+pub same_then : {old now new : Memory} → ReadsSame old now → ReadsSame now new → ReadsSame old new
 same_then r q = record { is = λ fuel. q.is fuel ∙ r.is fuel }
 
 pub rest_then : (old : Memory) {now new : Memory} → now ≡ record old { strings = now.strings } → new ≡ record now { strings = new.strings } → new ≡ record old { strings = new.strings }
@@ -183,9 +187,6 @@ module _ {old now new : Memory} {first count below : ℕ} {last whole : Kept} (j
             is = λ fuel. g.is fuel ∙ one_step when now new first below whole (Fault cause) k g.more g.named fuel;
           };
     }
-
-  pub comes_same : ReadsSame old new
-  comes_same = same_then j.same r
 
 pub whole_joins : {old now : Memory} {first count left : ℕ} {last whole : Kept} → left ≡ 0 → Joining old now first count left last whole → Joins old now first count last (Whole whole)
 whole_joins {old} {now} {first} {count} {left} {last} {whole} e j = record {

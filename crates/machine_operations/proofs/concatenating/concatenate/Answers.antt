@@ -33,20 +33,18 @@ pub read_register-last-requires : goal.read_register-last-requires
 read_register-last-requires c =
     can_last c.args.world.now c.args.first (c.args.count - 1) (safe_last c.args.world.now no_code c.args.pc c.args.first c.args.count c.if-count-eq0.false (c.requires.safe no_code))
 
-pub join-requires-clause-sound : goal.join-requires-clause-sound
-join-requires-clause-sound c = c.requires.stands.sound
-
-pub join-requires-clause-frame : goal.join-requires-clause-frame
-join-requires-clause-frame c = frame_at c.requires.stands.at
-
-pub join-requires-clause-last : goal.join-requires-clause-last
-join-requires-clause-last c =
-    operand_there c.args.world.now (c.args.first + (c.args.count - 1)) c.read_register-last.result c.requires.stands.sound c.operands_are_there.ensures c.read_register-last.ensures
-
-pub join-requires-clause-safe : goal.join-requires-clause-safe
-join-requires-clause-safe c =
-    may_join c.args.world.now c.args.first (c.args.count - 1) c.read_register-last.result c.read_register-last.ensures
-    (safe_last c.args.world.now no_code c.args.pc c.args.first c.args.count c.if-count-eq0.false (c.requires.safe no_code))
+pub join-requires : goal.join-requires
+join-requires c =
+    let W = c.args.world.now in
+    let n = c.args.count - 1 in
+    let size = c.requires.size in
+    record {
+      sound = c.requires.stands.sound;
+      frame = frame_at c.requires.stands.at;
+      last = operand_there W (c.args.first + n) c.read_register-last.result c.requires.stands.sound c.operands_are_there.ensures c.read_register-last.ensures;
+      room = omega (arith, size);
+      safe = may_join W c.args.first n c.read_register-last.result c.read_register-last.ensures (safe_last W no_code c.args.pc c.args.first c.args.count c.if-count-eq0.false (c.requires.safe no_code));
+    }
 
 pub keep-requires-clause-order : goal.keep-requires-clause-order
 keep-requires-clause-order c = c.join.ensures.sound.order
@@ -104,13 +102,12 @@ raise-requires-clause-frame c = frame_at (stands_same c.join.ensures.same c.requ
 pub returns-in_ok-text-in-Fails-clause-steps : goal.returns-in_ok-text-in-Fails-clause-steps
 returns-in_ok-text-in-Fails-clause-steps c =
     let W = c.args.world.now in
-    let V = c.join.new.world in
     let n = c.args.count - 1 in
-    let j = subst (λ o. Joins W V c.args.first n c.read_register-last.result o) c.in-Fails.is c.in_ok-v.ensures.joins in
-    let come = last_comes W c.args.first n c.read_register-last.result c.read_register-last.ensures V (Fails c.in-Fails.fault) j in
+    let j = subst (λ o. Joins W c.join.new.world c.args.first n c.read_register-last.result o) c.in-Fails.is c.in_ok-v.ensures.joins in
+    let come = last_comes W c.args.first n c.read_register-last.result c.read_register-last.ensures c.join.new.world (Fails c.in-Fails.fault) j in
     if_ok c.raise.result c.raise.ensures.leads c.raise.ensures.raised (λ ending l q p.
     last_steps W c.raise.new.world c.args.budget.now c.args.budget.now (ending_of ending) p c.args.pc c.args.first c.args.count c.if-count-eq0.false
-    (raised_steps c.args.budget.now q (fails_leads come (c.deref.ensures.value ∙ c.in_ok-text-in-Fails.ensures V.strings) l)))
+    (raised_steps c.args.budget.now q (fails_leads come (c.deref.ensures.value ∙ c.in_ok-text-in-Fails.ensures c.join.new.world.strings) l)))
 
 pub returns-in_err-v-clause-order : goal.returns-in_err-v-clause-order
 returns-in_err-v-clause-order c = c.join.ensures.sound.order
