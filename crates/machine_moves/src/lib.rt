@@ -28,5 +28,5 @@ pub use objects::make_table;
 pub use operations::settle;
 pub use pending::{drop_pending, mark_pending, see_pending, take_pending};
 pub use registers::{clear_registers, go_to, read_register, read_registers, write_register};
-pub use tops::{Over, hand_over, pop_frame, push_frame, see_top};
+pub use tops::{Over, hand_over, handed, pop_frame, push_frame, see_top};
 pub use upvalues::{cell_of, read_upvalue, write_upvalue};

@@ -1,14 +1,15 @@
 // The frame on top of the running stack, and frames that are no Lua functions'.
-ghost use Rattle.std.specs.Prelude.{◌≡◌, ◌+◌, List, [], ◌∷◌, ◌++◌, cond, length, nat_le, IfOk, OnErr};
+ghost use Rattle.std.specs.Prelude.{◌≡◌, ◌+◌, Bool, List, [], ◌∷◌, ◌++◌, cond, length, nat_le, IfOk, OnErr};
 ghost use Rattle.int_core.specs.Limits.{greatest_depth};
 ghost use Rattle.int_core.specs.Value.{Value as Meant};
 ghost use Rattle.lua_heap.specs.Cells.{CellsAreListed};
 ghost use Rattle.lua_heap.specs.Plain.{plain};
 ghost use Rattle.lua_heap.specs.Reading.{value as meant};
-ghost use Rattle.machine_core.specs.Moves.{Over as OverWhat, frame_over, pop_frame as pops, push_frame as pushes, runs_main, see_top as sees};
-ghost use Rattle.machine_core.specs.FrameRows.{hand_over as hands_over};
+ghost use Rattle.machine_core.specs.Moves.{Over as OverWhat, frame_over, pop_frame as pops, push_frame as pushes, runs_main, see_top as sees, stop};
+ghost use Rattle.machine_core.specs.FrameRows.{hand_over as hands_over, handed};
 ghost use Rattle.move_laws.specs.Memory.{HasStack, Leads, Makes};
 ghost use Rattle.machine_moves.specs.Ending.{ending_of};
+ghost use Rattle.machine_moves.specs.declared.ending.Ending.TheVariants.{Spent};
 ghost use Rattle.machine_moves.specs.Tops.{HasOther, TopIs, frame_pushed, kept_over, shape_of};
 
 use crate::chain::{running, running_stack};
@@ -42,7 +43,15 @@ pub fn hand_over(world: &World) -> Ending
     requires { HasStack world.now }
     ensures { (env : List Meant) → Leads hands_over env world.now world.now (ending_of result) }
 {
-    match see_top(world) {
+    handed(see_top(world))
+}
+
+/// How a step ends with results for what is on top.
+pub fn handed(top: Top) -> Ending
+    ensures ends { (in_main : Bool) → handed (shape_of in_main top) ≡ stop (ending_of result) }
+    ensures paid { result ≡ Spent → ⊥ }
+{
+    match top {
         Top::Lua => Ending::Go,
         Top::Missing => Ending::Returned,
         Top::Pcall => Ending::Returned,

@@ -1,20 +1,17 @@
 // Frames that are left, with results or with an error, where none of their variables is to be closed any more (luaD_poscall of ldo.c).
-ghost use Rattle.std.specs.Prelude.{◌≡◌, Bool, IfOk, List, OnErr};
+ghost use Rattle.std.specs.Prelude.{◌≡◌, IfOk, List, OnErr};
 ghost use Rattle.int_core.specs.Value.{Value as Meant};
 ghost use Rattle.lua_heap.specs.Reading.{value as meant};
 ghost use Rattle.machine_core.specs.Text.{Arg, arg, own, leave, results, thrown, read_registers as reads};
-ghost use Rattle.machine_core.specs.FrameRows.{When, expand_by, handed};
-ghost use Rattle.machine_core.specs.Moves.{stop};
+ghost use Rattle.machine_core.specs.FrameRows.{When, expand_by};
 ghost use Rattle.move_laws.specs.Memory.{CanDo, HasFrame, InOrder, Leads};
 ghost use Rattle.machine_moves.specs.Ending.{ending_of};
 ghost use Rattle.machine_moves.specs.declared.ending.Ending.TheVariants.{Spent};
-ghost use Rattle.machine_moves.specs.Tops.{shape_of};
 
 use int_core::Allocated;
 use lua_heap::World;
-use lua_stack::Top;
 use machine_calls::leave_frame;
-use machine_moves::{Ending, put_in_front, read_registers};
+use machine_moves::{Ending, handed, put_in_front, read_registers};
 use table_core::Value;
 
 /// The frame on top is left with the values of so many registers. A refusal changes nothing.
@@ -43,19 +40,4 @@ pub(crate) fn leave_with_error(world: &mut World, error: Value) -> Allocated<End
     let given = put_in_front(world.alloc, &[error], &[])?;
     let _top = leave_frame(world, given);
     Ok(Ending::Unwinding)
-}
-
-/// How a step ends with results for what is on top.
-pub fn handed(top: Top) -> Ending
-    ensures ends { (in_main : Bool) → handed (shape_of in_main top) ≡ stop (ending_of result) }
-    ensures paid { result ≡ Spent → ⊥ }
-{
-    match top {
-        Top::Lua => Ending::Go,
-        Top::Missing => Ending::Returned,
-        Top::Pcall => Ending::Returned,
-        Top::Xpcall(_) => Ending::Returned,
-        Top::Handler => Ending::Returned,
-        Top::Closing => Ending::Returned,
-    }
 }

@@ -17,7 +17,6 @@ pub use closables::{find_close, is_closable};
 pub use closing::{close_variables, go_on_closing};
 pub use failing::{fail_with, unwind_function};
 pub use going_on::go_on_called;
-pub use leaving::handed;
 pub use marking::mark;
 pub use results::{take_results, write_registers};
 pub use returning::{go_on_returning, return_some, return_values};
