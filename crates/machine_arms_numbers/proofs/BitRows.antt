@@ -1,11 +1,11 @@
 -- The rounds of a numerical loop.
-use Rattle.std.proofs.Common.{◌≡◌, ℕ, zero, suc, ◌/◌, ◌^◌, ◌<◌, ◌≤◌, ◌∙◌, sym, ap, refl, arith, true, false}
+use Rattle.std.proofs.Common.{◌≡◌, ℕ, zero, suc, ◌/◌, ◌^◌, ◌<◌, ◌∙◌, sym, ap, refl, arith, true, false}
 use Rattle.std.proofs.lemmas.Bool.Decides.{nat_tests}
 use Rattle.std.proofs.lemmas.Nat.{div_below}
 use Rattle.std.specs.Prelude.{ℤ, pos, negsuc, neg_ℤ, ◌-ℤ◌, int_le}
-use Rattle.std.specs.Int.{w64, cast_signed, int_wrap}
+use Rattle.std.specs.Int.{w64, cast_signed}
 use Rattle.std.specs.Int.RustNames.{unsigned_abs}
-use Rattle.int_core.specs.Arithmetic.{wrapped, floor_over, floor_quotient}
+use Rattle.int_core.specs.Arithmetic.{wrapped, floor_over}
 use Rattle.int_core.proofs.WrappedLemmas.{wrapped-pos_below}
 use Rattle.machine_core.specs.InstructionRows.{rounds}
 

@@ -1,16 +1,15 @@
 -- Rows that put a value into a register.
-use Rattle.std.proofs.Common.{◌≡◌, ℕ, zero, suc, ◌+◌, ◌-◌, ◌<◌, ◌≤◌, List, [], ◌∷◌, ◌++◌, length, map, Option, Some, None, refl, ap, sym, ◌∙◌, subst, arith, Bool, true, false}
+use Rattle.std.proofs.Common.{◌≡◌, ℕ, zero, suc, ◌+◌, ◌<◌, ◌≤◌, List, [], length, map, Option, Some, None, refl, ap, sym, ◌∙◌, subst, arith}
 use Rattle.code_core.specs.declared.instruction.Instruction.{Instruction}
 use Rattle.code_core.specs.declared.opcode.Opcode.{Opcode}
 use Rattle.lua_heap.specs.Reading.{value}
 use Rattle.machine_core.specs.InstructionRows.{row_of}
-use Rattle.machine_view.specs.View.{Around, held, IsCode, IsAt, Goes}
-use Rattle.machine_view.proofs.Places.{register_there, constant_there, next_there, behind_there, extra_there, target_there}
-use Rattle.machine_view.proofs.Rows.{Comes, comes, reads, writes, writes_nils, reads_constant, goes_to, pays, settles, same_text}
-use Rattle.machine_view.proofs.Going.{going, at_next, at_second, at_either, goes_by, puts, tests, decides}
+use Rattle.machine_view.specs.View.{Around, IsCode, IsAt, Goes}
+use Rattle.machine_view.proofs.Places.{register_there, constant_there, extra_there, target_there}
+use Rattle.machine_view.proofs.Rows.{reads, writes_nils, reads_constant, same_text}
+use Rattle.machine_view.proofs.Going.{going, at_next, at_second, goes_by, puts}
 use Rattle.table_core.specs.declared.value.Value.{Value as Kept}
 use Rattle.std.specs.Prelude.{pos, slice_get, slice_set}
-use Rattle.std.proofs.lemmas.List.{length-map}
 use Rattle.code_core.specs.Check.{extra_at}
 use Rattle.code_core.specs.Fields.{anything}
 use Rattle.code_core.specs.Instruction.{a_of, b_of, bx_of, ax_of}

@@ -1,26 +1,24 @@
 -- Rows of jumps and loops.
-use Rattle.std.proofs.Common.{◌≡◌, ℕ, zero, suc, ◌+◌, ◌-◌, ◌<◌, ◌≤◌, List, [], ◌∷◌, ◌++◌, length, map, Option, Some, None, refl, ap, sym, ◌∙◌, subst, arith, Bool, true, false}
+use Rattle.std.proofs.Common.{◌≡◌, ℕ, zero, suc, ◌+◌, ◌-◌, ◌<◌, ◌≤◌, List, [], ◌++◌, length, Option, Some, None, refl, ap, sym, ◌∙◌, subst, arith, Bool, true, false}
 use Rattle.code_core.specs.declared.instruction.Instruction.{Instruction}
-use Rattle.code_core.specs.declared.opcode.Opcode.{Opcode}
 use Rattle.lua_heap.specs.Reading.{value}
-use Rattle.machine_core.specs.InstructionRows.{row_of}
-use Rattle.machine_view.specs.View.{Around, held, IsCode, IsAt, Goes}
-use Rattle.machine_view.proofs.Places.{register_there, constant_there, next_there, behind_there, extra_there, target_there}
-use Rattle.machine_view.proofs.Rows.{Comes, comes, reads, writes, writes_nils, reads_constant, goes_to, pays, settles, same_text}
-use Rattle.machine_view.proofs.Going.{going, at_next, at_second, at_either, goes_by, puts, tests, decides}
+use Rattle.machine_view.specs.View.{Around, held, IsAt, Goes}
+use Rattle.machine_view.proofs.Places.{register_there, target_there}
+use Rattle.machine_view.proofs.Rows.{Comes, reads, writes, goes_to, pays, same_text}
+use Rattle.machine_view.proofs.Going.{going, at_next, goes_by, puts}
 use Rattle.table_core.specs.declared.value.Value.{Value as Kept}
 use Rattle.std.specs.Prelude.{ℤ, pos, negsuc, ◌+ℤ◌, ◌-ℤ◌, cond, codes, slice_get, slice_set}
 use Rattle.code_core.specs.Instruction.{a_of, bx_of, sj_of}
 use Rattle.code_core.specs.declared.opcode.Opcode.TheVariants.{Jmp, ForLoop, ForPrep, TForPrep, TForLoop, VarArgPrep}
 use Rattle.int_core.specs.Arithmetic.{add, sub}
-use Rattle.int_core.specs.Value.{Value, known, nil, same_integer, same_plain, shape, is_known, is_object}
+use Rattle.int_core.specs.Value.{Value, nil, same_integer, same_plain, shape, is_known, is_object}
 use Rattle.machine_core.specs.Moves.{place_from}
 use Rattle.int_core.specs.Heap.{Heap}
 use Rattle.machine_core.specs.World.{Cell}
 use Rattle.machine_focus.specs.Focus.{Held}
 use Rattle.machine_core.specs.Text.{Arg, arg, Text, go_by, own, quick, pay, read, write_register, raise, closable, mark_pending}
-use Rattle.machine_core.specs.InstructionRows.{next, jumps, back, writes_integer, goes_round, prepares, starts, runs, rounds, variable_name}
-use Rattle.machine_sound.proofs.Lists.{length_set, get_there}
+use Rattle.machine_core.specs.InstructionRows.{next, jumps, back, writes_integer, starts, runs, rounds, variable_name}
+use Rattle.machine_sound.proofs.Lists.{length_set}
 use Rattle.table_core.specs.Value.{value_eq}
 use Rattle.table_core.specs.declared.value.Value.TheVariants.{Nil, Int}
 use Rattle.machine_arms_numbers.specs.Numbers.{integer_in, is_truthy, leads_back, distance_of}

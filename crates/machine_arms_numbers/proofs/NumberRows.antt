@@ -1,25 +1,25 @@
 -- Rows of arithmetic and comparisons.
-use Rattle.std.proofs.Common.{◌≡◌, ℕ, zero, suc, ◌+◌, ◌-◌, ◌<◌, ◌≤◌, List, [], ◌∷◌, ◌++◌, length, map, Option, Some, None, refl, ap, sym, ◌∙◌, subst, arith, Bool, true, false, inl, inr}
+use Rattle.std.proofs.Common.{◌≡◌, ℕ, ◌+◌, ◌<◌, List, [], ◌∷◌, length, Option, Some, None, refl, ap, sym, ◌∙◌, subst, Bool, true, false, inl, inr}
 use Rattle.code_core.specs.declared.instruction.Instruction.{Instruction}
 use Rattle.code_core.specs.declared.opcode.Opcode.{Opcode}
 use Rattle.lua_heap.specs.Reading.{value}
 use Rattle.machine_core.specs.InstructionRows.{row_of}
 use Rattle.machine_view.specs.View.{Around, held, IsCode, IsAt, Goes}
-use Rattle.machine_view.proofs.Places.{register_there, constant_there, next_there, behind_there, extra_there, target_there}
-use Rattle.machine_view.proofs.Rows.{Comes, comes, reads, writes, writes_nils, reads_constant, goes_to, pays, settles, same_text}
-use Rattle.machine_view.proofs.Going.{going, at_next, at_second, at_either, goes_by, puts, tests, decides}
+use Rattle.machine_view.proofs.Places.{register_there, constant_there, next_there, behind_there}
+use Rattle.machine_view.proofs.Rows.{Comes, reads, reads_constant, settles, same_text}
+use Rattle.machine_view.proofs.Going.{going, at_next, at_second, at_either, goes_by, puts, decides}
 use Rattle.table_core.specs.declared.value.Value.{Value as Kept}
-use Rattle.std.specs.Prelude.{◌⊎◌, ℤ, pos, int_lt, int_le, cond, slice_get, slice_set, IsTrue, ◌==◌}
-use Rattle.code_core.specs.Fields.{registers, constants, second_half, is_return, anything, integer as an_integer}
-use Rattle.code_core.specs.Instruction.{a_of, b_of, c_of, k_of, sb_of, sc_of}
+use Rattle.std.specs.Prelude.{◌⊎◌, ℤ, int_lt, int_le, cond, slice_get, slice_set, IsTrue, ◌==◌}
+use Rattle.code_core.specs.Fields.{registers, constants, second_half, is_return, integer as an_integer}
+use Rattle.code_core.specs.Instruction.{a_of, b_of, c_of, k_of, sb_of}
 use Rattle.code_core.specs.Prototype.{Prototype}
-use Rattle.code_core.specs.declared.opcode.Opcode.TheVariants.{AddI, AddK, SubK, MulK, ModK, IDivK, BAndK, BOrK, BXorK, ShrI, ShlI, Add, Sub, Mul, Mod, IDiv, BAnd, BOr, BXor, Shl, Shr, MmBin, MmBinI, MmBinK, Unm, BNot, Jmp, Eq, Lt, Le, EqK, EqI, LtI, LeI, GtI, GeI}
+use Rattle.code_core.specs.declared.opcode.Opcode.TheVariants.{AddK, SubK, MulK, ModK, IDivK, BAndK, BOrK, BXorK, Add, Sub, Mul, Mod, IDiv, BAnd, BOr, BXor, Shl, Shr, MmBin, MmBinI, MmBinK, Jmp, Eq, Lt, Le, EqK, EqI, LtI, LeI, GtI, GeI}
 use Rattle.int_core.specs.Heap.{Heap}
-use Rattle.int_core.specs.Value.{Value, known, integer, boolean, Shape, shape, same_truth, bind, same}
-use Rattle.int_core.specs.Operations.{Event, of_add, of_sub, of_mul, of_mod, of_idiv, of_band, of_bor, of_bxor, of_shl, of_shr, of_unm, of_bnot, computed, does, arithmetic, equal, less, less_equal, found, truth, equal_on, by_zero}
+use Rattle.int_core.specs.Value.{Value, known, integer, shape, same_truth, bind, same}
+use Rattle.int_core.specs.Operations.{Event, of_add, of_sub, of_mul, of_mod, of_idiv, of_band, of_bor, of_bxor, of_shl, of_shr, computed, arithmetic, less, less_equal, found, truth, equal_on, by_zero}
 use Rattle.lua_heap.proofs.Equal.{alike}
-use Rattle.machine_core.specs.World.{Cell, for_truth}
-use Rattle.machine_core.specs.Text.{Arg, arg, own, read, written, write_register, read_register, read_constant, go_by, Text, raise}
+use Rattle.machine_core.specs.World.{Cell}
+use Rattle.machine_core.specs.Text.{own, read, written, write_register, read_register, Text, raise}
 use Rattle.machine_core.specs.InstructionRows.{fast, integer_of_shape, next, skip, with_register, with_constant, compares, with_number}
 use Rattle.machine_sound.proofs.Lists.{some_is}
 use Rattle.table_core.specs.Value.{value_eq, are_tables}

@@ -1,19 +1,17 @@
 -- Rows of truths and tests.
-use Rattle.std.proofs.Common.{◌≡◌, ℕ, zero, suc, ◌+◌, ◌-◌, ◌<◌, ◌≤◌, List, [], ◌∷◌, ◌++◌, length, map, Option, Some, None, refl, ap, sym, ◌∙◌, subst, arith, Bool, true, false}
+use Rattle.std.proofs.Common.{◌≡◌, ℕ, ◌+◌, List, Some, refl, ap, sym, ◌∙◌, Bool, true, false}
 use Rattle.code_core.specs.declared.instruction.Instruction.{Instruction}
-use Rattle.code_core.specs.declared.opcode.Opcode.{Opcode}
 use Rattle.lua_heap.specs.Reading.{value}
-use Rattle.machine_core.specs.InstructionRows.{row_of}
-use Rattle.machine_view.specs.View.{Around, held, IsCode, IsAt, Goes}
-use Rattle.machine_view.proofs.Places.{register_there, constant_there, next_there, behind_there, extra_there, target_there}
-use Rattle.machine_view.proofs.Rows.{Comes, comes, reads, writes, writes_nils, reads_constant, goes_to, pays, settles, same_text}
-use Rattle.machine_view.proofs.Going.{going, at_next, at_second, at_either, goes_by, puts, tests, decides}
+use Rattle.machine_view.specs.View.{IsAt, Goes}
+use Rattle.machine_view.proofs.Places.{register_there}
+use Rattle.machine_view.proofs.Rows.{reads, same_text}
+use Rattle.machine_view.proofs.Going.{going, at_next, at_second, at_either, goes_by, puts, tests}
 use Rattle.table_core.specs.declared.value.Value.{Value as Kept}
 use Rattle.std.specs.Prelude.{cond, not, slice_get, slice_set}
 use Rattle.code_core.specs.Instruction.{a_of, b_of, k_of}
 use Rattle.code_core.specs.declared.opcode.Opcode.TheVariants.{Not, Test, TestSet, Jmp}
 use Rattle.int_core.specs.Value.{shape, holds, same_truth, boolean}
-use Rattle.machine_core.specs.Text.{Text, read, written}
+use Rattle.machine_core.specs.Text.{read, written}
 use Rattle.machine_core.specs.InstructionRows.{tested, to_register, skip}
 use mathlib.Core.Bool.{beq}
 use Rattle.table_core.specs.declared.value.Value.TheVariants.{Nil, Bool as Boolean}

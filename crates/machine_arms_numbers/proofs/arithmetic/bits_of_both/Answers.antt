@@ -1,7 +1,3 @@
-use Rattle.std.proofs.Common.{◌∙◌}
-use Rattle.std.proofs.lemmas.Int.{to_z-of_z}
-use Rattle.std.specs.Int.{w64}
-use Rattle.std.specs.Int.RustNames.{FitsSigned}
 use Rattle.int_core.proofs.BitLemmas.{and_is}
 use Rattle.machine_arms_numbers.proofs.arithmetic.bits_of_both.Goals as goal
 
