@@ -1,5 +1,5 @@
 -- The lines before the first that is past the limits.
-use Rattle.std.proofs.Common.{◌≡◌, ◌+◌, ◌∙◌, ◌^◌, ◌≤◌, ◌<◌, ℕ, Bool, true, false, cond, List, [], ◌∷◌, length, refl, sym, ap, arith, inl, inr, ◌&&◌, ◌||◌}
+use Rattle.std.proofs.Common.{◌≡◌, ◌+◌, ◌∙◌, ◌≤◌, ℕ, Bool, true, false, cond, List, [], ◌∷◌, length, refl, ap, arith, inl, inr, ◌&&◌, ◌||◌}
 use Rattle.std.specs.Prelude.{nat_le, not}
 use Rattle.std.proofs.lemmas.Bool.{leb-true, le-leb}
 use Rattle.io_edge.specs.Lines.{lines_of, IsWithinLimits, IsPastLimits, BeginsPastLimits}

@@ -1,6 +1,6 @@
 -- How a script that waits for a line is fed: by that line, and then as one whose main coroutine is to be resumed.
 use Rattle.std.proofs.Common.{◌≡◌, ◌+◌, ◌∙◌, ℕ, List, [], ◌∷◌, Option, Some, None, true, false, refl, sym, ap, subst, length}
-use Rattle.std.specs.Prelude.{Bool, option_map, IfSome, ◌++◌}
+use Rattle.std.specs.Prelude.{Bool, IfSome, ◌++◌}
 use Rattle.list_laws.proofs.Items.{some_same}
 use Rattle.machine_core.specs.World.{World}
 use Rattle.machine_core.specs.Moves.{Row}

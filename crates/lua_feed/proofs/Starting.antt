@@ -8,7 +8,6 @@ use Rattle.code_core.specs.Check.{IsChecked, AllChecked}
 use Rattle.library_rows.specs.Library.{Library, Entry, entry, all_entries}
 use Rattle.library_rows.specs.PreludeText.{prelude_functions}
 use Rattle.machine_core.specs.World.{World}
-use Rattle.machine_core.specs.Moves.{Row}
 use Rattle.machine_sound.specs.Sound.{Each, Sound}
 use Rattle.machine_sound.proofs.Lists.{each_none, each_cons}
 use Rattle.machine_sound.proofs.Values.{le_of, both_of}

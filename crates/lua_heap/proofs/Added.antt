@@ -1,6 +1,6 @@
 -- Functions and strings that are added behind those that are there.
 use Rattle.std.proofs.Common.{◌≡◌, ⊎_elim, ℕ, zero, suc, ◌+◌, ◌<◌, ◌≤◌, List, [], ◌∷◌, ◌++◌, map, take, length, Some, Bool, true, false, refl, ap, sym, subst, ◌∙◌, append_assoc, length-append, arith}
-use Rattle.std.specs.Prelude.{◌-◌, ◌&&◌, slice_get, get_or, set, bytes_eq, if◌then◌else◌}
+use Rattle.std.specs.Prelude.{◌-◌, slice_get, get_or, set, bytes_eq, if◌then◌else◌}
 use Rattle.std.specs.List.{list_all, list_any}
 use Rattle.std.proofs.lemmas.Option.{slice_get_within}
 use Rattle.std.proofs.lemmas.List.{map_push, take_at, take-append-le, get_or_at, set_at}

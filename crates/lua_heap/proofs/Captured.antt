@@ -8,7 +8,7 @@ use Rattle.int_core.specs.Value.{last}
 use Rattle.machine_core.specs.Moves.{opened_cells}
 use Rattle.machine_core.specs.World.{open_at, in_progress, is_open_at, find_open, find_open_from, Stack, stack_of, World}
 use Rattle.machine_sound.proofs.Lists.{get_map, map_set}
-use Rattle.lua_stack.specs.Frames.{KeptStack, Adds, AllBelow, IsBelow, cell_at, frame_of, opened_at, top_number}
+use Rattle.lua_stack.specs.Frames.{KeptStack, Adds, IsBelow, cell_at, frame_of, opened_at, top_number}
 use Rattle.lua_stack.specs.declared.frame.OpenCell.{OpenCell}
 use Rattle.table_core.specs.declared.value.CellId.{CellId}
 use Rattle.table_core.specs.declared.value.CoroId.{CoroId}

@@ -1,5 +1,5 @@
 -- A register of the function on top gets a cell: what is known at the exits of that step.
-use Rattle.std.proofs.Common.{◌≡◌, ℕ, [], ◌∷◌, ◌++◌, List, Option, Some, None, length, ap, sym, subst, ◌∙◌}
+use Rattle.std.proofs.Common.{◌≡◌, ℕ, [], ◌∷◌, ◌++◌, List, Some, None, length, ap, sym, subst, ◌∙◌}
 use Rattle.std.specs.Prelude.{slice_get, slice_set}
 use Rattle.int_core.specs.Value.{last}
 use Rattle.list_laws.proofs.Items.{some_same}

@@ -4,7 +4,7 @@ use Rattle.std.specs.Prelude.{drop, map, slice_get}
 use Rattle.std.specs.Option.{option_map}
 use Rattle.int_core.specs.Limits.{stack_overflow}
 use Rattle.int_core.specs.Operations.{Callee, callee, not_callable, callee_of, greatest_chain}
-use Rattle.int_core.specs.Value.{Value, known, nil, primitive, object, a_function, nth, bind, last}
+use Rattle.int_core.specs.Value.{Value, known, primitive, object, a_function, bind, last}
 use Rattle.machine_core.specs.World.{Function, leaving, LuaFrame, Frame, lua, lua_frame, in_progress, World, Stack, Place, place_of, stack_of, push, put_top, put_frames}
 use Rattle.machine_core.specs.Text.{close_cells, keep_pending}
 use Rattle.machine_core.specs.Moves.{Made, made, CallShape, is_entered, enters, enters_paid, has_room, push_all, new_frame, with_own, TopShape, lua_top, handler_top, blamed, runs_main, top_now, see_top, take_moving, go, calls_primitive, raised, unwinding, spent, Ending, stop, act, Outcome, trapped, ends, run, move}
@@ -12,7 +12,6 @@ use Rattle.machine_core.specs.FrameRows.{asked_row, blames, gives_up, raises, re
 use Rattle.machine_core.specs.MachineStep.{from_world}
 use Rattle.machine_sound.proofs.Lists.{bind_some, get_map}
 use Rattle.table_core.specs.declared.value.Value.{Value as Kept}
-use Rattle.table_core.specs.declared.value.Value.TheVariants.{Nil}
 use Rattle.lua_stack.specs.Frames.{frame_of, lua_of}
 use Rattle.lua_stack.specs.declared.frame.Top.{Top}
 use Rattle.lua_stack.specs.declared.frame.Top.TheVariants.{Lua}

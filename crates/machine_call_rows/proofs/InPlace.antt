@@ -2,14 +2,13 @@
 use Rattle.std.proofs.Common.{◌≡◌, ℕ, zero, suc, ◌+◌, ◌<◌, ◌≤◌, List, [], ◌∷◌, length, Option, Some, None, refl, ap, sym, subst, ◌∙◌, arith, Bool, true, false}
 use Rattle.std.specs.Prelude.{cond, map, nat_le, nat_lt}
 use Rattle.std.proofs.lemmas.Bool.Decides.{nat_tests}
-use Rattle.int_core.specs.Heap.{Heap}
-use Rattle.int_core.specs.Operations.{callee, callee_of, greatest_chain}
+use Rattle.int_core.specs.Operations.{greatest_chain}
 use Rattle.int_core.specs.Value.{Value, Shape, a_function, is_known, nil, object, range, shape}
 use Rattle.machine_core.specs.World.{Place, place_of}
 use Rattle.machine_core.specs.Text.{behind, fits, read_register, read_registers, reads, tells}
 use Rattle.machine_core.specs.FrameRows.{expand}
 use Rattle.machine_core.specs.InstructionRows.{read_values}
-use Rattle.machine_core.specs.Moves.{Made, made, move, do_own, go, on_own, with_own}
+use Rattle.machine_core.specs.Moves.{Made, made, do_own, go, on_own, with_own}
 use Rattle.machine_sound.proofs.Lists.{bind_at, some_is}
 use Rattle.table_core.specs.declared.value.FuncId.{FuncId}
 use Rattle.table_core.specs.declared.value.Value.{Value as Kept}

@@ -6,7 +6,7 @@ use Rattle.std.proofs.lemmas.List.{reverse-append}
 use Rattle.code_core.specs.Prototype.{Prototype}
 use Rattle.int_core.specs.Limits.{greatest_depth, limited, position}
 use Rattle.int_core.specs.Value.{Value, known, string, bind, last, without_last}
-use Rattle.machine_core.specs.World.{Cell, Function, Wait, LuaFrame, Frame, lua, World, Stack, Place, place_of, stack_of, put_top, put_frames}
+use Rattle.machine_core.specs.World.{Cell, Wait, LuaFrame, Frame, lua, World, Stack, Place, place_of, put_top, put_frames}
 use Rattle.machine_core.specs.Text.{Arg, read, Own, done}
 use Rattle.machine_core.specs.Moves.{cells_done, blamed, frame_place, has_room, line_of, where_text, with_own, raised, run}
 use Rattle.machine_core.specs.FrameRows.{raises}

@@ -1,5 +1,5 @@
 -- A Lua function that is entered over a frame with the values of its registers.
-use Rattle.std.proofs.Common.{◌≡◌, ℕ, zero, suc, ◌+◌, ◌-◌, ◌<◌, ◌≤◌, List, [], ◌∷◌, ◌++◌, length, Option, Some, None, refl, ap, sym, subst, ◌∙◌, arith, true, Result, Ok, Err, OnErr, OnOk}
+use Rattle.std.proofs.Common.{◌≡◌, ℕ, zero, suc, ◌+◌, ◌-◌, List, [], ◌∷◌, ◌++◌, Option, Some, None, refl, ap, sym, subst, ◌∙◌, true, Result, Ok, Err, OnErr, OnOk}
 use Rattle.std.specs.Prelude.{map, slice_get, slice_set}
 use Rattle.std.proofs.lemmas.List.{append_assoc}
 use Rattle.int_core.specs.Heap.{Heap}
@@ -12,7 +12,6 @@ use Rattle.machine_core.specs.MachineStep.{from_world}
 use Rattle.machine_sound.proofs.Lists.{some_is}
 use Rattle.table_core.specs.declared.value.CoroId.{CoroId}
 use Rattle.table_core.specs.declared.value.FuncId.{FuncId}
-use Rattle.table_core.specs.declared.value.Value.{Value as Kept}
 use Rattle.table_core.specs.declared.value.Value.TheVariants.{Func}
 use Rattle.lua_stack.specs.declared.frame.Shape.{Shape}
 use Rattle.lua_stack.specs.declared.frame.Wait.{Wait as KeptWait}
@@ -25,8 +24,8 @@ use Rattle.move_laws.proofs.Places.{place_is}
 use Rattle.move_laws.proofs.Running.{changed_stack_is_put, place_put, shown, with_top}
 use Rattle.machine_calls.specs.declared.preparing.Prepared.TheVariants.{GivenUp}
 use Rattle.machine_calls.specs.Entering.{HasShape}
-use Rattle.machine_calls.specs.Given.{AreGiven, CallsGiven, EntersGiven}
-use Rattle.machine_calls.specs.Waiting.{CallsSo, EntersOver, follows, made_ready}
+use Rattle.machine_calls.specs.Given.{CallsGiven, EntersGiven}
+use Rattle.machine_calls.specs.Waiting.{EntersOver, follows, made_ready}
 use Rattle.machine_calls.proofs.Blamed.{room_own}
 use Rattle.machine_calls.proofs.Over.{enters_is, functions_own, paid_so}
 

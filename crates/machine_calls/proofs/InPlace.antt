@@ -4,9 +4,9 @@ use Rattle.std.specs.Prelude.{drop, map, nat_le, slice_get}
 use Rattle.int_core.specs.Limits.{greatest_depth, stack_overflow}
 use Rattle.int_core.specs.Operations.{Callee, callee, not_callable, callee_of, greatest_chain}
 use Rattle.int_core.specs.Value.{Value, known, primitive, object, a_function, bind, without_last}
-use Rattle.machine_core.specs.World.{Function, Frame, lua, in_progress, World, Stack, Place, place_of, stack_of, pop, put_frames, close_from}
+use Rattle.machine_core.specs.World.{Function, lua, in_progress, World, Stack, Place, place_of, stack_of, pop, put_frames}
 use Rattle.machine_core.specs.Text.{Arg, arg}
-use Rattle.machine_core.specs.Moves.{Made, made, CallShape, is_entered, is_primitive, not_paid, not_entered, called_tail, enters, has_room, popped, go, calls_primitive, raised, spent, Ending, Outcome, trapped, ends, run}
+use Rattle.machine_core.specs.Moves.{is_entered, not_entered, called_tail, enters, has_room, popped, go, calls_primitive, raised, spent, Ending, Outcome, trapped, ends, run}
 use Rattle.machine_core.specs.FrameRows.{after_call, raises}
 use Rattle.machine_core.specs.MachineStep.{from_world}
 use Rattle.machine_sound.proofs.Lists.{bind_at, last_splits, get_set_same}

@@ -1,6 +1,6 @@
 -- The closing of a coroutine begins, in the words of the machine.
-use Rattle.std.proofs.Common.{◌≡◌, ℕ, zero, suc, ◌+◌, List, [], ◌∷◌, ◌++◌, length, Option, Some, None, refl, ap, ap₂, sym, subst, ◌∙◌, Bool, true, false}
-use Rattle.std.specs.Prelude.{◌≢◌, cond, codes, flat_map, map, nat_le, slice_get, slice_set}
+use Rattle.std.proofs.Common.{◌≡◌, ℕ, zero, suc, ◌+◌, List, [], ◌∷◌, ◌++◌, length, Option, Some, None, refl, ap, sym, subst, ◌∙◌, Bool, true, false}
+use Rattle.std.specs.Prelude.{◌≢◌, cond, codes, map, nat_le, slice_get, slice_set}
 use Rattle.std.proofs.lemmas.List.{length-map, map-append}
 use Rattle.int_core.specs.Limits.{greatest_depth, stack_overflow}
 use Rattle.int_core.specs.Value.{Value, object, a_coroutine, bind, last}

@@ -1,5 +1,5 @@
 -- The cells of a whole stack are closed, and its coroutine is put aside: what stacks list stays right, and it is so in the words of the machine.
-use Rattle.std.proofs.Common.{◌≡◌, ◌⊎◌, ⊎_elim, inl, inr, ℕ, zero, suc, ◌+◌, ◌<◌, List, [], ◌∷◌, length, map, take, Option, Some, None, Bool, true, false, refl, ap, sym, subst, ◌∙◌, arith}
+use Rattle.std.proofs.Common.{◌≡◌, ◌⊎◌, ⊎_elim, ℕ, zero, suc, ◌+◌, ◌<◌, List, [], ◌∷◌, length, map, take, Option, Some, None, Bool, true, refl, ap, sym, subst, ◌∙◌, arith}
 use Rattle.std.specs.Prelude.{◌≢◌, ◌&&◌, not, cond, nat_eq, nat_lt, slice_get, slice_set, get_or}
 use Rattle.std.proofs.lemmas.List.{map-set}
 use Rattle.int_core.specs.Value.{Value, bind, nth}

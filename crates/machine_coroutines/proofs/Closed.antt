@@ -1,10 +1,10 @@
 -- Frames of `coroutine.close` on top of the running stack.
 use Rattle.std.proofs.Common.{◌≡◌, ℕ, suc, List, [], ◌∷◌, ◌++◌, length, Option, Some, None, refl, ap, sym, subst, ◌∙◌, append-nil, true, false}
-use Rattle.std.specs.Prelude.{◌-◌, drop, map, take, slice_get}
+use Rattle.std.specs.Prelude.{◌-◌, drop, map}
 use Rattle.std.specs.Option.{option_map}
-use Rattle.std.proofs.lemmas.List.{length-map, map-append, take-map}
+use Rattle.std.proofs.lemmas.List.{map-append}
 use Rattle.int_core.specs.Value.{Value, known, boolean, nil, bind, last, nth, without_last, error_or_nil}
-use Rattle.machine_core.specs.World.{Frame, closing, in_progress, World, Stack, stack_of, put_frames, put_top}
+use Rattle.machine_core.specs.World.{Frame, closing, World, Stack, stack_of, put_frames, put_top}
 use Rattle.machine_core.specs.Text.{Arg, arg, args_of, read, written}
 use Rattle.machine_core.specs.FrameRows.{closing_by, closing_row, hand_over, then}
 use Rattle.machine_core.specs.Moves.{Ending, asks, find_close, give, give_with, stop, ClosingShape, one_left, all_closed, closed_with_error, Made, made, next_closing, set_error, take_closing, with_error}
@@ -20,7 +20,7 @@ use Rattle.lua_heap.specs.Reading.{value}
 use Rattle.lua_heap.specs.Plain.{plain, coroutine}
 use Rattle.move_laws.specs.Memory.{Runs, ChangesStack, Leads, Makes}
 use Rattle.move_laws.proofs.Rows.{first, ended}
-use Rattle.move_laws.proofs.Running.{changed_stack_is_put, set_same}
+use Rattle.move_laws.proofs.Running.{changed_stack_is_put}
 use Rattle.machine_moves.specs.Tops.{TopIs}
 use Rattle.machine_moves.proofs.OnTop.{kept_as, runs_after, same_stack, stack_kept, put_same}
 use Rattle.machine_coroutines.specs.Closings.{LeavesWith, closing_of, error_or, shape_of, values_of}

@@ -1,5 +1,5 @@
 -- Coroutines that are made and that yield, and how they stand, in the words of the machine.
-use Rattle.std.proofs.Common.{◌≡◌, ℕ, List, [], ◌∷◌, ◌++◌, length, Option, Some, None, refl, ap, sym, subst, ◌∙◌, true, Result, Ok, Err, IfOk, OnOk, OnErr}
+use Rattle.std.proofs.Common.{◌≡◌, ℕ, List, [], ◌∷◌, length, Some, None, refl, ap, sym, subst, ◌∙◌, true, Result, Ok, Err, OnOk, OnErr}
 use Rattle.std.specs.Prelude.{Bool, cond, map, slice_get}
 use Rattle.std.proofs.lemmas.List.{length-map, map-append}
 use Rattle.int_core.specs.Operations.{is_function}

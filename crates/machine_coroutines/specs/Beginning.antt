@@ -1,7 +1,7 @@
 -- The closing of a coroutine begins.
 use Rattle.std.specs.Prelude.{◌≡◌, ◌+◌, ◌++◌, ◌∷◌, [], Bool, List, Option, Some, None, codes, cond, length, nat_le}
 use Rattle.int_core.specs.Limits.{greatest_depth, stack_overflow}
-use Rattle.machine_core.specs.Moves.{CallShape, is_entered, not_entered, ResumeShape, resumed, refused}
+use Rattle.machine_core.specs.Moves.{is_entered, not_entered, ResumeShape, resumed, refused}
 use Rattle.table_core.specs.declared.value.CoroId.{CoroId}
 use Rattle.table_core.specs.declared.value.Value.{Value as Kept}
 use Rattle.lua_stack.specs.Frames.{KeptStack, ArePending, kept_closing}

@@ -1,5 +1,5 @@
 -- A frame that is left with an answer.
-use Rattle.std.proofs.Common.{◌≡◌, ℕ, zero, suc, List, [], ◌∷◌, ◌++◌, length, Some, refl, ap, sym, ◌∙◌, append-nil, true, false}
+use Rattle.std.proofs.Common.{◌≡◌, List, [], ◌∷◌, ◌++◌, length, refl, ap, sym, ◌∙◌, append-nil, true, false}
 use Rattle.std.specs.Prelude.{drop, map}
 use Rattle.int_core.specs.Value.{Value, known, nil, boolean, nth}
 use Rattle.machine_core.specs.Text.{read, written, args_of}

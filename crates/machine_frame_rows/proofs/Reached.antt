@@ -1,6 +1,6 @@
 -- The frame on top that a row reaches.
-use Rattle.std.proofs.Common.{◌≡◌, ◌-◌, List, [], ◌∷◌, length, Option, Some, None, refl, ap, sym, subst, ◌∙◌}
-use Rattle.std.specs.Prelude.{map, slice_get}
+use Rattle.std.proofs.Common.{◌≡◌, ◌-◌, [], length, Option, Some, None, refl, ap, sym, subst, ◌∙◌}
+use Rattle.std.specs.Prelude.{slice_get}
 use Rattle.std.specs.Option.{option_map}
 use Rattle.int_core.specs.Value.{bind, last}
 use Rattle.machine_core.specs.World.{Function, LuaFrame, lua, lua_frame, in_progress, World, Stack, stack_of, Place}

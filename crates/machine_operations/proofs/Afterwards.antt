@@ -14,14 +14,12 @@ use Rattle.machine_core.specs.Moves.{on_own, go, run}
 use Rattle.machine_sound.proofs.Lists.{some_is}
 use Rattle.table_core.specs.declared.value.Value.{Value as Kept}
 use Rattle.lua_heap.specs.declared.world.World.{World as Memory}
-use Rattle.lua_heap.specs.Cells.{CellsAreListed}
 use Rattle.lua_heap.specs.Plain.{plain}
 use Rattle.lua_heap.specs.Reading.{value}
 use Rattle.instruction_forms.specs.declared.form.After.{After}
 use Rattle.instruction_forms.specs.declared.form.After.TheVariants.{ToRegister, ToRegisterBefore, Next as NoValue, Tests}
 use Rattle.instruction_forms.specs.Forms.{follows}
-use Rattle.move_laws.specs.Memory.{IsSafe, InOrder, Leads, Makes}
-use Rattle.move_laws.proofs.Order.{order_after}
+use Rattle.move_laws.specs.Memory.{IsSafe, Leads, Makes}
 use Rattle.move_laws.proofs.Running.{own_read}
 use Rattle.move_laws.proofs.Rows.{first, safe_after}
 use Rattle.machine_rows.proofs.Going.{skipped, tests}

@@ -1,5 +1,5 @@
 -- Frames that wait in memory, and get what moves.
-use Rattle.std.proofs.Common.{◌≡◌, ℕ, zero, suc, List, [], ◌∷◌, ◌++◌, Some, refl, ap, sym, subst, ◌∙◌}
+use Rattle.std.proofs.Common.{◌≡◌, ℕ, List, [], ◌∷◌, ◌++◌, Some, refl, ap, sym, subst, ◌∙◌}
 use Rattle.std.specs.Prelude.{slice_set}
 use Rattle.int_core.specs.Value.{Value, without_last}
 use Rattle.machine_core.specs.World.{running, LuaFrame, lua, in_progress, World, Place, place_of, put_frames, put_top}

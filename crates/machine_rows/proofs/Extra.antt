@@ -1,10 +1,9 @@
 -- The word behind an instruction, in what is kept of the code.
-use Rattle.std.proofs.Common.{◌≡◌, ℕ, ◌+◌, List, Option, Some, None, refl, ap, subst, ◌∙◌, Bool, true, false}
+use Rattle.std.proofs.Common.{◌≡◌, ℕ, ◌+◌, Option, Some, None, refl, ap, subst, ◌∙◌, Bool, true, false}
 use Rattle.std.specs.Prelude.{IsSome, cond, slice_get, option_and_then}
 use Rattle.code_core.specs.declared.instruction.Instruction.{Instruction}
 use Rattle.code_core.specs.declared.opcode.Opcode.TheVariants.{ExtraArg}
 use Rattle.code_core.specs.Instruction.{opcode_of, ax_of}
-use Rattle.code_core.specs.Prototype.{Prototype}
 use Rattle.code_core.specs.Check.{at, extra_at, is_same, there}
 use Rattle.machine_core.specs.World.{Place}
 use Rattle.machine_sound.proofs.Lists.{some_is}

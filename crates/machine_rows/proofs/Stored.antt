@@ -1,5 +1,5 @@
 -- An upvalue that is written.
-use Rattle.std.proofs.Common.{◌≡◌, ℕ, List, [], ◌∷◌, ◌++◌, length, Option, Some, None, refl, ap, ◌∙◌, true}
+use Rattle.std.proofs.Common.{◌≡◌, ℕ, List, [], ◌++◌, length, Option, Some, None, refl, ap, ◌∙◌, true}
 use Rattle.std.specs.Prelude.{Bool, is_some, slice_get}
 use Rattle.int_core.specs.Value.{Value, bind}
 use Rattle.machine_core.specs.World.{Cell, place_of, read_cell, write_cell}

@@ -1,5 +1,5 @@
 -- Where a step begins, and by which of the machine's rows it is done.
-use Rattle.std.proofs.Common.{◌≡◌, ℕ, [], length, Some, None, refl, ap, sym, subst, ◌∙◌, Bool, true, false}
+use Rattle.std.proofs.Common.{◌≡◌, ℕ, [], length, Some, None, ap, sym, subst, ◌∙◌, Bool, true, false}
 use Rattle.library_rows.specs.Library.{all_entries}
 use Rattle.source_builds.proofs.Knowing.{read_all}
 use Rattle.loaded_code.specs.Laws.{library}
@@ -7,8 +7,7 @@ use Rattle.code_core.specs.declared.opcode.Opcode.{Opcode}
 use Rattle.code_core.specs.declared.instruction.Instruction.{Instruction}
 use Rattle.code_core.specs.Instruction.{opcode_of}
 use Rattle.code_core.specs.Check.{at}
-use Rattle.int_core.specs.Value.{Value}
-use Rattle.machine_core.specs.World.{Wait, running, World, Place, place_of}
+use Rattle.machine_core.specs.World.{running, World, Place, place_of}
 use Rattle.machine_core.specs.Text.{Text, trap}
 use Rattle.machine_core.specs.InstructionRows.{row_of, text_at, text_by}
 use Rattle.machine_core.specs.FrameRows.{at_once, expand}
@@ -21,7 +20,7 @@ use Rattle.instruction_forms.specs.Choice.{IsNone}
 use Rattle.instruction_forms.specs.Waiting.{form_at}
 use Rattle.lua_heap.specs.declared.world.World.{World as Memory}
 use Rattle.lua_heap.specs.Plain.{plain}
-use Rattle.move_laws.specs.Memory.{IsSound, ReadsSame, StandsAt}
+use Rattle.move_laws.specs.Memory.{IsSound, ReadsSame}
 use Rattle.machine_moves.specs.declared.ending.Ending.{Ending as Kept}
 use Rattle.machine_moves.specs.Ending.{ending_of}
 use Rattle.step_laws.specs.Steps.{Does, HasForm, IsReady, WaitsAt}

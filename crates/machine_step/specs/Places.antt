@@ -5,7 +5,7 @@ use Rattle.code_core.specs.declared.opcode.Opcode.TheVariants.{MmBin, MmBinI, Mm
 use Rattle.code_core.specs.declared.instruction.Instruction.{Instruction}
 use Rattle.code_core.specs.Instruction.{opcode_of}
 use Rattle.code_core.specs.Check.{IsChecked, at}
-use Rattle.machine_core.specs.World.{Wait, running, Place, place_of}
+use Rattle.machine_core.specs.World.{Place, place_of}
 use Rattle.machine_core.specs.InstructionRows.{rest}
 use Rattle.machine_core.specs.FrameRows.{goes_on_by}
 use Rattle.machine_core.specs.Moves.{Ending, Row}

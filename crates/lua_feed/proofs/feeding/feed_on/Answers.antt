@@ -1,10 +1,8 @@
-use Rattle.std.proofs.Common.{rules, ◌≡◌, ◌+◌, ◌∙◌, length, Some, None, Err, refl, subst, ap}
-use Rattle.std.specs.Prelude.{IfSome}
+use Rattle.std.proofs.Common.{rules, ◌≡◌, ◌∙◌, length, None, Err, refl, subst, ap}
 use Rattle.std.proofs.lemmas.Result.{IfOk-weaker, on_err_weaker}
-use Rattle.io_edge.specs.Lines.{ahead, taken_with, IsWithinLimits, TakesLine}
+use Rattle.io_edge.specs.Lines.{ahead, TakesLine}
 use Rattle.library_rows.specs.Library.{all_entries}
 use Rattle.lua_heap.specs.Plain.{plain}
-use Rattle.machine_runs.specs.Opening.{handed_line}
 use Rattle.loaded_code.specs.Laws.{library}
 use Rattle.source_builds.proofs.Knowing.{read_all, read_map}
 use Rattle.lua_feed.specs.Closes.{close_of}

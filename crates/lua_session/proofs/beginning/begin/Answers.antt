@@ -1,4 +1,4 @@
-use Rattle.std.proofs.Common.{rules, ◌≡◌, length, refl, ap, sym, ◌∙◌}
+use Rattle.std.proofs.Common.{rules, ◌≡◌, length, ap, ◌∙◌}
 use Rattle.std.specs.Prelude.{map, vec_len}
 use Rattle.code_core.specs.Prototype.{Prototype}
 use Rattle.lua_heap.specs.declared.world.World.{World as Memory}

@@ -1,13 +1,10 @@
 use Rattle.std.proofs.Common.{◌≡◌, ap, sym, subst, ◌∙◌}
 use Rattle.std.specs.Prelude.{map, slice_get}
 use Rattle.int_core.specs.Value.{last}
-use Rattle.machine_core.specs.World.{Place}
-use Rattle.machine_core.specs.Moves.{popped}
 use Rattle.machine_sound.proofs.Lists.{some_is}
 use Rattle.table_core.specs.declared.value.CoroId.{CoroId}
 use Rattle.lua_heap.specs.declared.world.World.{World as Memory}
 use Rattle.lua_heap.specs.Cells.{AreListed, open_cells_in}
-use Rattle.lua_heap.specs.Plain.{plain}
 use Rattle.move_laws.proofs.Running.{has_stack}
 use Rattle.machine_calls.proofs.Left.{closed_is, still_there, drops_so}
 use Rattle.machine_calls.proofs.leaving.drop_frame.Goals as goal

@@ -1,11 +1,10 @@
-use Rattle.std.proofs.Common.{◌≡◌, refl, ap, sym, subst}
+use Rattle.std.proofs.Common.{refl, ap, sym, subst}
 use Rattle.std.specs.Prelude.{map}
 use Rattle.int_core.specs.Value.{a_function, object}
 use Rattle.lua_heap.specs.declared.world.World.{World as Memory}
 use Rattle.lua_heap.specs.Plain.{plain}
 use Rattle.lua_heap.specs.Reading.{value as meant}
 use Rattle.machine_core.specs.Moves.{calls_primitive, go}
-use Rattle.move_laws.proofs.Order.{order_after}
 use Rattle.machine_calls.specs.Entering.{EntersSo, entered_or_not}
 use Rattle.machine_calls.specs.Tails.{EntersInPlace}
 use Rattle.machine_calls.proofs.Over.{function_after}

@@ -1,6 +1,6 @@
 use Rattle.std.proofs.Common.{◌≡◌, [], ◌∷◌, Some, refl, ap, ◌∙◌}
 use Rattle.std.specs.Prelude.{slice_get}
-use Rattle.int_core.specs.Value.{Value as Meant, known, nil, shape, write}
+use Rattle.int_core.specs.Value.{shape}
 use Rattle.lua_heap.specs.Reading.{value as meant}
 use Rattle.machine_core.specs.Text.{read_register as reads}
 use Rattle.move_laws.proofs.Running.{has_stack, registers_there, own_read, of_top, nth_is}

@@ -1,4 +1,4 @@
-use Rattle.std.proofs.Common.{◌≡◌, ◌<◌, ◌+◌, length, Some, ap, sym, ◌∙◌, rules}
+use Rattle.std.proofs.Common.{◌<◌, ◌+◌, length, Some, ap, sym, ◌∙◌, rules}
 use Rattle.code_core.specs.Instruction.{ax_of}
 use Rattle.machine_sound.proofs.Lists.{get_within, some_is}
 use Rattle.move_laws.proofs.Sounds.{sound_top}
