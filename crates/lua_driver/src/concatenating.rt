@@ -12,11 +12,11 @@ ghost use Rattle.lua_driver.specs.Concatenating.{ConcatsHere};
 ghost use Rattle.lua_driver.specs.Turns.{GoesFurther};
 
 use code_core::Opcode;
+use int_core::Allocated;
 use lua_heap::World;
 use machine_moves::Ending;
 use machine_operations::concatenate;
 use running_frame::Here;
-use std::alloc::AllocError;
 
 /// A concatenation, as its instruction tells it: the first of its registers, and how many there are.
 #[derive(Clone, Copy, Debug)]
@@ -46,7 +46,7 @@ pub(crate) fn concat_here(
     budget: &mut u64,
     here: Here,
     at: ConcatAt,
-) -> Result<Ending, AllocError>
+) -> Allocated<Ending>
     requires ready { IsReady (length all_entries) go world.old }
     requires here { IsHere world.old here }
     requires concats { ConcatsHere here at }

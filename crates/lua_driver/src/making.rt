@@ -10,11 +10,11 @@ ghost use Rattle.lua_driver.specs.Making.{MakesHere};
 ghost use Rattle.lua_driver.specs.Turns.{GoesFurther};
 
 use code_core::Opcode;
+use int_core::Allocated;
 use lua_heap::World;
 use machine_moves::Ending;
 use machine_objects::new_function;
 use running_frame::Here;
-use std::alloc::AllocError;
 
 /// A function that is made, as its instruction tells it: which inner prototype of the function that runs, and the register to which it goes.
 #[derive(Clone, Copy, Debug)]
@@ -39,7 +39,7 @@ pub(crate) fn make_at(here: Here) -> Option<MakeAt>
 }
 
 /// The frame on top makes it.
-pub(crate) fn make_here(world: &mut World, here: Here, at: MakeAt) -> Result<Ending, AllocError>
+pub(crate) fn make_here(world: &mut World, here: Here, at: MakeAt) -> Allocated<Ending>
     requires ready { IsReady (length all_entries) go world.old }
     requires here { IsHere world.old here }
     requires makes { MakesHere here at }
