@@ -48,6 +48,14 @@ nth_old [] ys c h = absurd (omega arith)
 nth_old (x ∷ xs) ys zero h = refl
 nth_old (x ∷ xs) ys (suc c) h = nth_old xs ys c (omega arith)
 
+pub nth_mid : (env vs : List Value) (v : Value) → nth (env ++ v ∷ vs) (length env) ≡ v
+nth_mid [] vs v = refl
+nth_mid (x ∷ env) vs v = nth_mid env vs v
+
+pub drop_mid : (env vs : List Value) (v : Value) → drop (suc (length env)) (env ++ v ∷ vs) ≡ vs
+drop_mid [] vs v = refl
+drop_mid (x ∷ env) vs v = drop_mid env vs v
+
 pub nth_get : (xs : List Value) (c : ℕ) (v : Value) → slice_get xs c ≡ Some v → nth xs c ≡ v
 nth_get xs c v h = ap (λ o. elim o [ None ↦ Rattle.int_core.specs.Value.known Rattle.int_core.specs.Value.nil | Some w ↦ w ]) h
 

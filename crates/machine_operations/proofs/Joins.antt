@@ -1,9 +1,9 @@
 -- Operands that are joined one after another.
 use Rattle.std.proofs.Common.{◌≡◌, ℕ, zero, suc, ◌+◌, ◌-◌, ◌≤◌, List, [], ◌∷◌, ◌++◌, length, refl, ap, sym, subst, ◌∙◌, arith}
-use Rattle.std.specs.Prelude.{drop}
 use Rattle.std.proofs.lemmas.List.{length-map}
 use Rattle.int_core.specs.Operations.{concat}
 use Rattle.int_core.specs.Value.{Value, shape, nth}
+use Rattle.list_laws.proofs.Values.{nth_mid, drop_mid}
 use Rattle.machine_core.specs.World.{for_concat, place_of}
 use Rattle.machine_core.specs.Text.{Arg, args_of, read, read_register, operate}
 use Rattle.machine_core.specs.InstructionRows.{joins}
@@ -34,16 +34,6 @@ operand_there W r v s law h =
     let V = plain W 0 in
     law (sizes s.primitives V) W.strings W.tables.objects v (length-map W.tables.objects (table W.strings)) (register_valid s.primitives V V r [] (value W.strings v) (shape (value W.strings v)) s.sound ((h []).is 0))
 
--- lists of values
-
-pub drop_one_more : {A : Type 0} (xs : List A) (y : A) (ys : List A) → drop (suc (length xs)) (xs ++ y ∷ ys) ≡ ys
-drop_one_more [] y ys = refl
-drop_one_more (x ∷ xs) y ys = drop_one_more xs y ys
-
-pub nth_behind : (xs : List Value) (y : Value) (ys : List Value) → nth (xs ++ y ∷ ys) (length xs) ≡ y
-nth_behind [] y ys = refl
-nth_behind (x ∷ xs) y ys = nth_behind xs y ys
-
 -- the first value that was read names what has been joined
 pub names_first : (W : Memory) (first left : ℕ) (whole : Kept) (rest : List Value) → Names W first left (value W.strings whole ∷ rest) whole
 names_first W first zero whole rest = refl
@@ -70,7 +60,7 @@ module _ (when : When) (now new : Memory) (first below : ℕ) (whole : Kept) (o 
 
   names_are : args_of env xs ≡ u ∷ value now.strings whole ∷ []
   names_are =
-      ap (λ v. v ∷ nth env 0 ∷ []) (nth_behind more u [])
+      ap (λ v. v ∷ nth env 0 ∷ []) (nth_mid more [] u)
       ∙ ap (λ v. u ∷ v ∷ []) (n u (shape u) j.reads)
 
   one_step : (fuel : ℕ) → run (expand_by when (joins first (suc below) (read 0))) more (plain now fuel)
@@ -167,7 +157,7 @@ module _ {old now new : Memory} {first count below : ℕ} {last whole : Kept} (j
         record {
           more = e ++ (h ∷ left ∷ right ∷ []);
           slot = length e;
-          named = (nth_behind e h (left ∷ right ∷ []), drop_one_more e h (left ∷ right ∷ []) ∙ ap (λ texts. left ∷ value texts whole ∷ []) (sym texts));
+          named = (nth_mid e (left ∷ right ∷ []) h, drop_mid e (left ∷ right ∷ []) h ∙ ap (λ texts. left ∷ value texts whole ∷ []) (sym texts));
           is = λ fuel. g.is fuel ∙ one_step when now new first below whole (Ask handler object) k g.more g.named fuel;
         }
 

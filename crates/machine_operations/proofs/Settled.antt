@@ -47,7 +47,7 @@ use Rattle.machine_operations.specs.declared.operands.Values.TheVariants.{One, T
 use Rattle.machine_operations.specs.Copying.{moves_for, prepared_by}
 use Rattle.machine_operations.specs.Operands.{ReadsAll, first_value, list_of, takes}
 use Rattle.machine_operations.specs.Operating.{AreNamed, EndsSo, FailsSo, MayEnd, wait_kept}
-use Rattle.machine_operations.proofs.Joins.{drop_one_more, nth_behind}
+use Rattle.list_laws.proofs.Values.{nth_mid, drop_mid}
 use Rattle.machine_sound.proofs.RowEnds.{drop_front}
 
 -- an operation that is settled has as many operands as it takes
@@ -298,8 +298,8 @@ module _ (W : Memory) (op : Named) (xs : Operands) (also : Option ℕ) (after : 
 
         ask_names : IsNamed settled asked_env (read n) (suc n) (wait_for after) x handler arguments (wait_kept after) (prepared_by also first)
         ask_names = record {
-          calls = nth_behind r.values (value W.strings handler) (value W.strings object ∷ more_of W.strings asked) ∙ here_too handler;
-          gives = drop_one_more r.values (value W.strings handler) (value W.strings object ∷ more_of W.strings asked) ∙ sym (are W.strings) ∙ ap (λ texts. map (value texts) arguments) (sym texts);
+          calls = nth_mid r.values (value W.strings object ∷ more_of W.strings asked) (value W.strings handler) ∙ here_too handler;
+          gives = drop_mid r.values (value W.strings object ∷ more_of W.strings asked) (value W.strings handler) ∙ sym (are W.strings) ∙ ap (λ texts. map (value texts) arguments) (sym texts);
           waits = waits_named (value settled.strings) asked_env after;
           copies = copy_named (value settled.strings) asked_env x also first (copied (value W.strings handler ∷ value W.strings object ∷ more_of W.strings asked) ∙ here_too first);
         }

@@ -26,7 +26,7 @@ use Rattle.move_laws.proofs.Rows.{act_is}
 use Rattle.machine_operations.specs.declared.joining.Joined.TheVariants.{Whole}
 use Rattle.machine_operations.specs.Joining.{Joins, Names}
 use Rattle.machine_operations.specs.WholeTexts.{AreTexts, AreWhole, HasText, no_texts, one_text}
-use Rattle.machine_operations.proofs.Joins.{nth_behind}
+use Rattle.list_laws.proofs.Values.{nth_mid}
 
 -- a string's number is that of a string
 pub is_string : (texts : List (List ℕ)) (tables : List Contents) (v : Kept) → IsIn texts tables v → IsString texts v
@@ -92,7 +92,7 @@ module _ (when : When) (W : Memory) (h : HasFrame W) (first : ℕ) where
       let xs = read (length env) ∷ read 0 ∷ [] in
       let V = plain W fuel in
       let whole = known (string (piece ++ t)) ∷ [] in
-      let names : args_of e xs ≡ u ∷ w ∷ [] = ap (λ v. v ∷ nth e 0 ∷ []) (nth_behind env u []) ∙ ap (λ v. u ∷ v ∷ []) named in
+      let names : args_of e xs ≡ u ∷ w ∷ [] = ap (λ v. v ∷ nth e 0 ∷ []) (nth_mid env [] u) ∙ ap (λ v. u ∷ v ∷ []) named in
       act_is (on_own (read_register (first + n))) (λ u _. expand_by when (operate concat (read u ∷ read 0 ∷ []) (for_concat n) [] (joins first n (read 0)))) env V V (u ∷ []) (shape u) ((k.reads env).is fuel)
       ∙ act_is (settle concat xs) (goes_by when first n) e V V whole is_found (settles V h.place h.is e xs u w piece t names k.has has short)
       ∙ ap (λ env. run (expand_by when (joins first n (read 0))) env V) (drop_front e whole)

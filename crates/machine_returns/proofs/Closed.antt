@@ -1,7 +1,8 @@
 -- Rows that call a closing method, and rows of frames that are left.
-use Rattle.std.proofs.Common.{◌≡◌, ℕ, suc, List, [], ◌∷◌, ◌++◌, length, drop, Option, Some, None, refl, ap, sym, subst, ◌∙◌, true, false, Result, Ok, Err, IfOk}
+use Rattle.std.proofs.Common.{◌≡◌, ℕ, suc, List, [], ◌∷◌, ◌++◌, length, Option, Some, None, refl, ap, sym, subst, ◌∙◌, true, false, Result, Ok, Err, IfOk}
 use Rattle.std.specs.Prelude.{cond, map}
-use Rattle.int_core.specs.Value.{Value, nil, boolean, Shape, is_known, nth}
+use Rattle.int_core.specs.Value.{Value, nil, boolean, Shape, is_known}
+use Rattle.list_laws.proofs.Values.{nth_mid, drop_mid}
 use Rattle.machine_core.specs.World.{Wait, for_close, returning}
 use Rattle.machine_core.specs.Text.{Arg, arg, read, written, is_there, see_pending, take_pending, close_cells, read_registers, results, Text, own, close, leave}
 use Rattle.machine_core.specs.InstructionRows.{is_true, next, returned_so, then}
@@ -44,16 +45,6 @@ return_text from count v s = cond (is_true s) (close (read v) (written nil) (ret
 abbrev pub close_text : (register v : ℕ) → Shape → Text
 close_text register v s = cond (is_true s) (close (read v) (written nil) for_close (close_cells register ∷ take_pending register ∷ [])) (then (close_cells register) next)
 
--- how a row names the method and its arguments, which it read last
-
-pub method_named : (env more : List Value) (h : Value) → nth (env ++ h ∷ more) (length env) ≡ h
-method_named [] more h = refl
-method_named (x ∷ env) more h = method_named env more h
-
-pub arguments_named : (env more : List Value) (h : Value) → drop (suc (length env)) (env ++ h ∷ more) ≡ more
-arguments_named [] more h = refl
-arguments_named (x ∷ env) more h = arguments_named env more h
-
 -- a method is that of a value
 abbrev pub Finds : Memory → (v method : Kept) → Type 0
 Finds W v method = (env : List Value) (x error : Arg) → arg env x ≡ value W.strings v → Makes W W (find_close x error) env (value W.strings method ∷ value W.strings v ∷ arg env error ∷ []) tt
@@ -69,8 +60,8 @@ closing_named W v error method arguments wait prepared env e y w are error_is wa
     let f = value W.strings in
     let more = f v ∷ arg env e ∷ [] in
     record {
-      calls = method_named env more (f method);
-      gives = arguments_named env more (f method) ∙ ap (λ u. f v ∷ u ∷ []) error_is ∙ sym (ap (map f) are);
+      calls = nth_mid env more (f method);
+      gives = drop_mid env more (f method) ∙ ap (λ u. f v ∷ u ∷ []) error_is ∙ sym (ap (map f) are);
       waits = waits;
       copies = copies;
     }

@@ -4,6 +4,7 @@ use Rattle.std.specs.Prelude.{pos, slice_get}
 use Rattle.std.proofs.lemmas.Bool.{cases_eq}
 use Rattle.int_core.specs.Value.{nil, a_table, a_function, a_coroutine, Value, known, object, Shape, bind, nth, write}
 use Rattle.int_core.specs.Operations.{index, Settled, found, ask, fault, cannot_arise, does}
+use Rattle.list_laws.proofs.Values.{drop_front, nth_mid, drop_mid}
 use Rattle.code_core.specs.declared.proto.Const.{Const}
 use Rattle.code_core.specs.Instruction.{a_of, b_of, c_of}
 use Rattle.code_core.specs.Prototype.{Prototype}
@@ -29,18 +30,6 @@ value_is e (known p) = inl tt
 value_is e (object a_function n) = inl tt
 value_is e (object a_coroutine n) = inl tt
 value_is e (object a_table n) = ⊎_elim (λ q. inr (ap (object a_table) q)) (λ q. inl q) (cases_eq n e)
-
-drop_front : (env vs : List Value) → drop (length env) (env ++ vs) ≡ vs
-drop_front [] vs = refl
-drop_front (v ∷ env) vs = drop_front env vs
-
-nth_front : (env vs : List Value) (v : Value) → nth (env ++ v ∷ vs) (length env) ≡ v
-nth_front [] vs v = refl
-nth_front (w ∷ env) vs v = nth_front env vs v
-
-drop_behind : (env vs : List Value) (v : Value) → drop (suc (length env)) (env ++ v ∷ vs) ≡ vs
-drop_behind [] vs v = refl
-drop_behind (w ∷ env) vs v = drop_behind env vs v
 
 -- a move that only reads from the activation leaves the frame as it was
 abbrev pub Idle : Own → Type 0
@@ -138,7 +127,7 @@ module _ (y : Home) (g : Guard) where
     got_goes r env p (ask f vs) h =
         enter_goes y at_once (read (length env)) (suc (length env)) for_value [] gs (env ++ f ∷ vs) W k
         (λ p o. subst (Keeps y gs) (sym (none_same W p for_value (env ++ f ∷ vs))) (own_keeps y gs W k p o g (guard_of p o) for_value [] [] tt tt (each_none (Apart y.table))))
-        (subst (Apart y.table) (sym (nth_front env vs f)) h.0) (subst (Each (Apart y.table)) (sym (drop_behind env vs f)) h.1)
+        (subst (Apart y.table) (sym (nth_mid env vs f)) h.0) (subst (Each (Apart y.table)) (sym (drop_mid env vs f)) h.1)
     got_goes r env p (fault text) h = raises_blind y text gs (env ++ []) W k
     got_goes r env p cannot_arise h = tt
 

@@ -1,6 +1,7 @@
 use Rattle.std.proofs.Common.{[], ◌∷◌, ◌++◌, length, refl}
 use Rattle.int_core.specs.Value.{nil}
 use Rattle.table_core.specs.declared.value.Value.TheVariants.{Nil}
+use Rattle.list_laws.proofs.Values.{nth_mid}
 use Rattle.machine_core.specs.World.{for_close}
 use Rattle.machine_core.specs.Text.{read, written}
 use Rattle.machine_core.specs.FrameRows.{by_asking, expand_by}
@@ -10,7 +11,7 @@ use Rattle.machine_calls.specs.declared.preparing.Prepared.TheVariants.{Closed}
 use Rattle.move_laws.proofs.Rows.{first, safe_after}
 use Rattle.machine_moves.specs.Ending.{ending_of}
 use Rattle.machine_returns.proofs.Tops.{can_see, can_close}
-use Rattle.machine_returns.proofs.Closed.{close_text, seen_some, seen_none, method_named, closes_by_asking, where_ok}
+use Rattle.machine_returns.proofs.Closed.{close_text, seen_some, seen_none, closes_by_asking, where_ok}
 use Rattle.machine_returns.proofs.closing.go_on_closing.Goals as goal
 
 pub see_pending-requires : goal.see_pending-requires
@@ -40,4 +41,4 @@ returns-clause-leads c =
     first (λ v s. expand_by by_asking (close_text c.args.register v s)) (seen_some W c.args.register c.see_pending.result v c.see_pending.ensures c.in-Some.is env)
     (closes_by_asking W c.ask_over.new.world v Nil c.find_close-method.result c.in_ok-arguments.arguments.items ForClose (Closed c.args.register) (ending_of ending)
     (env ++ meant W.strings v ∷ []) (read (length env)) (written nil) (written nil) for_close
-    c.find_close-method.ensures.finds asks c.in_ok-arguments.ensures (method_named env [] (meant W.strings v)) refl refl tt))
+    c.find_close-method.ensures.finds asks c.in_ok-arguments.ensures (nth_mid env [] (meant W.strings v)) refl refl tt))

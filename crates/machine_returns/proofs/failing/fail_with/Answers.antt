@@ -3,6 +3,7 @@ use Rattle.std.specs.Prelude.{cond, map}
 use Rattle.int_core.specs.Value.{Shape, Value as Meant, known, nil, nth}
 use Rattle.table_core.specs.declared.value.Value.{Value as Kept}
 use Rattle.table_core.specs.declared.value.Value.TheVariants.{Nil}
+use Rattle.list_laws.proofs.Values.{nth_mid}
 use Rattle.machine_core.specs.World.{leaving}
 use Rattle.machine_core.specs.Text.{Text, read, written, close, leave, thrown}
 use Rattle.machine_core.specs.InstructionRows.{is_true, left_so}
@@ -14,7 +15,7 @@ use Rattle.move_laws.proofs.Rows.{first}
 use Rattle.machine_moves.specs.Ending.{ending_of}
 use Rattle.machine_returns.specs.Failing.{first_or}
 use Rattle.machine_returns.proofs.Tops.{can_see, can_leave}
-use Rattle.machine_returns.proofs.Closed.{seen_some, seen_none, method_named, closes_by_asking, where_ok}
+use Rattle.machine_returns.proofs.Closed.{seen_some, seen_none, closes_by_asking, where_ok}
 use Rattle.machine_returns.proofs.failing.fail_with.Goals as goal
 
 abbrev seen : ℕ → Shape → Text
@@ -59,4 +60,4 @@ returns-clause-leads c =
     first (λ v s. expand_by by_asking (seen v s)) (seen_some W 0 c.see_pending.result v c.see_pending.ensures c.in-Some.is env)
     (closes_by_asking W c.ask_over.new.world v error c.find_close-method.result c.in_ok-arguments.arguments.items (Leaving error) LeftSo (ending_of ending)
     (env ++ f v ∷ []) (read (length env)) (read 0) (written nil) (leaving (read 0))
-    c.find_close-method.ensures.finds asks c.in_ok-arguments.ensures (method_named env [] (f v)) (one_seen f moved v ∙ is) (ap leaving (still_first f moved v _ ∙ is)) tt))
+    c.find_close-method.ensures.finds asks c.in_ok-arguments.ensures (nth_mid env [] (f v)) (one_seen f moved v ∙ is) (ap leaving (still_first f moved v _ ∙ is)) tt))

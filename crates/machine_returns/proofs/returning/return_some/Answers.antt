@@ -1,6 +1,7 @@
 use Rattle.std.proofs.Common.{[], ◌∷◌, ◌++◌, length, refl}
 use Rattle.int_core.specs.Value.{nil}
 use Rattle.table_core.specs.declared.value.Value.TheVariants.{Nil}
+use Rattle.list_laws.proofs.Values.{nth_mid}
 use Rattle.machine_core.specs.World.{returning}
 use Rattle.machine_core.specs.Text.{read, written}
 use Rattle.machine_core.specs.FrameRows.{at_once, expand}
@@ -12,7 +13,7 @@ use Rattle.move_laws.proofs.Rows.{safe_after}
 use Rattle.machine_moves.specs.Ending.{ending_of}
 use Rattle.machine_moves.proofs.OnTop.{if_ok}
 use Rattle.machine_returns.proofs.Tops.{solid_of, can_see, can_return}
-use Rattle.machine_returns.proofs.Closed.{return_text, seen_some, seen_none, method_named, may_call, closes_at_once, steps_first, not_spent, where_ok}
+use Rattle.machine_returns.proofs.Closed.{return_text, seen_some, seen_none, may_call, closes_at_once, steps_first, not_spent, where_ok}
 use Rattle.machine_returns.proofs.returning.return_some.Goals as goal
 
 pub see_pending-requires : goal.see_pending-requires
@@ -35,7 +36,7 @@ call_over-requires-clause-safe c =
     let s = safe_after (λ v s. expand (return_text c.args.from c.args.count v s)) c.requires.safe.safe (seen_some W 0 c.see_pending.result v c.see_pending.ensures c.in-Some.is env) in
     may_call W v Nil c.find_close-method.result c.in_ok-arguments.arguments.items (Returning c.args.count) (ReturnedSo c.args.from c.args.count)
     (env ++ meant W.strings v ∷ []) (read (length env)) (written nil) (written nil) (returning c.args.count)
-    c.find_close-method.ensures.finds s c.in_ok-arguments.ensures (method_named env [] (meant W.strings v)) refl refl tt tt tt
+    c.find_close-method.ensures.finds s c.in_ok-arguments.ensures (nth_mid env [] (meant W.strings v)) refl refl tt tt tt
 
 pub returns-clause-steps : goal.returns-clause-steps
 returns-clause-steps c =
@@ -45,4 +46,4 @@ returns-clause-steps c =
     steps_first (λ v s. expand (return_text c.args.from c.args.count v s)) (seen_some W 0 c.see_pending.result v c.see_pending.ensures c.in-Some.is env)
     (closes_at_once W c.call_over.new.world c.args.budget.now c.call_over.new.budget v Nil c.find_close-method.result c.in_ok-arguments.arguments.items (Returning c.args.count) (ReturnedSo c.args.from c.args.count) (ending_of ending)
     (env ++ meant W.strings v ∷ []) (read (length env)) (written nil) (written nil) (returning c.args.count)
-    c.find_close-method.ensures.finds calls c.in_ok-arguments.ensures (method_named env [] (meant W.strings v)) refl refl tt))
+    c.find_close-method.ensures.finds calls c.in_ok-arguments.ensures (nth_mid env [] (meant W.strings v)) refl refl tt))
