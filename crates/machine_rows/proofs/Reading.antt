@@ -1,13 +1,13 @@
 -- Operands that are read.
 use Rattle.std.proofs.Common.{◌≡◌, ℕ, List, [], ◌∷◌, ◌++◌, length, Option, Some, None, refl, ap, sym, ◌∙◌, append-nil}
 use Rattle.std.specs.Prelude.{ℤ, Bool, true, is_some, slice_get}
-use Rattle.int_core.specs.Value.{Value, Plain, known, integer, boolean, shape, nth, bind}
-use Rattle.machine_core.specs.World.{Cell, place_of, read_cell}
+use Rattle.int_core.specs.Value.{Value, Plain, known, integer, boolean, shape, nth}
+use Rattle.machine_core.specs.World.{read_cell}
 use Rattle.machine_core.specs.Text.{Arg, Text, read, written, read_register, read_constant, read_upvalue}
 use Rattle.machine_core.specs.FrameRows.{expand}
-use Rattle.machine_core.specs.Moves.{Made, made, on_own, outside, own_cell, do_outside, move, Outcome, trapped, run}
+use Rattle.machine_core.specs.Moves.{Made, on_own, outside, move, Outcome, trapped, run}
 use Rattle.machine_sound.specs.Sound.{sizes, Valid, Sound}
-use Rattle.machine_sound.proofs.Lists.{bind_at, bind_some, get_push_new, get_push_old, some_is}
+use Rattle.machine_sound.proofs.Lists.{bind_at, get_push_new, get_push_old}
 use Rattle.table_core.specs.declared.value.Value.{Value as Kept}
 use Rattle.table_core.specs.declared.value.Value.TheVariants.{Bool as Boolean, Int}
 use Rattle.lua_heap.specs.declared.world.World.{World as Memory}
@@ -21,7 +21,7 @@ use Rattle.move_laws.specs.Memory.{CanDo, Makes}
 use Rattle.move_laws.proofs.Running.{nth_is}
 use Rattle.move_laws.proofs.Rows.{act_is, can_do}
 use Rattle.machine_moves.specs.Code.{HasUpvalue}
-use Rattle.move_laws.proofs.Valid.{register_valid, constant_valid, upvalue_valid}
+use Rattle.move_laws.proofs.Valid.{upvalue_read, register_valid, constant_valid, upvalue_valid}
 use Rattle.machine_rows.specs.Rows.{IsRead, Reads}
 
 -- what there is where a safe row reads an operand
@@ -35,14 +35,9 @@ can_constant {W} {n} i = can_do (read_constant n) (λ n _. expand (i.more (read 
 upvalue_at : (W : Memory) (u : ℕ) (env : List Value) (d : Made Bool) → move (outside (read_upvalue u)) env (plain W 0) ≡ Some d → HasUpvalue W u
 upvalue_at W u env d m =
     let V = plain W 0 in
-    let a = bind_some (do_outside (read_upvalue u) env V) (place_of V) d m in
-    let b = bind_some {A = ℕ × Cell} (λ c. bind (read_cell V c.1) (λ v. made V (v ∷ []) true)) (own_cell V a.0 u) d a.2 in
-    let c = bind_some {B = ℕ × Cell} (λ c. bind {B = ℕ × Cell} (slice_get V.cells c) (λ cell. Some (c, cell))) (slice_get a.0.function.cells u) b.0 b.1 in
-    let e = bind_some {B = ℕ × Cell} (λ cell. Some (c.0, cell)) (slice_get V.cells c.0) b.0 c.2 in
-    let v = bind_some (λ v. made V (v ∷ []) true) (read_cell V b.0.1) d b.2 in
-    let both : (c.0, e.0) ≡ b.0 = some_is {o = Some (c.0, e.0)} refl e.2 in
-    let is : value_in V c.0 ≡ Some v.0 = bind_at (read_cell V) (slice_get V.cells c.0) e.0 e.1 ∙ ap (λ (x : ℕ × Cell). read_cell V x.1) both ∙ v.1 in
-    record { place = a.0; is = a.1; cell = c.0; there = c.1; value = ap is_some is }
+    let r = upvalue_read V u env d m in
+    let is : value_in V r.number ≡ Some r.value = bind_at (read_cell V) (slice_get V.cells r.number) r.cell r.there ∙ r.read_is in
+    record { place = r.place; is = r.is; cell = r.number; there = r.named; value = ap is_some is }
 
 pub can_upvalue : {W : Memory} {u : ℕ} → IsRead W (Upvalue u) → HasUpvalue W u
 can_upvalue {W} {u} i = by (move (outside (read_upvalue u)) i.env (plain W 0)) refl

@@ -63,18 +63,43 @@ constant_valid n W V c env v t s e =
     by p f None q k = absurd (cc)
     by p f (Some x) q k = subst (Valid (sizes n W)) (only_one k) (constants_ok (sizes n W) p.function.code f.code c x q)
 
-pub upvalue_valid : (n : ℕ) (W V : World) (u : ℕ) (env : List Value) (v : Value) (t : Bool) → Sound n W → move (outside (read_upvalue u)) env W ≡ made V (v ∷ []) t → Valid (sizes n W) v
-upvalue_valid n W V u env v t s e =
-    let d : Made Bool = record { world = V; values = v ∷ []; told = t } in
+-- where an upvalue stands that was read
+pub record UpvalueRead (W : World) (u : ℕ) (d : Made Bool) : Type 0 where
+  pub place : Place
+  pub is : place_of W ≡ Some place
+  pub number : ℕ
+  pub named : slice_get place.function.cells u ≡ Some number
+  pub cell : Cell
+  pub there : slice_get W.cells number ≡ Some cell
+  pub value : Value
+  pub read_is : read_cell W cell ≡ Some value
+  pub is_made : made W (value ∷ []) true ≡ Some d
+
+pub upvalue_read : (W : World) (u : ℕ) (env : List Value) (d : Made Bool) → move (outside (read_upvalue u)) env W ≡ Some d → UpvalueRead W u d
+upvalue_read W u env d e =
     let a = bind_some (do_outside (read_upvalue u) env W) (place_of W) d e in
     let b = bind_some {A = ℕ × Cell} (λ c. bind (read_cell W c.1) (λ v. made W (v ∷ []) true)) (own_cell W a.0 u) d a.2 in
     let c = bind_some {B = ℕ × Cell} (λ c. bind {B = ℕ × Cell} (slice_get W.cells c) (λ cell. Some (c, cell))) (slice_get a.0.function.cells u) b.0 b.1 in
     let f = bind_some {B = ℕ × Cell} (λ cell. Some (c.0, cell)) (slice_get W.cells c.0) b.0 c.2 in
     let x = bind_some (λ v. made W (v ∷ []) true) (read_cell W b.0.1) d b.2 in
     let both : (c.0, f.0) ≡ b.0 = some_is {o = Some (c.0, f.0)} refl f.2 in
-    let cell : f.0 ≡ b.0.1 = ap (λ (p : ℕ × Cell). p.1) both in
-    let w = cell_read n W s.solid f.0 (s.solid.cells c.0 f.0 f.1) in
-    let made_of : Made Bool = record { world = W; values = x.0 ∷ []; told = true } in
-    let same : x.0 ≡ v = only_one (ap (λ (d : Made Bool). d.values) (some_is {o = Some made_of} refl x.2)) in
-    let read : w.0 ≡ x.0 = some_is w.1 (ap (read_cell W) cell ∙ x.1) in
+    record {
+      place = a.0;
+      is = a.1;
+      number = c.0;
+      named = c.1;
+      cell = f.0;
+      there = f.1;
+      value = x.0;
+      read_is = ap (λ (p : ℕ × Cell). read_cell W p.1) both ∙ x.1;
+      is_made = x.2;
+    }
+
+pub upvalue_valid : (n : ℕ) (W V : World) (u : ℕ) (env : List Value) (v : Value) (t : Bool) → Sound n W → move (outside (read_upvalue u)) env W ≡ made V (v ∷ []) t → Valid (sizes n W) v
+upvalue_valid n W V u env v t s e =
+    let r = upvalue_read W u env (record { world = V; values = v ∷ []; told = t }) e in
+    let w = cell_read n W s.solid r.cell (s.solid.cells r.number r.cell r.there) in
+    let made_of : Made Bool = record { world = W; values = r.value ∷ []; told = true } in
+    let same : r.value ≡ v = only_one (ap (λ (d : Made Bool). d.values) (some_is {o = Some made_of} refl r.is_made)) in
+    let read : w.0 ≡ r.value = some_is w.1 r.read_is in
     subst (Valid (sizes n W)) same (subst (Valid (sizes n W)) read w.2)
