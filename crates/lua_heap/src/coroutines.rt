@@ -1,5 +1,6 @@
 // Coroutines that resume each other: who runs, and who waits (lua_resume and lua_yield of ldo.c). A stack moves whole; no value is copied.
 ghost use Rattle.std.specs.Prelude.{◌≡◌, ℕ, ◌<◌, List, Some, length, OnOk, OnErr, slice_get, slice_set};
+ghost use Rattle.std.specs.Borrow.{sem};
 ghost use Rattle.machine_core.specs.Moves.{awake, back_to_resumer, go_into, put_coroutine, suspend_running, wait_for_another};
 ghost use Rattle.machine_core.specs.World.{in_progress, suspended, stack_of, Stack as RunningStack};
 ghost use Rattle.int_core.specs.Value.{last};
@@ -94,6 +95,22 @@ impl World {
         ensures { result ≡ last self.now.chain.items }
     {
         self.chain.last().copied()
+    }
+}
+
+impl Coro {
+    ghost use Rattle.lua_heap.specs.Lending.{IsRunning, lends_stack};
+
+    /// The stack of a coroutine that runs, for writing.
+    pub fn stack_mut(&mut self) -> &mut Stack
+        requires { IsRunning self.old }
+        ensures* writes_back { sem 𝓛 (lends_stack self.entry result) }
+        ensures value { self.old ≡ Running result.now }
+    {
+        match self {
+            Coro::Running(stack) => stack,
+            _ => unreachable!(),
+        }
     }
 }
 

@@ -13,7 +13,7 @@ ghost use Rattle.machine_calls.specs.Waiting.{IsFull};
 use int_core::Allocated;
 use lua_heap::{Coro, World, law};
 use lua_stack::{GREATEST_DEPTH, Shape, Stack};
-use machine_moves::running;
+use machine_moves::{running, running_stack_mut};
 use table_core::{FuncId, Value};
 
 /// Enters a function with these arguments, and says whether there was room. Where there is none, and where memory is wanting, all is as before.
@@ -28,11 +28,7 @@ pub fn enter_function(world: &mut World, function: FuncId, arguments: &[Value]) 
     ensures err { OnErr result (world.new ≡ world.old) }
 {
     let shape = shape_of(world, function);
-    let co = running(world);
-    match world.coros.get_mut(co.0) {
-        Coro::Running(stack) => enter_stack(stack, function, shape, arguments),
-        _ => unreachable!(),
-    }
+    enter_stack(running_stack_mut(world), function, shape, arguments)
 }
 
 /// What a call needs to know of a function's code.

@@ -11,9 +11,9 @@ ghost use Rattle.machine_moves.specs.Tops.{TopIs, shape_of};
 ghost use Rattle.machine_calls.specs.Leaving.{HasClosed};
 ghost use Rattle.machine_calls.specs.Tails.{Drops};
 
-use lua_heap::{Coro, World};
+use lua_heap::World;
 use lua_stack::Top;
-use machine_moves::{running, see_top};
+use machine_moves::{running, running_stack_mut, see_top};
 use table_core::Value;
 
 /// Leaves the Lua frame on top: its cells are closed, it is popped, and its results or its error are on their way. What is on top then is told.
@@ -52,9 +52,5 @@ fn pop_closed(world: &mut World)
     ensures listed { map open_cells_in world.new.coros.objects ≡ map open_cells_in world.old.coros.objects }
     ensures rest { world.new ≡ record world.old { coros = world.new.coros } }
 {
-    let co = running(world);
-    match world.coros.get_mut(co.0) {
-        Coro::Running(stack) => stack.pop(),
-        _ => unreachable!(),
-    }
+    running_stack_mut(world).pop();
 }

@@ -7,9 +7,9 @@ ghost use Rattle.move_laws.specs.Memory.{HasFrame, InOrder};
 ghost use Rattle.machine_errors.specs.Raising.{CanLeave};
 ghost use Rattle.machine_calls.specs.Preparing.{CanChange, CanPrepare, ClosesFor, HasTop, NoneIsLeft, ReadyFor, changed, left_as, returned_as};
 
-use lua_heap::{Coro, World};
+use lua_heap::World;
 use lua_stack::{Stack, Wait};
-use machine_moves::{close_cells, code_on_top, running};
+use machine_moves::{close_cells, code_on_top, running_stack_mut};
 use table_core::Value;
 
 /// What a Lua frame does to itself before it waits.
@@ -40,11 +40,7 @@ pub fn make_ready(world: &mut World, wait: Wait, prepared: Prepared)
 {
     let stack_size = code_on_top(world).stack as usize;
     close_for(world, prepared);
-    let co = running(world);
-    match world.coros.get_mut(co.0) {
-        Coro::Running(stack) => change_top(stack, wait, prepared, stack_size),
-        _ => unreachable!(),
-    }
+    change_top(running_stack_mut(world), wait, prepared, stack_size);
 }
 
 /// Closes the cells that are to be closed.

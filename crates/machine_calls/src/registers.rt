@@ -9,9 +9,9 @@ ghost use Rattle.machine_calls.specs.Waiting.{IsFull};
 
 use crate::entering::{is_full, shape_of};
 use int_core::Allocated;
-use lua_heap::{Coro, World};
+use lua_heap::World;
 use lua_stack::Wait;
-use machine_moves::{code_on_top, running};
+use machine_moves::{code_on_top, running_stack_mut};
 use table_core::FuncId;
 
 /// Calls a Lua function for a unit of the budget, with the values of so many registers behind the one from which on the Lua frame on top gives its
@@ -64,9 +64,5 @@ fn enter_registers(
 {
     let shape = shape_of(world, function);
     let size = code_on_top(world).stack as usize;
-    let co = running(world);
-    match world.coros.get_mut(co.0) {
-        Coro::Running(stack) => stack.call(register, given, wait, size, function, shape),
-        _ => unreachable!(),
-    }
+    running_stack_mut(world).call(register, given, wait, size, function, shape)
 }

@@ -16,7 +16,7 @@ use crate::burying::bury;
 use int_core::Allocated;
 use lua_heap::{Coro, World};
 use lua_stack::{GREATEST_DEPTH, Stack};
-use machine_moves::running;
+use machine_moves::running_stack_mut;
 use std::alloc::Global;
 use table_core::{CoroId, Value};
 
@@ -93,11 +93,7 @@ fn push_closing(world: &mut World, error: Option<Value>, values: &[Value]) -> Al
     ensures rest { world.new ≡ record world.old { coros = world.new.coros } }
     ensures err { OnErr result (world.new ≡ world.old) }
 {
-    let co = running(world);
-    match world.coros.get_mut(co.0) {
-        Coro::Running(stack) => push_on(stack, error, values),
-        _ => unreachable!(),
-    }
+    push_on(running_stack_mut(world), error, values)
 }
 
 /// Puts such a frame on top of a stack that has room for one.

@@ -12,9 +12,9 @@ ghost use Rattle.move_laws.specs.Memory.{Makes};
 ghost use Rattle.machine_moves.specs.Tops.{TopIs};
 ghost use Rattle.machine_coroutines.specs.Closings.{at_end, closing_of, shape_of, values_of};
 
-use lua_heap::{Coro, World};
+use lua_heap::World;
 use lua_stack::Stack;
-use machine_moves::running;
+use machine_moves::running_stack_mut;
 use meta_ops::{Event, Heap, handler_in};
 use table_core::Value;
 
@@ -37,11 +37,7 @@ pub fn take_closing(world: &mut World) -> Closing
     ensures listed { CellsAreListed world.old → CellsAreListed world.new }
     ensures rest { world.new ≡ record world.old { coros = world.new.coros } }
 {
-    let co = running(world);
-    match world.coros.get_mut(co.0) {
-        Coro::Running(stack) => take_left(stack),
-        _ => unreachable!(),
-    }
+    take_left(running_stack_mut(world))
 }
 
 /// Replaces the error with which the frame on top is left.
@@ -52,11 +48,7 @@ pub fn set_error(world: &mut World, error: Value)
     ensures listed { CellsAreListed world.old → CellsAreListed world.new }
     ensures rest { world.new ≡ record world.old { coros = world.new.coros } }
 {
-    let co = running(world);
-    match world.coros.get_mut(co.0) {
-        Coro::Running(stack) => stack.set_error(error),
-        _ => unreachable!(),
-    }
+    running_stack_mut(world).set_error(error);
 }
 
 /// The `__close` handler of a value, or nil.

@@ -13,9 +13,9 @@ ghost use Rattle.machine_moves.specs.declared.ending.Ending.TheVariants.{Raised}
 ghost use Rattle.machine_errors.specs.Raising.{CanLeave, IsBlamed, LeavesWith};
 
 use int_core::Allocated;
-use lua_heap::{Coro, World};
+use lua_heap::World;
 use lua_stack::Wait;
-use machine_moves::{Ending, close_cells, code_on_top, give_values, running};
+use machine_moves::{Ending, close_cells, code_on_top, give_values, running_stack_mut};
 use table_core::Value;
 
 /// Raises an error of the function on top, whose frame begins to be left at once. A refusal changes nothing.
@@ -83,12 +83,7 @@ fn wait_to_leave(world: &mut World, stack_size: usize, error: Value)
     ensures listed { CellsAreListed world.old → CellsAreListed world.new }
     ensures rest { world.new ≡ record world.old { coros = world.new.coros } }
 {
-    let co = running(world);
-    match world.coros.get_mut(co.0) {
-        Coro::Running(stack) => {
-            stack.keep_pending(stack_size);
-            stack.set_wait(Wait::Leaving(error));
-        }
-        _ => unreachable!(),
-    }
+    let stack = running_stack_mut(world);
+    stack.keep_pending(stack_size);
+    stack.set_wait(Wait::Leaving(error));
 }

@@ -1,6 +1,7 @@
 pub mod Stacks
 pub mod OnTop
 pub mod InPlace
+pub mod OnRunning
 pub mod OfCode
 pub mod Settling
 pub mod NewObjects

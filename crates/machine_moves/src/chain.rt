@@ -1,5 +1,7 @@
 // The running coroutine, the last of the chain, and its stack.
+ghost use Rattle.std.specs.Borrow.{sem};
 ghost use Rattle.move_laws.specs.Memory.{HasStack};
+ghost use Rattle.machine_moves.specs.Lending.{lends_running};
 ghost use Rattle.machine_moves.specs.Moves.{RunsOn, RunsAs};
 
 use lua_heap::{Coro, World};
@@ -23,4 +25,14 @@ pub fn running_stack(world: &World) -> &Stack
         Coro::Running(stack) => stack,
         _ => unreachable!(),
     }
+}
+
+/// Its stack, for writing.
+pub fn running_stack_mut(world: &mut World) -> &mut Stack
+    requires { HasStack world.old }
+    ensures* writes_back { sem 𝓛 (lends_running world.entry result) }
+    ensures runs { RunsOn world.old result.now }
+{
+    let co = running(world);
+    world.coros.get_mut(co.0).stack_mut()
 }

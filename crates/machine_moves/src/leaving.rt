@@ -6,8 +6,8 @@ ghost use Rattle.machine_core.specs.Moves.{on_own};
 ghost use Rattle.move_laws.specs.Memory.{Makes, StaysOnTop};
 ghost use Rattle.machine_moves.specs.Moves.{CanCut, CanKeep};
 
-use crate::chain::running;
-use lua_heap::{Coro, World};
+use crate::chain::running_stack_mut;
+use lua_heap::World;
 
 /// Sets the registers from one on to nil, and leaves as many as the code has.
 pub fn cut_from(world: &mut World, register: usize, stack_size: usize)
@@ -16,11 +16,7 @@ pub fn cut_from(world: &mut World, register: usize, stack_size: usize)
     ensures makes { (env : List Meant) → Makes world.old world.new (on_own (cuts register)) env [] (is_known nil) }
     ensures stays { StaysOnTop world.old world.new }
 {
-    let co = running(world);
-    match world.coros.get_mut(co.0) {
-        Coro::Running(stack) => stack.cut_from(register, stack_size),
-        _ => unreachable!(),
-    }
+    running_stack_mut(world).cut_from(register, stack_size);
 }
 
 /// Sets the registers to nil that are not pending, and leaves as many as the code has.
@@ -29,11 +25,7 @@ pub fn keep_pending(world: &mut World, stack_size: usize)
     ensures makes { (env : List Meant) → Makes world.old world.new (on_own keeps) env [] (is_known nil) }
     ensures stays { StaysOnTop world.old world.new }
 {
-    let co = running(world);
-    match world.coros.get_mut(co.0) {
-        Coro::Running(stack) => stack.keep_pending(stack_size),
-        _ => unreachable!(),
-    }
+    running_stack_mut(world).keep_pending(stack_size);
 }
 
 /// Sets the registers to nil that are neither pending nor results, and leaves as many as the code and the results have.
@@ -42,9 +34,5 @@ pub fn keep_results(world: &mut World, from: usize, count: usize, stack_size: us
     ensures makes { (env : List Meant) → Makes world.old world.new (on_own (keeps_too from count)) env [] (is_known nil) }
     ensures stays { StaysOnTop world.old world.new }
 {
-    let co = running(world);
-    match world.coros.get_mut(co.0) {
-        Coro::Running(stack) => stack.keep_results(from, count, stack_size),
-        _ => unreachable!(),
-    }
+    running_stack_mut(world).keep_results(from, count, stack_size);
 }

@@ -18,7 +18,7 @@ mod upvalues;
 
 pub use budget::pay;
 pub use cells::{close_cells, open_register};
-pub use chain::{running, running_stack};
+pub use chain::{running, running_stack, running_stack_mut};
 pub use code::{code_on_top, function_on_top, read_constant};
 pub use ending::Ending;
 pub use leaving::{cut_from, keep_pending, keep_results};

@@ -8,12 +8,12 @@ ghost use Rattle.machine_core.specs.Moves.{on_own};
 ghost use Rattle.move_laws.specs.Memory.{CanDo, HasFrame, IsSound, Makes, StandsAt, StaysOnTop};
 ghost use Rattle.machine_moves.specs.Moves.{CanCut, IsInFront};
 
-use crate::chain::{running, running_stack};
+use crate::chain::{running_stack, running_stack_mut};
 use crate::code::code_on_top;
 use crate::registers::span;
 use code_core::Instruction;
 use int_core::Allocated;
-use lua_heap::{Coro, World};
+use lua_heap::World;
 use table_core::Value;
 
 /// The arguments beyond the parameters.
@@ -59,11 +59,7 @@ pub fn write_list(world: &mut World, at: usize, values: &[Value]) -> Allocated<(
     ensures rest { world.new ≡ record world.old { coros = world.new.coros } }
     ensures err { OnErr result (world.new ≡ world.old) }
 {
-    let co = running(world);
-    match world.coros.get_mut(co.0) {
-        Coro::Running(stack) => stack.write_list(at, values),
-        _ => unreachable!(),
-    }
+    running_stack_mut(world).write_list(at, values)
 }
 
 /// Ends an open list: as many registers are left as the code has.
@@ -72,9 +68,5 @@ pub fn end_list(world: &mut World, stack_size: usize)
     ensures makes { (env : List Meant) → Makes world.old world.new (on_own ends) env [] (is_known nil) }
     ensures stays { StaysOnTop world.old world.new }
 {
-    let co = running(world);
-    match world.coros.get_mut(co.0) {
-        Coro::Running(stack) => stack.end_list(stack_size),
-        _ => unreachable!(),
-    }
+    running_stack_mut(world).end_list(stack_size);
 }

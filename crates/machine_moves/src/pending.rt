@@ -8,9 +8,9 @@ ghost use Rattle.machine_core.specs.Moves.{on_own};
 ghost use Rattle.move_laws.specs.Memory.{CanDo, Makes, StandsAt, StaysOnTop};
 ghost use Rattle.machine_moves.specs.Moves.{CanSee, value_seen};
 
-use crate::chain::{running, running_stack};
+use crate::chain::{running_stack, running_stack_mut};
 use int_core::Allocated;
-use lua_heap::{Coro, World};
+use lua_heap::World;
 use table_core::Value;
 
 /// The value of the last pending register from one on.
@@ -34,11 +34,7 @@ pub fn mark_pending(world: &mut World, register: usize) -> Allocated<()>
     ensures rest { world.new ≡ record world.old { coros = world.new.coros } }
     ensures err { OnErr result (world.new ≡ world.old) }
 {
-    let co = running(world);
-    match world.coros.get_mut(co.0) {
-        Coro::Running(stack) => stack.mark_pending(register),
-        _ => unreachable!(),
-    }
+    running_stack_mut(world).mark_pending(register)
 }
 
 /// The last pending register from one on is no longer pending.
@@ -47,11 +43,7 @@ pub fn take_pending(world: &mut World, register: usize)
     ensures makes { (env : List Meant) → Makes world.old world.new (on_own (takes register)) env [] (is_known nil) }
     ensures stays { StaysOnTop world.old world.new }
 {
-    let co = running(world);
-    match world.coros.get_mut(co.0) {
-        Coro::Running(stack) => stack.take_pending(register),
-        _ => unreachable!(),
-    }
+    running_stack_mut(world).take_pending(register);
 }
 
 /// No register from one on is pending.
@@ -60,9 +52,5 @@ pub fn drop_pending(world: &mut World, register: usize)
     ensures makes { (env : List Meant) → Makes world.old world.new (on_own (drops register)) env [] (is_known nil) }
     ensures stays { StaysOnTop world.old world.new }
 {
-    let co = running(world);
-    match world.coros.get_mut(co.0) {
-        Coro::Running(stack) => stack.drop_pending(register),
-        _ => unreachable!(),
-    }
+    running_stack_mut(world).drop_pending(register);
 }

@@ -8,8 +8,8 @@ ghost use Rattle.machine_core.specs.Moves.{on_own};
 ghost use Rattle.move_laws.specs.Memory.{CanDo, Makes, StaysOnTop};
 ghost use Rattle.machine_moves.specs.Moves.{CanGo, Goes};
 
-use crate::chain::{running, running_stack};
-use lua_heap::{Coro, World};
+use crate::chain::{running_stack, running_stack_mut};
+use lua_heap::World;
 use table_core::Value;
 
 /// The value of a register.
@@ -46,11 +46,7 @@ pub fn write_register(world: &mut World, register: usize, v: Value)
     ensures makes { (env : List Meant) (x : Arg) → arg env x ≡ meant world.old.strings v → Makes world.old world.new (on_own (writes register x)) env [] (is_known nil) }
     ensures stays { StaysOnTop world.old world.new }
 {
-    let co = running(world);
-    match world.coros.get_mut(co.0) {
-        Coro::Running(stack) => stack.set(register, v),
-        _ => unreachable!(),
-    }
+    running_stack_mut(world).set(register, v);
 }
 
 /// Sets registers in a row to nil.
@@ -59,11 +55,7 @@ pub fn clear_registers(world: &mut World, from: usize, count: usize)
     ensures makes { (env : List Meant) → Makes world.old world.new (on_own (write_nils from count)) env [] (is_known nil) }
     ensures stays { StaysOnTop world.old world.new }
 {
-    let co = running(world);
-    match world.coros.get_mut(co.0) {
-        Coro::Running(stack) => stack.write_nils(from, count),
-        _ => unreachable!(),
-    }
+    running_stack_mut(world).write_nils(from, count);
 }
 
 /// Lets the frame go on at another place of its code.
@@ -73,9 +65,5 @@ pub fn go_to(world: &mut World, pc: usize)
     ensures listed { CellsAreListed world.old → CellsAreListed world.new }
     ensures rest { world.new ≡ record world.old { coros = world.new.coros } }
 {
-    let co = running(world);
-    match world.coros.get_mut(co.0) {
-        Coro::Running(stack) => stack.set_pc(pc),
-        _ => unreachable!(),
-    }
+    running_stack_mut(world).set_pc(pc);
 }

@@ -12,10 +12,10 @@ ghost use Rattle.machine_moves.specs.Ending.{ending_of};
 ghost use Rattle.machine_moves.specs.declared.ending.Ending.TheVariants.{Spent};
 ghost use Rattle.machine_moves.specs.Tops.{HasOther, TopIs, frame_pushed, kept_over, shape_of};
 
-use crate::chain::{running, running_stack};
+use crate::chain::{running_stack, running_stack_mut};
 use crate::ending::Ending;
 use int_core::Allocated;
-use lua_heap::{Coro, World};
+use lua_heap::World;
 use lua_stack::{GREATEST_DEPTH, Stack, Top};
 use table_core::Value;
 
@@ -69,11 +69,7 @@ pub fn pop_frame(world: &mut World)
     ensures listed { CellsAreListed world.old → CellsAreListed world.new }
     ensures rest { world.new ≡ record world.old { coros = world.new.coros } }
 {
-    let co = running(world);
-    match world.coros.get_mut(co.0) {
-        Coro::Running(stack) => stack.pop(),
-        _ => unreachable!(),
-    }
+    running_stack_mut(world).pop();
 }
 
 /// Puts a frame on top, over which a value is to be called, and says whether there was room. Where there is none, and where memory is wanting, all
@@ -85,11 +81,7 @@ pub fn push_frame(world: &mut World, over: Over) -> Allocated<bool>
     ensures listed { CellsAreListed world.old → CellsAreListed world.new }
     ensures rest { world.new ≡ record world.old { coros = world.new.coros } }
 {
-    let co = running(world);
-    match world.coros.get_mut(co.0) {
-        Coro::Running(stack) => push_over(stack, over),
-        _ => unreachable!(),
-    }
+    push_over(running_stack_mut(world), over)
 }
 
 /// Puts a frame on top of a stack that has room for one.

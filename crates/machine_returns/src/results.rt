@@ -14,9 +14,9 @@ ghost use Rattle.machine_returns.specs.Results.{MayTake, writing};
 ghost use Rattle.machine_calls.specs.Preparing.{HasTop};
 
 use int_core::Allocated;
-use lua_heap::{Coro, World};
+use lua_heap::World;
 use lua_stack::Stack;
-use machine_moves::{Ending, go_to, running, write_list};
+use machine_moves::{Ending, go_to, running_stack_mut, write_list};
 use table_core::Value;
 
 /// Values go to so many registers from one on, at the place `pc`: to one fewer than `count`, or for 0 all of them as an open list. The frame goes on
@@ -69,11 +69,7 @@ pub fn write_registers(world: &mut World, at: usize, count: usize, values: &[Val
     if count == 0 {
         return;
     }
-    let co = running(world);
-    match world.coros.get_mut(co.0) {
-        Coro::Running(stack) => write_padded(stack, at, count, values),
-        _ => unreachable!(),
-    }
+    write_padded(running_stack_mut(world), at, count, values);
 }
 
 /// Writes values to so many registers of the frame on top, from one on.

@@ -5,9 +5,9 @@ ghost use Rattle.lua_heap.specs.declared.world.World.{World as Memory};
 ghost use Rattle.move_laws.specs.Memory.{HasFrame, IsSound, ReadsSame, StandsAt, StaysOnTop};
 ghost use Rattle.machine_returns.specs.Waking.{HasWait, IsSolid, Wakes, WaitsSo};
 
-use lua_heap::{Coro, World};
+use lua_heap::World;
 use lua_stack::Wait;
-use machine_moves::{running, running_stack, take_moving};
+use machine_moves::{running_stack, running_stack_mut, take_moving};
 use table_core::Value;
 
 /// The Lua frame on top runs again. Told is for what it waited, and the values that came.
@@ -49,9 +49,5 @@ pub fn set_wait(world: &mut World, wait: Wait)
     ensures waits { WaitsSo world.old world.new wait }
     ensures stays { StaysOnTop world.old world.new }
 {
-    let co = running(world);
-    match world.coros.get_mut(co.0) {
-        Coro::Running(stack) => stack.set_wait(wait),
-        _ => unreachable!(),
-    }
+    running_stack_mut(world).set_wait(wait);
 }

@@ -1,11 +1,10 @@
-use Rattle.std.proofs.Common.{◌≤◌, length, refl, ap, sym, subst, ◌∙◌}
+use Rattle.std.proofs.Common.{◌≤◌, length, ap, sym, subst, ◌∙◌}
 use Rattle.machine_core.specs.World.{Place}
 use Rattle.machine_sound.proofs.Lists.{some_is}
 use Rattle.lua_heap.specs.declared.world.World.{World as Memory}
 use Rattle.move_laws.proofs.Running.{has_stack}
 use Rattle.move_laws.proofs.Order.{order_after}
-use Rattle.machine_moves.proofs.Stacks.{within}
-use Rattle.machine_moves.proofs.InPlace.{found, listed_in_place}
+use Rattle.machine_moves.proofs.OnRunning.{changes_on, listed_on}
 use Rattle.machine_calls.proofs.Readied.{can_change, shut_place, ready_so, whole_so}
 use Rattle.machine_calls.proofs.preparing.make_ready.Goals as goal
 
@@ -15,39 +14,36 @@ code_on_top-requires-clause-frame c = let h = c.requires.ready in record { place
 pub close_for-requires-clause-frame : goal.close_for-requires-clause-frame
 close_for-requires-clause-frame c = let h = c.requires.ready in record { place = h.place; is = h.is }
 
-pub running-co-requires : goal.running-co-requires
-running-co-requires c = let h = c.requires.ready in has_stack c.close_for.new.world h.place (shut_place h.place h.is c.close_for.ensures.closes)
-
-pub get_mut-requires : goal.get_mut-requires
-get_mut-requires c = within c.running-co.ensures
+pub running_stack_mut-requires : goal.running_stack_mut-requires
+running_stack_mut-requires c = let h = c.requires.ready in has_stack c.close_for.new.world h.place (shut_place h.place h.is c.close_for.ensures.closes)
 
 pub change_top-requires : goal.change_top-requires
 change_top-requires c =
     let h = c.requires.ready in
     let code = c.code_on_top.ensures in
-    let r = found c.running-co.ensures c.get_mut.ensures.value c.in-Running.is in
+    let r = c.running_stack_mut.ensures.runs.runs in
     let size = code.says.stack ∙ ap (λ (p : Place). p.function.code.own.stack) (some_is code.is h.is) in
-    can_change c.args.world.now c.close_for.new.world c.running-co.result c.in-Running.stack h.place c.args.prepared _ r (shut_place h.place h.is c.close_for.ensures.closes) size (subst (λ n. n ≤ length h.place.top.own.registers) (sym size) h.room) h.there c.close_for.ensures.none
+    can_change c.args.world.now c.close_for.new.world c.running_stack_mut.ensures.runs.co c.running_stack_mut.result.now h.place c.args.prepared _ r (shut_place h.place h.is c.close_for.ensures.closes) size (subst (λ n. n ≤ length h.place.top.own.registers) (sym size) h.room) h.there c.close_for.ensures.none
 
 pub returns-clause-ready : goal.returns-clause-ready
 returns-clause-ready c =
     let h = c.requires.ready in
     let code = c.code_on_top.ensures in
-    let r = found c.running-co.ensures c.get_mut.ensures.value c.in-Running.is in
+    let r = c.running_stack_mut.ensures.runs.runs in
     let size = code.says.stack ∙ ap (λ (p : Place). p.function.code.own.stack) (some_is code.is h.is) in
-    ready_so c.args.world.now c.close_for.new.world _ c.running-co.result c.in-Running.stack c.change_top.new.stack c.args.wait c.args.prepared _ h.place r h.is c.close_for.ensures.closes
-    (record { rest = refl; objects = refl }) c.change_top.ensures size (ap (λ (W : Memory). W.strings) c.close_for.ensures.rest)
+    ready_so c.args.world.now c.close_for.new.world _ c.running_stack_mut.ensures.runs.co c.running_stack_mut.result.now c.change_top.new.stack c.args.wait c.args.prepared _ h.place r h.is c.close_for.ensures.closes
+    (changes_on c.running_stack_mut.ensures.runs c.change_top.new.stack) c.change_top.ensures size (ap (λ (W : Memory). W.strings) c.close_for.ensures.rest)
 
 pub returns-clause-whole : goal.returns-clause-whole
 returns-clause-whole c =
     let h = c.requires.ready in
     let code = c.code_on_top.ensures in
-    let r = found c.running-co.ensures c.get_mut.ensures.value c.in-Running.is in
+    let r = c.running_stack_mut.ensures.runs.runs in
     let size = code.says.stack ∙ ap (λ (p : Place). p.function.code.own.stack) (some_is code.is h.is) in
-    whole_so c.args.world.now c.close_for.new.world _ c.running-co.result c.in-Running.stack c.change_top.new.stack c.args.wait c.args.prepared _ h.place r h.is c.close_for.ensures.closes
-    (record { rest = refl; objects = refl }) c.change_top.ensures size (ap (λ (W : Memory). W.strings) c.close_for.ensures.rest) h
+    whole_so c.args.world.now c.close_for.new.world _ c.running_stack_mut.ensures.runs.co c.running_stack_mut.result.now c.change_top.new.stack c.args.wait c.args.prepared _ h.place r h.is c.close_for.ensures.closes
+    (changes_on c.running_stack_mut.ensures.runs c.change_top.new.stack) c.change_top.ensures size (ap (λ (W : Memory). W.strings) c.close_for.ensures.rest) h
 
 pub returns-clause-order : goal.returns-clause-order
 returns-clause-order c =
     order_after c.requires.order (ap (λ (W : Memory). W.strings) c.close_for.ensures.rest) (ap (λ (W : Memory). W.codes) c.close_for.ensures.rest)
-    (listed_in_place c.running-co.ensures c.get_mut.ensures.value c.in-Running.is c.change_top.new.stack c.change_top.ensures.cells c.close_for.ensures.listed)
+    (listed_on c.running_stack_mut.ensures.runs c.change_top.new.stack c.change_top.ensures.cells c.close_for.ensures.listed)

@@ -3,25 +3,21 @@ use Rattle.std.specs.Prelude.{take}
 use Rattle.machine_core.specs.Text.{end_list}
 use Rattle.lua_stack.specs.Frames.{with_opened, with_registers}
 use Rattle.move_laws.proofs.Running.{has_stack}
-use Rattle.machine_moves.proofs.Stacks.{within}
-use Rattle.machine_moves.proofs.InPlace.{registers_found, own_in_place, stays_in_place}
+use Rattle.machine_moves.proofs.OnRunning.{own_on, registers_on, stays_on}
 use Rattle.machine_moves.proofs.lists.end_list.Goals as goal
 
-pub running-co-requires : goal.running-co-requires
-running-co-requires c = has_stack c.args.world.now c.requires.place c.requires.is
-
-pub get_mut-requires : goal.get_mut-requires
-get_mut-requires c = within c.running-co.ensures
+pub running_stack_mut-requires : goal.running_stack_mut-requires
+running_stack_mut-requires c = has_stack c.args.world.now c.requires.place c.requires.is
 
 pub end_list-requires-clause-there : goal.end_list-requires-clause-there
-end_list-requires-clause-there c = registers_found c.running-co.ensures c.get_mut.ensures.value c.in-Running.is c.requires.place c.args.stack_size c.requires.is c.requires.room
+end_list-requires-clause-there c = registers_on c.running_stack_mut.ensures.runs c.requires.place c.args.stack_size c.requires.is c.requires.room
 
 pub returns-clause-makes : goal.returns-clause-makes
 returns-clause-makes c = λ env.
     let p = c.requires.place in
-    own_in_place c.running-co.ensures c.get_mut.ensures.value c.in-Running.is c.end_list.new.self p (λ f t. with_opened 0 (with_registers (take c.args.stack_size t.own.registers) t)) end_list env
+    own_on c.running_stack_mut.ensures.runs c.end_list.new.self p (λ f t. with_opened 0 (with_registers (take c.args.stack_size t.own.registers) t)) end_list env
     c.requires.is refl c.end_list.ensures (λ co frame cells. refl) (ap (λ n. with_opened 0 (with_registers (take n p.top.own.registers) p.top)) (sym c.requires.size))
 
 pub returns-clause-stays : goal.returns-clause-stays
 returns-clause-stays c =
-    stays_in_place c.running-co.ensures c.get_mut.ensures.value c.in-Running.is c.end_list.new.self (λ f t. with_opened 0 (with_registers (take c.args.stack_size t.own.registers) t)) c.end_list.ensures (λ u. refl) (λ u. refl)
+    stays_on c.running_stack_mut.ensures.runs c.end_list.new.self (λ f t. with_opened 0 (with_registers (take c.args.stack_size t.own.registers) t)) c.end_list.ensures (λ u. refl) (λ u. refl)

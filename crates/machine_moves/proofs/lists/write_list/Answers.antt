@@ -8,18 +8,15 @@ use Rattle.machine_core.specs.Text.{write_list}
 use Rattle.lua_stack.specs.Frames.{with_opened, with_registers}
 use Rattle.move_laws.proofs.Running.{has_stack}
 use Rattle.machine_moves.proofs.OnTop.{on_ok, on_err}
-use Rattle.machine_moves.proofs.Stacks.{less, within}
-use Rattle.machine_moves.proofs.InPlace.{registers_found, own_in_place, stands_in_place, listed_in_place, kept_in_place}
+use Rattle.machine_moves.proofs.Stacks.{less}
+use Rattle.machine_moves.proofs.OnRunning.{kept_on, listed_on, own_on, registers_on, stands_on}
 use Rattle.machine_moves.proofs.lists.write_list.Goals as goal
 
-pub running-co-requires : goal.running-co-requires
-running-co-requires c = has_stack c.args.world.now c.requires.place c.requires.is
-
-pub get_mut-requires : goal.get_mut-requires
-get_mut-requires c = within c.running-co.ensures
+pub running_stack_mut-requires : goal.running_stack_mut-requires
+running_stack_mut-requires c = has_stack c.args.world.now c.requires.place c.requires.is
 
 pub write_list-requires : goal.write_list-requires
-write_list-requires c = registers_found c.running-co.ensures c.get_mut.ensures.value c.in-Running.is c.requires.place _ c.requires.is (less _ _ c.requires.fits)
+write_list-requires c = registers_on c.running_stack_mut.ensures.runs c.requires.place _ c.requires.is (less _ _ c.requires.fits)
 
 abbrev list_put : ℕ → LuaFrame → ℕ → List Meant → LuaFrame
 list_put at t count values = with_opened count (with_registers (write_all at values t.own.registers) t)
@@ -28,16 +25,16 @@ pub returns-clause-makes : goal.returns-clause-makes
 returns-clause-makes c =
     let p = c.requires.place in
     on_ok c.write_list.result c.write_list.ensures.ok (λ becomes env slot e.
-    own_in_place c.running-co.ensures c.get_mut.ensures.value c.in-Running.is c.write_list.new.self p (λ f t. with_opened (length c.args.values.now) (with_registers (write_all c.args.at (map f c.args.values.now) t.own.registers) t)) (write_list c.args.at slot) env
+    own_on c.running_stack_mut.ensures.runs c.write_list.new.self p (λ f t. with_opened (length c.args.values.now) (with_registers (write_all c.args.at (map f c.args.values.now) t.own.registers) t)) (write_list c.args.at slot) env
     c.requires.is c.requires.fits becomes (λ co frame cells. refl)
     (ap (λ vs. list_put c.args.at p.top (length vs) vs) e ∙ ap (λ n. list_put c.args.at p.top n (map (meant c.args.world.now.strings) c.args.values.now)) (length-map c.args.values.now (meant c.args.world.now.strings))))
 
 pub returns-clause-at : goal.returns-clause-at
 returns-clause-at c =
-    on_ok c.write_list.result c.write_list.ensures.ok (λ becomes. stands_in_place c.running-co.ensures c.get_mut.ensures.value c.in-Running.is c.write_list.new.self (λ f t. with_opened (length c.args.values.now) (with_registers (write_all c.args.at (map f c.args.values.now) t.own.registers) t)) becomes (λ u. refl) (λ u. refl))
+    on_ok c.write_list.result c.write_list.ensures.ok (λ becomes. stands_on c.running_stack_mut.ensures.runs c.write_list.new.self (λ f t. with_opened (length c.args.values.now) (with_registers (write_all c.args.at (map f c.args.values.now) t.own.registers) t)) becomes (λ u. refl) (λ u. refl))
 
 pub returns-clause-err : goal.returns-clause-err
-returns-clause-err c = on_err c.write_list.result c.write_list.ensures.err (λ e. kept_in_place c.running-co.ensures c.get_mut.ensures.value c.in-Running.is c.write_list.new.self e)
+returns-clause-err c = on_err c.write_list.result c.write_list.ensures.err (λ e. kept_on c.running_stack_mut.ensures.runs c.write_list.new.self e)
 
 pub returns-clause-listed : goal.returns-clause-listed
-returns-clause-listed c = on_ok c.write_list.result c.write_list.ensures.ok (λ becomes. listed_in_place c.running-co.ensures c.get_mut.ensures.value c.in-Running.is c.write_list.new.self becomes.cells)
+returns-clause-listed c = on_ok c.write_list.result c.write_list.ensures.ok (λ becomes. listed_on c.running_stack_mut.ensures.runs c.write_list.new.self becomes.cells)

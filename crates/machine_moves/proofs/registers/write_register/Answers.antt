@@ -3,25 +3,22 @@ use Rattle.int_core.specs.Value.{Value as Meant, write}
 use Rattle.machine_core.specs.Text.{write_register as writes}
 use Rattle.lua_stack.specs.Frames.{with_registers}
 use Rattle.move_laws.proofs.Running.{has_stack}
-use Rattle.machine_moves.proofs.Stacks.{within, less}
-use Rattle.machine_moves.proofs.InPlace.{registers_found, own_in_place, stays_in_place}
+use Rattle.machine_moves.proofs.Stacks.{less}
+use Rattle.machine_moves.proofs.OnRunning.{own_on, registers_on, stays_on}
 use Rattle.machine_moves.proofs.registers.write_register.Goals as goal
 
-pub running-co-requires : goal.running-co-requires
-running-co-requires c = has_stack c.args.world.now c.requires.place c.requires.is
-
-pub get_mut-requires : goal.get_mut-requires
-get_mut-requires c = within c.running-co.ensures
+pub running_stack_mut-requires : goal.running_stack_mut-requires
+running_stack_mut-requires c = has_stack c.args.world.now c.requires.place c.requires.is
 
 pub set-requires : goal.set-requires
-set-requires c = registers_found c.running-co.ensures c.get_mut.ensures.value c.in-Running.is c.requires.place _ c.requires.is (less _ _ c.requires.fits)
+set-requires c = registers_on c.running_stack_mut.ensures.runs c.requires.place _ c.requires.is (less _ _ c.requires.fits)
 
 pub returns-clause-makes : goal.returns-clause-makes
 returns-clause-makes c =
     let p = c.requires.place in
-    λ env x e. own_in_place c.running-co.ensures c.get_mut.ensures.value c.in-Running.is c.set.new.self p (λ f t. with_registers (write c.args.register (f c.args.v) t.own.registers) t) (writes c.args.register x) env
+    λ env x e. own_on c.running_stack_mut.ensures.runs c.set.new.self p (λ f t. with_registers (write c.args.register (f c.args.v) t.own.registers) t) (writes c.args.register x) env
     c.requires.is c.requires.fits c.set.ensures (λ co frame cells. refl)
     (ap (λ (u : Meant). with_registers (write c.args.register u p.top.own.registers) p.top) e)
 
 pub returns-clause-stays : goal.returns-clause-stays
-returns-clause-stays c = stays_in_place c.running-co.ensures c.get_mut.ensures.value c.in-Running.is c.set.new.self (λ f t. with_registers (write c.args.register (f c.args.v) t.own.registers) t) c.set.ensures (λ u. refl) (λ u. refl)
+returns-clause-stays c = stays_on c.running_stack_mut.ensures.runs c.set.new.self (λ f t. with_registers (write c.args.register (f c.args.v) t.own.registers) t) c.set.ensures (λ u. refl) (λ u. refl)

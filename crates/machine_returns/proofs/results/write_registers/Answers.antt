@@ -6,8 +6,8 @@ use Rattle.lua_heap.specs.Reading.{value as meant}
 use Rattle.lua_stack.specs.Frames.{with_registers}
 use Rattle.machine_core.specs.Text.{behind, write_registers}
 use Rattle.move_laws.proofs.Running.{has_stack, shown, own_read}
-use Rattle.machine_moves.proofs.Stacks.{within, at_most}
-use Rattle.machine_moves.proofs.InPlace.{found, own_in_place, stays_in_place}
+use Rattle.machine_moves.proofs.Stacks.{at_most}
+use Rattle.machine_moves.proofs.OnRunning.{own_on, stays_on}
 use Rattle.machine_returns.proofs.Padded.{range_from}
 use Rattle.machine_returns.proofs.results.write_registers.Goals as goal
 
@@ -30,17 +30,14 @@ returns-then-count-eq0-clause-makes c = λ env slot e.
 pub returns-then-count-eq0-clause-stays : goal.returns-then-count-eq0-clause-stays
 returns-then-count-eq0-clause-stays c = record { at = λ pc s. s; listed = λ l. l; rest = refl }
 
-pub running-co-requires : goal.running-co-requires
-running-co-requires c = has_stack c.args.world.now c.requires.place c.requires.is
-
-pub get_mut-requires : goal.get_mut-requires
-get_mut-requires c = within c.running-co.ensures
+pub running_stack_mut-requires : goal.running_stack_mut-requires
+running_stack_mut-requires c = has_stack c.args.world.now c.requires.place c.requires.is
 
 pub write_padded-requires : goal.write_padded-requires
 write_padded-requires c =
-    let r = found c.running-co.ensures c.get_mut.ensures.value c.in-Running.is in
+    let r = c.running_stack_mut.ensures.runs.runs in
     let p = c.requires.place in
-    let h = shown c.args.world.now c.running-co.result c.in-Running.stack p r c.requires.is in
+    let h = shown c.args.world.now c.running_stack_mut.ensures.runs.co c.running_stack_mut.result.now p r c.requires.is in
     record {
       value = meant c.args.world.now.strings;
       nil_is = refl;
@@ -53,10 +50,10 @@ write_padded-requires c =
 pub returns-clause-makes : goal.returns-clause-makes
 returns-clause-makes c = λ env slot e.
     let p = c.requires.place in
-    own_in_place c.running-co.ensures c.get_mut.ensures.value c.in-Running.is c.write_padded.new.stack p (λ f t. with_registers (write_all c.args.at (range 0 c.args.count (map f c.args.values.now)) t.own.registers) t) (write_registers c.args.at c.args.count slot) env
+    own_on c.running_stack_mut.ensures.runs c.write_padded.new.stack p (λ f t. with_registers (write_all c.args.at (range 0 c.args.count (map f c.args.values.now)) t.own.registers) t) (write_registers c.args.at c.args.count slot) env
     c.requires.is c.requires.fits c.write_padded.ensures (λ co frame cells. refl)
     (ap (λ vs. with_registers (write_all c.args.at vs p.top.own.registers) p.top) (range_from slot c.args.count env ∙ ap (range 0 c.args.count) e))
 
 pub returns-clause-stays : goal.returns-clause-stays
 returns-clause-stays c =
-    stays_in_place c.running-co.ensures c.get_mut.ensures.value c.in-Running.is c.write_padded.new.stack (λ f t. with_registers (write_all c.args.at (range 0 c.args.count (map f c.args.values.now)) t.own.registers) t) c.write_padded.ensures (λ u. refl) (λ u. refl)
+    stays_on c.running_stack_mut.ensures.runs c.write_padded.new.stack (λ f t. with_registers (write_all c.args.at (range 0 c.args.count (map f c.args.values.now)) t.own.registers) t) c.write_padded.ensures (λ u. refl) (λ u. refl)
