@@ -2,7 +2,7 @@
 ghost use Rattle.std.specs.Prelude.{◌≡◌};
 ghost use Rattle.eris_write.specs.Refusals.{kind_of};
 
-use std::alloc::{AllocError, AllocFailed};
+use std::alloc::AllocError;
 use thiserror::Error;
 
 /// What an image cannot hold (Eris's manual, `eris.persist`).
@@ -52,16 +52,6 @@ impl From<AllocError> for PersistFault {
     ghost from_gives = { λ _ fault. fault ≡ Memory };
 
     fn from(_: AllocError) -> PersistFault {
-        PersistFault::Memory
-    }
-}
-
-impl<T: Drop> From<AllocFailed<T>> for PersistFault {
-    ghost use Rattle.eris_write.specs.declared.fault.PersistFault.TheVariants.{Memory};
-
-    ghost from_gives = { λ _ fault. fault ≡ Memory };
-
-    fn from(_: AllocFailed<T>) -> PersistFault {
         PersistFault::Memory
     }
 }

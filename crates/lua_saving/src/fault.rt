@@ -1,7 +1,7 @@
 // Why a session is not saved.
 ghost use Rattle.std.specs.Prelude.{◌≡◌};
 
-use std::alloc::{AllocError, AllocFailed};
+use std::alloc::AllocError;
 use thiserror::Error;
 
 /// Why a session is not saved.
@@ -24,16 +24,6 @@ impl From<AllocError> for SaveFault {
     ghost from_gives = { λ _ made. made ≡ Memory };
 
     fn from(_: AllocError) -> SaveFault {
-        SaveFault::Memory
-    }
-}
-
-impl<T: Drop> From<AllocFailed<T>> for SaveFault {
-    ghost use Rattle.lua_saving.specs.declared.fault.SaveFault.TheVariants.{Memory};
-
-    ghost from_gives = { λ _ made. made ≡ Memory };
-
-    fn from(_: AllocFailed<T>) -> SaveFault {
         SaveFault::Memory
     }
 }

@@ -1,7 +1,7 @@
 // Why a text is not made.
 ghost use Rattle.std.specs.Prelude.{◌≡◌};
 
-use std::alloc::{AllocError, AllocFailed};
+use std::alloc::AllocError;
 use thiserror::Error;
 
 /// Why a text is not made.
@@ -21,16 +21,6 @@ impl From<AllocError> for StringFault {
     ghost from_gives = { λ _ made. made ≡ Memory };
 
     fn from(_: AllocError) -> StringFault {
-        StringFault::Memory
-    }
-}
-
-impl<T: Drop> From<AllocFailed<T>> for StringFault {
-    ghost use Rattle.text_functions.specs.declared.fault.StringFault.TheVariants.{Memory};
-
-    ghost from_gives = { λ _ made. made ≡ Memory };
-
-    fn from(_: AllocFailed<T>) -> StringFault {
         StringFault::Memory
     }
 }
