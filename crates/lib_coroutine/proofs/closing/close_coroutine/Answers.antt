@@ -21,21 +21,18 @@ returns-in-Entered-clause-leads c =
 
 pub returns-in-NoRoom-clause-leads : goal.returns-in-NoRoom-clause-leads
 returns-in-NoRoom-clause-leads c =
-    let same : c.begin_closing.new.world ≡ c.args.world.now = c.in_ok-begin_closing.ensures.same (λ e. let bad : NoRoom ≡ Entered = sym c.in-NoRoom.is ∙ e in cc) in
     IfOk-weaker c.blame.result _ _
-    (λ ending l. closes_not c.requires.first c.in_ok-begin_closing.ensures.makes stack_overflow (λ E W. ap (λ b. run (after_closing (told_of b)) E W) c.in-NoRoom.is) (λ fuel. ap (λ (M : Memory). plain M fuel) same) l)
+    (λ ending l. closes_not c.requires.first c.in_ok-begin_closing.ensures.makes stack_overflow (λ E W. ap (λ b. run (after_closing (told_of b)) E W) c.in-NoRoom.is) (λ fuel. ap (λ (M : Memory). plain M fuel) (c.in_ok-begin_closing.ensures.same (λ e. let bad : NoRoom ≡ Entered = sym c.in-NoRoom.is ∙ e in cc))) l)
     c.blame.ensures.leads
 
 pub returns-in-Running-clause-leads : goal.returns-in-Running-clause-leads
 returns-in-Running-clause-leads c =
-    let same : c.begin_closing.new.world ≡ c.args.world.now = c.in_ok-begin_closing.ensures.same (λ e. let bad : Running ≡ Entered = sym c.in-Running.is ∙ e in cc) in
     IfOk-weaker c.blame-in-Running.result _ _
-    (λ ending l. closes_not c.requires.first c.in_ok-begin_closing.ensures.makes (codes "cannot close a running coroutine") (λ E W. ap (λ b. run (after_closing (told_of b)) E W) c.in-Running.is) (λ fuel. ap (λ (M : Memory). plain M fuel) same) l)
+    (λ ending l. closes_not c.requires.first c.in_ok-begin_closing.ensures.makes (codes "cannot close a running coroutine") (λ E W. ap (λ b. run (after_closing (told_of b)) E W) c.in-Running.is) (λ fuel. ap (λ (M : Memory). plain M fuel) (c.in_ok-begin_closing.ensures.same (λ e. let bad : Running ≡ Entered = sym c.in-Running.is ∙ e in cc))) l)
     c.blame-in-Running.ensures.leads
 
 pub returns-in-Normal-clause-leads : goal.returns-in-Normal-clause-leads
 returns-in-Normal-clause-leads c =
-    let same : c.begin_closing.new.world ≡ c.args.world.now = c.in_ok-begin_closing.ensures.same (λ e. let bad : Normal ≡ Entered = sym c.in-Normal.is ∙ e in cc) in
     IfOk-weaker c.blame-in-Normal.result _ _
-    (λ ending l. closes_not c.requires.first c.in_ok-begin_closing.ensures.makes (codes "cannot close a normal coroutine") (λ E W. ap (λ b. run (after_closing (told_of b)) E W) c.in-Normal.is) (λ fuel. ap (λ (M : Memory). plain M fuel) same) l)
+    (λ ending l. closes_not c.requires.first c.in_ok-begin_closing.ensures.makes (codes "cannot close a normal coroutine") (λ E W. ap (λ b. run (after_closing (told_of b)) E W) c.in-Normal.is) (λ fuel. ap (λ (M : Memory). plain M fuel) (c.in_ok-begin_closing.ensures.same (λ e. let bad : Normal ≡ Entered = sym c.in-Normal.is ∙ e in cc))) l)
     c.blame-in-Normal.ensures.leads

@@ -19,7 +19,6 @@ hand_over-requires c = running_on c.give_values.ensures.rest (interned_runs c.re
 
 pub returns-clause-leads : goal.returns-clause-leads
 returns-clause-leads c =
-    let W = c.args.world.now in
     let M = c.intern.new.self in
     let t = status_in c.see_status.result in
     let word = c.in_ok-word.word in
