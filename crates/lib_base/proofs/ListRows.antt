@@ -2,7 +2,7 @@
 use Rattle.std.proofs.Common.{◌≡◌, ℕ, zero, suc, ◌+◌, List, [], ◌∷◌, ◌++◌, map, length, Err, true, false, refl, ap, sym, ◌∙◌, arith}
 use Rattle.std.specs.Prelude.{pos, codes}
 use Rattle.int_core.specs.Heap.{Heap, raw_get}
-use Rattle.int_core.specs.Value.{Value, known, integer, shape, nth, object, a_table}
+use Rattle.int_core.specs.Value.{Value, Shape, known, integer, shape, nth, object, a_table}
 use Rattle.library_rows.specs.Arguments.{integer_argument, is_table, with_look, wrong_type}
 use Rattle.library_rows.specs.Base.{newest, reads, spreads, with_number}
 use Rattle.library_rows.specs.Look.{read, args_of, no_word, or_nil, Look, gives, refuses, does, done, refused, looked, look, read_field}
@@ -82,6 +82,10 @@ spread_is vs H id many e c = with_count (codes "spread") (λ many. reads many 1 
 module _ (W : Memory) (id : TableId) where
   pub item_read : (i : ℕ) (v : Kept) → Operates read_field W (Table id ∷ Int (pos i) ∷ []) W (v ∷ []) no_word → item (heap_of W) (object a_table id.0) i ≡ value W.strings v
   item_read i v o = ap (λ s. nth s.values 0) o.does
+
+  -- and its shape is that of what was read
+  pub item_shape : (i : ℕ) (v : Kept) (s : Shape) → Operates read_field W (Table id ∷ Int (pos i) ∷ []) W (v ∷ []) no_word → s ≡ shape (value W.strings v) → shape (item (heap_of W) (object a_table id.0) i) ≡ s
+  item_shape i v s o is = ap shape (item_read i v o) ∙ sym is
 
   pub next_item : (i : ℕ) (vs : List Kept) (v : Kept) → map (value W.strings) vs ≡ items_from (heap_of W) (object a_table id.0) i 1 → Operates read_field W (Table id ∷ Int (pos (i + 1)) ∷ []) W (v ∷ []) no_word →
       map (value W.strings) (vs ++ v ∷ []) ≡ items_from (heap_of W) (object a_table id.0) (i + 1) 1

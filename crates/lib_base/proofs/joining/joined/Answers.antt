@@ -1,17 +1,15 @@
-use Rattle.std.proofs.Common.{rules, ◌≡◌, ◌+◌, [], ◌∷◌, ap, sym, ◌∙◌, subst, map, Ok, Err, length}
-use Rattle.std.specs.Prelude.{codes, pos}
+use Rattle.std.proofs.Common.{rules, ◌≡◌, ◌+◌, ap, sym, ◌∙◌, subst, map, Ok, Err, length}
+use Rattle.std.specs.Prelude.{codes}
 use Rattle.int_core.specs.Value.{a_table, greatest_string, object, shape}
 use Rattle.library_arguments.specs.Refusals.{refusal_text}
 use Rattle.library_arguments.specs.Shapes.{shape_of}
 use Rattle.library_arguments.specs.declared.refusal.Fault.TheVariants.{Refused}
 use Rattle.library_rows.specs.Arguments.{text_argument}
 use Rattle.library_rows.specs.Base.{joined_text}
-use Rattle.library_rows.specs.Look.{no_word, read_field}
-use Rattle.table_core.specs.declared.value.Value.TheVariants.{Int, Table}
-use Rattle.lib_base.specs.Lists.{IsText, item, items_from}
-use Rattle.lib_base.specs.Raw.{heap_of, Operates}
+use Rattle.lib_base.specs.Lists.{IsText, items_from}
+use Rattle.lib_base.specs.Raw.{heap_of}
 use Rattle.lib_base.proofs.JoinRows.{IsJoined, no_room, not_pushed, not_read, piece_added}
-use Rattle.lib_base.proofs.ListRows.{item_read}
+use Rattle.lib_base.proofs.ListRows.{item_shape}
 use Rattle.lib_base.proofs.Seen.{read_there}
 use Rattle.lib_base.proofs.joining.joined.Goals as goal
 
@@ -22,8 +20,7 @@ pub returns-in_err-piece : goal.returns-in_err-piece
 returns-in_err-piece c =
     let W = c.args.world.now in
     let t = object a_table c.args.id.0 in
-    let o : Operates read_field W (Table c.args.id ∷ Int (pos (c.loop-i.i + 1)) ∷ []) W (c.read_field-item.result ∷ []) no_word = search rules in
-    let s : shape (item (heap_of W) t (c.loop-i.i + 1)) ≡ shape_of c.shape.result = ap shape (item_read W c.args.id (c.loop-i.i + 1) c.read_field-item.result o) ∙ sym c.shape.ensures in
+    let s = item_shape W c.args.id (c.loop-i.i + 1) c.read_field-item.result (shape_of c.shape.result) (search rules) c.shape.ensures in
     let why = refusal_text c.in_err-piece.field-0.0 in
     let e : text_argument (codes "join") 1 (shape_of c.shape.result) ≡ Err why = search rules in
     let r : c.from_residual.result ≡ Err (Refused c.in_err-piece.field-0.0) = search rules in
@@ -33,19 +30,16 @@ returns-in_err-piece c =
 pub returns-in-Err : goal.returns-in-Err
 returns-in-Err c =
     let W = c.args.world.now in
-    let t = object a_table c.args.id.0 in
-    let o : Operates read_field W (Table c.args.id ∷ Int (pos (c.loop-i.i + 1)) ∷ []) W (c.read_field-item.result ∷ []) no_word = search rules in
-    let s : shape (item (heap_of W) t (c.loop-i.i + 1)) ≡ shape_of c.shape.result = ap shape (item_read W c.args.id (c.loop-i.i + 1) c.read_field-item.result o) ∙ sym c.shape.ensures in
+    let s = item_shape W c.args.id (c.loop-i.i + 1) c.read_field-item.result (shape_of c.shape.result) (search rules) c.shape.ensures in
     let e : text_argument (codes "join") 1 (shape_of c.shape.result) ≡ Ok c.as_slice.result.now = search rules in
     not_pushed c.in-Err.why c.fault_of.result (length c.loop-i.text + length c.as_slice.result.now) _ c.fault_of.ensures c.in-Err.ensures.refused
-    (no_room (heap_of W) t c.args.many c.loop-i.i c.loop-i.text c.loop-i.invariant (search rules) c.as_slice.result.now (ap (text_argument (codes "join") 1) s ∙ e))
+    (no_room (heap_of W) (object a_table c.args.id.0) c.args.many c.loop-i.i c.loop-i.text c.loop-i.invariant (search rules) c.as_slice.result.now (ap (text_argument (codes "join") 1) s ∙ e))
 
 pub loop-i-preserved : goal.loop-i-preserved
 loop-i-preserved c =
     let W = c.args.world.now in
     let t = object a_table c.args.id.0 in
-    let o : Operates read_field W (Table c.args.id ∷ Int (pos (c.loop-i.i + 1)) ∷ []) W (c.read_field-item.result ∷ []) no_word = search rules in
-    let s : shape (item (heap_of W) t (c.loop-i.i + 1)) ≡ shape_of c.shape.result = ap shape (item_read W c.args.id (c.loop-i.i + 1) c.read_field-item.result o) ∙ sym c.shape.ensures in
+    let s = item_shape W c.args.id (c.loop-i.i + 1) c.read_field-item.result (shape_of c.shape.result) (search rules) c.shape.ensures in
     let e : text_argument (codes "join") 1 (shape_of c.shape.result) ≡ Ok c.as_slice.result.now = search rules in
     subst (IsJoined (heap_of W) t c.args.many (c.loop-i.i + 1)) (sym c.in_default.ensures.joined)
     (piece_added (heap_of W) t c.args.many c.loop-i.i c.loop-i.text c.loop-i.invariant (search rules) c.as_slice.result.now (ap (text_argument (codes "join") 1) s ∙ e) c.in_default.ensures.fits)

@@ -21,12 +21,11 @@ returns-in_err-best c =
 pub returns-in_err-next : goal.returns-in_err-next
 returns-in_err-next c =
     let ss = shapes_of c.args.shapes.now in
-    let b = better_than c.args.wanted in
     let n : length ss ≡ length c.args.shapes.now = length-map c.args.shapes.now shape_of in
     let h : c.loop-at.at < length c.args.shapes.now = search rules in
     let e : integer_argument c.args.function.now (c.loop-at.at + 1) (argument ss (c.loop-at.at + 1)) ≡ Err (refusal_text c.in_err-next.field-0.0) = search rules in
     let r : c.from_residual-in_err-next.result ≡ Err c.in_err-next.field-0.0 = search rules in
-    subst (IsBest (best_of b c.args.function.now ss)) (sym r) (c.loop-at.invariant ∙ one_refused b c.args.function.now ss c.loop-at.at (to_z w64 c.loop-at.best-bits) (omega (arith, n, h)) (refusal_text c.in_err-next.field-0.0) e)
+    subst (IsBest (best_of (better_than c.args.wanted) c.args.function.now ss)) (sym r) (c.loop-at.invariant ∙ one_refused (better_than c.args.wanted) c.args.function.now ss c.loop-at.at (to_z w64 c.loop-at.best-bits) (omega (arith, n, h)) (refusal_text c.in_err-next.field-0.0) e)
 
 pub loop-at-preserved : goal.loop-at-preserved
 loop-at-preserved c =

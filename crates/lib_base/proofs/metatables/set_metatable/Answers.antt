@@ -18,13 +18,12 @@ returns-clause-changes c = changes_both c.args.world.now c.string.new.world c.se
 
 pub returns-in_default-clause-answers : goal.returns-in_default-clause-answers
 returns-in_default-clause-answers c =
-    let new = c.string.new.world in
-    let vs = map (value new.strings) c.args.arguments.now in
+    let vs = map (value c.string.new.world.strings) c.args.arguments.now in
     let e : nth vs 0 ≡ object a_table c.in_ok-id.id.0 = ap (λ vs. nth vs 0) c.string.ensures.kept.read ∙ c.in_ok-id.ensures in
-    let g : nth vs 1 ≡ value new.strings (table_or_nil c.in_ok-metatable.metatable)
-    = ap (λ vs. nth vs 1) c.string.ensures.kept.read ∙ metatable_value new.strings _ c.in_ok-metatable.metatable c.in_ok-metatable.ensures in
-    as_before sets_metatable c.args.world.now new c.args.arguments.now c.string.ensures.kept
-    ∙ sets_protected new vs c.in_ok-id.id e c.in_ok-metatable.metatable c.value_of-present.result c.in_ok-name.name c.read_field.result g (search rules) (search rules) c.read_field.ensures (search rules)
+    let g : nth vs 1 ≡ value c.string.new.world.strings (table_or_nil c.in_ok-metatable.metatable)
+    = ap (λ vs. nth vs 1) c.string.ensures.kept.read ∙ metatable_value c.string.new.world.strings _ c.in_ok-metatable.metatable c.in_ok-metatable.ensures in
+    as_before sets_metatable c.args.world.now c.string.new.world c.args.arguments.now c.string.ensures.kept
+    ∙ sets_protected c.string.new.world vs c.in_ok-id.id e c.in_ok-metatable.metatable c.value_of-present.result c.in_ok-name.name c.read_field.result g (search rules) (search rules) c.read_field.ensures (search rules)
 
 pub returns-clause-answers : goal.returns-clause-answers
 returns-clause-answers c =
