@@ -203,29 +203,14 @@ module _ (R : Reader) where
       open_law (open_record a b c) y e = ap (λ z. open_record z.0 z.1.0 z.1.1) (sym (some_so e))
       open_law _ y e = absurd (cc)
 
-  call_wait_law : (x : Wait Item) (y : Unit {0}) → is_wait R for_call x ≡ Some y → for_call ≡ x
-  call_wait_law for_call y e = refl
-  call_wait_law _ y e = absurd (cc)
-
-  iterator_wait_law : (x : Wait Item) (y : Unit {0}) → is_wait R for_iterator x ≡ Some y → for_iterator ≡ x
-  iterator_wait_law for_iterator y e = refl
-  iterator_wait_law _ y e = absurd (cc)
-
-  value_wait_law : (x : Wait Item) (y : Unit {0}) → is_wait R for_value x ≡ Some y → for_value ≡ x
-  value_wait_law for_value y e = refl
-  value_wait_law _ y e = absurd (cc)
-
-  truth_wait_law : (x : Wait Item) (y : Unit {0}) → is_wait R for_truth x ≡ Some y → for_truth ≡ x
-  truth_wait_law for_truth y e = refl
-  truth_wait_law _ y e = absurd (cc)
-
-  dropped_wait_law : (x : Wait Item) (y : Unit {0}) → is_wait R dropped x ≡ Some y → dropped ≡ x
-  dropped_wait_law dropped y e = refl
-  dropped_wait_law _ y e = absurd (cc)
-
-  close_wait_law : (x : Wait Item) (y : Unit {0}) → is_wait R for_close x ≡ Some y → for_close ≡ x
-  close_wait_law for_close y e = refl
-  close_wait_law _ y e = absurd (cc)
+  wait_law : (w x : Wait Item) (y : Unit {0}) → is_wait R w x ≡ Some y → w ≡ x
+  wait_law for_call for_call y e = refl
+  wait_law for_iterator for_iterator y e = refl
+  wait_law for_value for_value y e = refl
+  wait_law for_truth for_truth y e = refl
+  wait_law dropped dropped y e = refl
+  wait_law for_close for_close y e = refl
+  wait_law _ _ y e = absurd (cc)
 
   concat_law : (x : Wait Item) (y : ℕ) → of_concat R x ≡ Some y → for_concat y ≡ x
   concat_law (for_concat n) y e = ap for_concat (sym (some_so e))
@@ -239,15 +224,15 @@ module _ (R : Reader) where
   leaving_law (leaving n) y e = ap leaving (sym (some_so e))
   leaving_law _ y e = absurd (cc)
 
-  plain_wait_back : (w : Wait Item) → ((x : Wait Item) (y : Unit {0}) → is_wait R w x ≡ Some y → w ≡ x) → IsReadBack (plain_wait R w)
+  plain_wait_back : (w : Wait Item) → IsReadBack (plain_wait R w)
   unfolding plain_wait
-  plain_wait_back w law = case_back law nothing_back
+  plain_wait_back w = case_back (wait_law w) nothing_back
 
   wait_back : (t : ℕ) → IsReadBack (wait_rest R t)
   unfolding wait_rest
   wait_back t =
-      when_back _ _ (plain_wait_back for_call call_wait_law) (when_back _ _ (plain_wait_back for_iterator iterator_wait_law) (when_back _ _ (plain_wait_back for_value value_wait_law) (when_back _ _ (plain_wait_back for_truth truth_wait_law) (when_back _ _ (plain_wait_back dropped dropped_wait_law)
-      (when_back _ _ (case_back concat_law byte_back) (when_back _ _ (plain_wait_back for_close close_wait_law) (when_back _ _ (case_back returning_law word_back) (when_back _ _ (case_back leaving_law item_back) (wrong_back _)))))))))
+      when_back _ _ (plain_wait_back for_call) (when_back _ _ (plain_wait_back for_iterator) (when_back _ _ (plain_wait_back for_value) (when_back _ _ (plain_wait_back for_truth) (when_back _ _ (plain_wait_back dropped)
+      (when_back _ _ (case_back concat_law byte_back) (when_back _ _ (plain_wait_back for_close) (when_back _ _ (case_back returning_law word_back) (when_back _ _ (case_back leaving_law item_back) (wrong_back _)))))))))
 
   lua_law : (f : LuaFrameItem) (x : _) → lua_parts R f ≡ Some x → lua_of R x ≡ f
   lua_law f x h = go f.opened refl h
@@ -287,13 +272,13 @@ module _ (R : Reader) where
       lua_law (lua_item f) y e = ap lua_item (sym (some_so e))
       lua_law _ y e = absurd (cc)
 
-      pcall_law : (x : FrameItem) (y : Unit {0}) → of_pcall R x ≡ Some y → pcall_item ≡ x
-      pcall_law pcall_item y e = refl
-      pcall_law _ y e = absurd (cc)
-
       xpcall_law : (x : FrameItem) (y : Item) → of_xpcall R x ≡ Some y → xpcall_item y ≡ x
       xpcall_law (xpcall_item h) y e = ap xpcall_item (sym (some_so e))
       xpcall_law _ y e = absurd (cc)
+
+      pcall_law : (x : FrameItem) (y : Unit {0}) → of_pcall R x ≡ Some y → pcall_item ≡ x
+      pcall_law pcall_item y e = refl
+      pcall_law _ y e = absurd (cc)
 
       handler_law : (x : FrameItem) (y : Unit {0}) → of_handler R x ≡ Some y → handler_item ≡ x
       handler_law handler_item y e = refl

@@ -23,101 +23,36 @@ own_eq = (own_impl.ghosts).eq
 
 truths : (a b : Bool) → beq a b ≡ same_truth a b
 truths true true = refl
-truths true false = refl
-truths false true = refl
 truths false false = refl
+truths _ _ = refl
 
 integers_same : (m n : ℤ) → int_eq m n ≡ same_integer m n
 integers_same (pos m) (pos n) = grind (arith, tests)
-integers_same (pos m) (negsuc n) = refl
-integers_same (negsuc m) (pos n) = refl
 integers_same (negsuc m) (negsuc n) = grind (arith, tests)
+integers_same _ _ = refl
 
 texts_same : (s t : Bor (List ℕ)) → own_eq (Text s) (Text t) ≡ same_row_key (own_key (Text s)) (own_key (Text t))
 texts_same s t = refl
 
 pub own_same : (a b : Own) → own_eq a b ≡ same_row_key (own_key a) (own_key b)
 own_same Nil Nil = refl
-own_same Nil (Boolean y) = refl
-own_same Nil (Int y) = refl
-own_same Nil (Text y) = refl
-own_same Nil (Numbered y) = refl
-own_same Nil (Primitive y) = refl
-own_same Nil (Table y) = refl
-own_same Nil (Function y) = refl
-own_same Nil (Coroutine y) = refl
-own_same (Boolean x) Nil = refl
+own_same Nil _ = refl
 own_same (Boolean x) (Boolean y) = truths x y
-own_same (Boolean x) (Int y) = refl
-own_same (Boolean x) (Text y) = refl
-own_same (Boolean x) (Numbered y) = refl
-own_same (Boolean x) (Primitive y) = refl
-own_same (Boolean x) (Table y) = refl
-own_same (Boolean x) (Function y) = refl
-own_same (Boolean x) (Coroutine y) = refl
-own_same (Int x) Nil = refl
-own_same (Int x) (Boolean y) = refl
+own_same (Boolean x) _ = refl
 own_same (Int x) (Int y) = integers_same x y
-own_same (Int x) (Text y) = refl
-own_same (Int x) (Numbered y) = refl
-own_same (Int x) (Primitive y) = refl
-own_same (Int x) (Table y) = refl
-own_same (Int x) (Function y) = refl
-own_same (Int x) (Coroutine y) = refl
-own_same (Text x) Nil = refl
-own_same (Text x) (Boolean y) = refl
-own_same (Text x) (Int y) = refl
+own_same (Int x) _ = refl
 own_same (Text x) (Text y) = texts_same x y
-own_same (Text x) (Numbered y) = refl
-own_same (Text x) (Primitive y) = refl
-own_same (Text x) (Table y) = refl
-own_same (Text x) (Function y) = refl
-own_same (Text x) (Coroutine y) = refl
-own_same (Numbered x) Nil = refl
-own_same (Numbered x) (Boolean y) = refl
-own_same (Numbered x) (Int y) = refl
-own_same (Numbered x) (Text y) = refl
+own_same (Text x) _ = refl
 own_same (Numbered x) (Numbered y) = refl
-own_same (Numbered x) (Primitive y) = refl
-own_same (Numbered x) (Table y) = refl
-own_same (Numbered x) (Function y) = refl
-own_same (Numbered x) (Coroutine y) = refl
-own_same (Primitive x) Nil = refl
-own_same (Primitive x) (Boolean y) = refl
-own_same (Primitive x) (Int y) = refl
-own_same (Primitive x) (Text y) = refl
-own_same (Primitive x) (Numbered y) = refl
+own_same (Numbered x) _ = refl
 own_same (Primitive x) (Primitive y) = refl
-own_same (Primitive x) (Table y) = refl
-own_same (Primitive x) (Function y) = refl
-own_same (Primitive x) (Coroutine y) = refl
-own_same (Table x) Nil = refl
-own_same (Table x) (Boolean y) = refl
-own_same (Table x) (Int y) = refl
-own_same (Table x) (Text y) = refl
-own_same (Table x) (Numbered y) = refl
-own_same (Table x) (Primitive y) = refl
+own_same (Primitive x) _ = refl
 own_same (Table x) (Table y) = refl
-own_same (Table x) (Function y) = refl
-own_same (Table x) (Coroutine y) = refl
-own_same (Function x) Nil = refl
-own_same (Function x) (Boolean y) = refl
-own_same (Function x) (Int y) = refl
-own_same (Function x) (Text y) = refl
-own_same (Function x) (Numbered y) = refl
-own_same (Function x) (Primitive y) = refl
-own_same (Function x) (Table y) = refl
+own_same (Table x) _ = refl
 own_same (Function x) (Function y) = refl
-own_same (Function x) (Coroutine y) = refl
-own_same (Coroutine x) Nil = refl
-own_same (Coroutine x) (Boolean y) = refl
-own_same (Coroutine x) (Int y) = refl
-own_same (Coroutine x) (Text y) = refl
-own_same (Coroutine x) (Numbered y) = refl
-own_same (Coroutine x) (Primitive y) = refl
-own_same (Coroutine x) (Table y) = refl
-own_same (Coroutine x) (Function y) = refl
+own_same (Function x) _ = refl
 own_same (Coroutine x) (Coroutine y) = refl
+own_same (Coroutine x) _ = refl
 
 -- whether a key is held
 held : (own : Own) (keys : List Own) → list_any (own_eq own) keys ≡ list_any (λ o. same_row_key (own_key own) (own_key o)) keys
