@@ -40,6 +40,12 @@ zip_map R S f g h [] (y ∷ ys) z = absurd z
 zip_map R S f g h (x ∷ xs) [] z = absurd z
 zip_map R S f g h (x ∷ xs) (y ∷ ys) z = (h x y z.0, zip_map R S f g h xs ys z.1)
 
+zip_turned : {A B : Type 0} (R : A → B → Type 0) (xs : List A) (ys : List B) → AllZip R xs ys → AllZip (λ y x. R x y) ys xs
+zip_turned R [] [] z = tt
+zip_turned R [] (y ∷ ys) z = absurd z
+zip_turned R (x ∷ xs) [] z = absurd z
+zip_turned R (x ∷ xs) (y ∷ ys) z = (z.0, zip_turned R xs ys z.1)
+
 zip_equal : {A B C : Type 0} (R : A → B → Type 0) (f : A → C) (g : B → C) → ((a : A) (b : B) → R a b → f a ≡ g b) → (xs : List A) (ys : List B) → AllZip R xs ys → map f xs ≡ map g ys
 zip_equal R f g h [] [] z = refl
 zip_equal R f g h [] (y ∷ ys) z = absurd z
@@ -63,41 +69,37 @@ part_same p one a b c d (both_cells i j h) (both_objects l m n g) = refl
 part_same p one a b c d (both_cells i j h) (both_cells m n g) = nat_eq_same p.cells i m j n one.cells h g
 
 -- what is met is paired
+none_met : (R : Part → Part → Type 0) (o : Part) → ((x y : Part) → R x y → same_part x o ≡ false) → (xs ys : List Part) → AllZip R xs ys → met same_part xs o ≡ false
+none_met R o other [] [] h = refl
+none_met R o other [] (y ∷ ys) h = absurd h
+none_met R o other (x ∷ xs) [] h = absurd h
+none_met R o other (x ∷ xs) (y ∷ ys) h = go (same_part x o) (other x y h.0) (none_met R o other xs ys h.1)
+  where
+    go : (b : Bool) → b ≡ false → met same_part xs o ≡ false → cond b true (met same_part xs o) ≡ false
+    go b e m = rw e m
+
+not_equal : (i j : ℕ) → (i ≡ j → ⊥) → nat_eq i j ≡ false
+not_equal i j ne = search (arith, ne)
+
+-- an object is another one than a coroutine
+another : (k : Kind) (i co : ℕ) → (k ≡ a_coroutine → i ≡ co → ⊥) → same_part (an_object k i) (an_object a_coroutine co) ≡ false
+another a_table i co ne = refl
+another a_function i co ne = refl
+another a_coroutine i co ne = not_equal i co (ne refl)
+
 met_paired : (p : Pairs) (xs ys : List Part) (co : ℕ) → AllZip (SamePart p) xs ys → (IsFirst p co → ⊥) → met same_part xs (an_object a_coroutine co) ≡ false
-met_paired p [] [] co h n = refl
-met_paired p [] (y ∷ ys) co h n = absurd h
-met_paired p (x ∷ xs) [] co h n = absurd h
-met_paired p (x ∷ xs) (y ∷ ys) co h n = go (same_part x (an_object a_coroutine co)) (unpaired x y h.0) (met_paired p xs ys co h.1 n)
+met_paired p xs ys co h n = none_met (SamePart p) (an_object a_coroutine co) unpaired xs ys h
   where
     unpaired : (x y : Part) → SamePart p x y → same_part x (an_object a_coroutine co) ≡ false
-    unpaired x y (both_objects a_table i j g) = refl
-    unpaired x y (both_objects a_function i j g) = refl
-    unpaired x y (both_objects a_coroutine i j g) = not_equal (λ e. n (j, subst (λ i. SameNumber p a_coroutine i j) e g))
-      where
-        not_equal : (i ≡ co → ⊥) → nat_eq i co ≡ false
-        not_equal ne = search (arith, ne)
+    unpaired x y (both_objects k i j g) = another k i co (λ kinds numbers. n (j, subst (λ i. SameNumber p a_coroutine i j) numbers (subst (λ k. SameNumber p k i j) kinds g)))
     unpaired x y (both_cells i j g) = refl
-
-    go : (b : Bool) → b ≡ false → met same_part xs (an_object a_coroutine co) ≡ false → cond b true (met same_part xs (an_object a_coroutine co)) ≡ false
-    go b e m = rw e m
 
 met_second : (p : Pairs) (xs ys : List Part) (co : ℕ) → AllZip (SamePart p) xs ys → (IsSecond p co → ⊥) → met same_part ys (an_object a_coroutine co) ≡ false
-met_second p [] [] co h n = refl
-met_second p [] (y ∷ ys) co h n = absurd h
-met_second p (x ∷ xs) [] co h n = absurd h
-met_second p (x ∷ xs) (y ∷ ys) co h n = go (same_part y (an_object a_coroutine co)) (unpaired x y h.0) (met_second p xs ys co h.1 n)
+met_second p xs ys co h n = none_met (λ y x. SamePart p x y) (an_object a_coroutine co) unpaired ys xs (zip_turned (SamePart p) xs ys h)
   where
-    unpaired : (x y : Part) → SamePart p x y → same_part y (an_object a_coroutine co) ≡ false
-    unpaired x y (both_objects a_table i j g) = refl
-    unpaired x y (both_objects a_function i j g) = refl
-    unpaired x y (both_objects a_coroutine i j g) = not_equal (λ e. n (i, subst (λ j. SameNumber p a_coroutine i j) e g))
-      where
-        not_equal : (j ≡ co → ⊥) → nat_eq j co ≡ false
-        not_equal ne = search (arith, ne)
-    unpaired x y (both_cells i j g) = refl
-
-    go : (b : Bool) → b ≡ false → met same_part ys (an_object a_coroutine co) ≡ false → cond b true (met same_part ys (an_object a_coroutine co)) ≡ false
-    go b e m = rw e m
+    unpaired : (y x : Part) → SamePart p x y → same_part y (an_object a_coroutine co) ≡ false
+    unpaired y x (both_objects k i j g) = another k j co (λ kinds numbers. n (i, subst (λ j. SameNumber p a_coroutine i j) numbers (subst (λ k. SameNumber p k i j) kinds g)))
+    unpaired y x (both_cells i j g) = refl
 
 module _ (p : Pairs) (W X : World) (a : SameObjects p (objects_of W) (objects_of X)) where
   abbrev Fields : List Field → List Field → Type 0
