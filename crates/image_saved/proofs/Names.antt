@@ -31,12 +31,12 @@ key_found (p ∷ ps) v key e = by (same p.object v) refl e (λ f. key_found ps v
     by false h e again = let f = again e in record { at = suc f.at; found = f.found; there = f.there; object = f.object; names = f.names }
 
 -- the permanent whose object a key stands for
-record ObjectFrom (qs : List Perm) (key : PermKey) : Type 0 where
-  at : ℕ
-  found : Perm
-  there : slice_get qs at ≡ Some found
-  names : found.key ≡ key
-  object : object_named qs key ≡ found.object
+pub record ObjectFrom (qs : List Perm) (key : PermKey) : Type 0 where
+  pub at : ℕ
+  pub found : Perm
+  pub there : slice_get qs at ≡ Some found
+  pub names : found.key ≡ key
+  pub object : object_named qs key ≡ found.object
 
 object_found : (qs : List Perm) (key : PermKey) (j : ℕ) (q : Perm) → slice_get qs j ≡ Some q → q.key ≡ key → ObjectFrom qs key
 object_found [] key j q e is = absurd (none_some q e)

@@ -7,6 +7,7 @@ use Rattle.image_core.specs.Image.{PermKey, Perm, Item, plain, numbered, permane
 use Rattle.image_bytes.specs.Bytes.{Reader}
 use Rattle.image_saved.specs.Permanents.{same_key, object_named}
 use Rattle.image_saved.proofs.Equal.{key_is, key_self}
+use Rattle.image_saved.proofs.Names.{ObjectFrom}
 use Rattle.image_records.specs.Names.{sort_of_object}
 use Rattle.image_reading.specs.Reader.{of_value, no_fault, row_key, same_row_key, reader}
 use Rattle.chunk_check.specs.Faults.{first_fault}
@@ -16,19 +17,12 @@ use Rattle.eris_write.specs.Persisting.{image}
 use Rattle.images_joined.specs.Law.{InverseCanLoad, WrittenIsRead, WrittenIsReadByInverse}
 use Rattle.images_joined.proofs.Joined.{IsReadAs}
 
--- the first permanent with a key, or none has it
-record IsFirst (ps : List Perm) (key : PermKey) : Type 0 where
-  at : ℕ
-  first : Perm
-  there : slice_get ps at ≡ Some first
-  names : first.key ≡ key
-  object : object_named ps key ≡ first.object
-
+-- a permanent with a key is the first one that has it, or none has it
 record IsMissing (ps : List Perm) (key : PermKey) : Type 0 where
   missing : (i : ℕ) (p : Perm) → slice_get ps i ≡ Some p → p.key ≡ key → ⊥
   object : object_named ps key ≡ known nil
 
-first_or_none : (ps : List Perm) (key : PermKey) → IsFirst ps key ⊎ IsMissing ps key
+first_or_none : (ps : List Perm) (key : PermKey) → ObjectFrom ps key ⊎ IsMissing ps key
 first_or_none [] key = inr (record { missing = λ i p g e. absurd (cc); object = refl })
 first_or_none (x ∷ ps) key = by (same_key x.key key) refl (first_or_none ps key)
   where
@@ -38,23 +32,23 @@ first_or_none (x ∷ ps) key = by (same_key x.key key) refl (first_or_none ps ke
         true≢false (sym (subst (λ k. same_key x.key k ≡ true) is (key_self x.key)) ∙ h)
     none h rest (suc i) p g e = rest i p g e
 
-    by : (b : Bool) → same_key x.key key ≡ b → IsFirst ps key ⊎ IsMissing ps key → IsFirst (x ∷ ps) key ⊎ IsMissing (x ∷ ps) key
-    by true h r = inl (record { at = 0; first = x; there = refl; names = key_is x.key key h; object = ap (λ b. cond b x.object (object_named ps key)) h })
-    by false h (inl r) = inl (record { at = suc r.at; first = r.first; there = r.there; names = r.names; object = ap (λ b. cond b x.object (object_named ps key)) h ∙ r.object })
+    by : (b : Bool) → same_key x.key key ≡ b → ObjectFrom ps key ⊎ IsMissing ps key → ObjectFrom (x ∷ ps) key ⊎ IsMissing (x ∷ ps) key
+    by true h r = inl (record { at = 0; found = x; there = refl; names = key_is x.key key h; object = ap (λ b. cond b x.object (object_named ps key)) h })
+    by false h (inl r) = inl (record { at = suc r.at; found = r.found; there = r.there; names = r.names; object = ap (λ b. cond b x.object (object_named ps key)) h ∙ r.object })
     by false h (inr r) = inr (record { missing = none h r.missing; object = ap (λ b. cond b x.object (object_named ps key)) h ∙ r.object })
 
 module _ (forth back : List Perm) (inverse : Inverse forth back) where
   same_named : (key : PermKey) → object_named back key ≡ object_named forth key
   same_named key = by (first_or_none forth key) (first_or_none back key)
     where
-      by : IsFirst forth key ⊎ IsMissing forth key → IsFirst back key ⊎ IsMissing back key → object_named back key ≡ object_named forth key
+      by : ObjectFrom forth key ⊎ IsMissing forth key → ObjectFrom back key ⊎ IsMissing back key → object_named back key ≡ object_named forth key
       by (inl f) (inl b) =
-          let own = inverse.read_is_written b.at b.first b.there in
-          let at : own.0 ≡ f.at = inverse.keys own.0 f.at b.first f.first own.1 f.there (b.names ∙ sym f.names) in
-          let is : b.first ≡ f.first = some_same b.first f.first (sym own.1 ∙ (ap (slice_get forth) at ∙ f.there)) in
+          let own = inverse.read_is_written b.at b.found b.there in
+          let at : own.0 ≡ f.at = inverse.keys own.0 f.at b.found f.found own.1 f.there (b.names ∙ sym f.names) in
+          let is : b.found ≡ f.found = some_same b.found f.found (sym own.1 ∙ (ap (slice_get forth) at ∙ f.there)) in
           b.object ∙ (ap (λ (p : Perm). p.object) is ∙ sym f.object)
-      by (inl f) (inr b) = let own = inverse.written_is_read f.at f.first f.there in absurd (b.missing own.0 f.first own.1 f.names)
-      by (inr f) (inl b) = let own = inverse.read_is_written b.at b.first b.there in absurd (f.missing own.0 b.first own.1 b.names)
+      by (inl f) (inr b) = let own = inverse.written_is_read f.at f.found f.there in absurd (b.missing own.0 f.found own.1 f.names)
+      by (inr f) (inl b) = let own = inverse.read_is_written b.at b.found b.there in absurd (f.missing own.0 b.found own.1 b.names)
       by (inr f) (inr b) = b.object ∙ sym f.object
 
   same_row : (env : ℕ) (item : Item) → row_key back env item ≡ row_key forth env item
