@@ -37,6 +37,8 @@ use Rattle.eris_write.specs.declared.output.Output.{Output}
 use Rattle.eris_write.specs.declared.writer.Writer.{Writer}
 use Rattle.eris_write.specs.Cells.{open_place}
 use Rattle.graph_core.specs.declared.object.Object.{Object}
+use Rattle.graph_core.specs.declared.object.Sort.{Sort}
+use Rattle.graph_core.specs.Objects.{part_of}
 use Rattle.eris_write.specs.Images.{fields_in, record_bytes, records_bytes, sort_code}
 use Rattle.eris_write.specs.Output.{Puts}
 use Rattle.eris_write.specs.Refusals.{coroutine_refusal}
@@ -46,6 +48,13 @@ use Rattle.eris_write.proofs.Putting.{or_none as or_no_other, puts_both, puts_th
 use Rattle.eris_write.proofs.Spelled.{all_both, list_spelled, word_spelled, code_spelled, function_spelled, reference_spelled, closed_spelled, open_spelled, closing_spelled, error_spelled, lua_spelled, wait_number_is, wait_spelled, fresh_spelled, suspended_spelled, dead_spelled, failed_spelled, no_coroutine_spelled, xpcall_spelled, record_is}
 use Rattle.eris_write.proofs.Written.{value_fields, one_on}
 use Rattle.graph_core.proofs.Framed.{not_there}
+
+-- a part's record is that of the sort that it has
+pub part_written : (w : Writer) (before after : Output) (number fuel : ℕ) (form sort : Sort) → form ≡ sort
+    → Writes w before after (fields (plain w.world.now fuel) (inside_in w) (part_of form number)) (λ R. (record_format R (sort_code form)).spell (record_of (naming_in w) (plain w.world.now fuel) (part_of form number)))
+    → Writes w before after (fields (plain w.world.now fuel) (inside_in w) (part_of sort number)) (λ R. (record_format R (sort_code sort)).spell (record_of (naming_in w) (plain w.world.now fuel) (part_of sort number)))
+part_written w before after number fuel form sort is =
+    subst (λ s. Writes w before after (fields (plain w.world.now fuel) (inside_in w) (part_of s number)) (λ R. (record_format R (sort_code s)).spell (record_of (naming_in w) (plain w.world.now fuel) (part_of s number)))) is
 
 -- functions
 

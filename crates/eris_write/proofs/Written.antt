@@ -30,6 +30,10 @@ use Rattle.eris_write.proofs.Spelled.{unnamed_spelled, list_spelled, all_both, r
 
 -- values by their names
 
+-- a value's bytes are those of the form that it is
+pub value_put : (w : Writer) (before after : Output) (form v : Kept) → form ≡ v → Puts before after None (λ _. unnamed_bytes (naming_in w) (read_in w form)) → Puts before after None (λ _. unnamed_bytes (naming_in w) (read_in w v))
+value_put w before after form v is = subst (λ (v : Kept). Puts before after None (λ _. unnamed_bytes (naming_in w) (read_in w v))) is
+
 pub environment_named : (env : ℕ) (ps : List Perm) (v : Value) → true ≡ same (object a_table env) v → named env ps v ≡ Some environment
 environment_named env ps v e = ap (λ b. cond b (Some environment) (option_map (permanent (sort_of v)) (key_of ps v))) (sym e)
 

@@ -23,10 +23,8 @@ returns-in-None c =
 pub returns-then-number-len : goal.returns-then-number-len
 returns-then-number-len c =
     let w = c.args.self.now in
-    let e = c.len.ensures in
-    let t = c.if-number-len.true in
     on_ok c.put_byte.result c.put_byte.ensures
-    (λ h fuel. none_written w (cell_fields (plain w.world.now fuel) (inside_in w)) (record_of_cell (naming_in w) (plain w.world.now fuel)) (cell (texts_in w)) w.world.now.cells.objects c.args.number _ _ (λ (r : Record) (R : Reader). (record_format R 3).spell r) (omega (arith, e, t)) (puts_as _ _ None (λ _. 255 ∷ []) (λ R. (record_format R 3).spell no_record) (λ R. sym (no_cell_spelled R)) h))
+    (λ h fuel. none_written w (cell_fields (plain w.world.now fuel) (inside_in w)) (record_of_cell (naming_in w) (plain w.world.now fuel)) (cell (texts_in w)) w.world.now.cells.objects c.args.number _ _ (λ (r : Record) (R : Reader). (record_format R 3).spell r) (omega (arith, c.len.ensures, c.if-number-len.true)) (puts_as _ _ None (λ _. 255 ∷ []) (λ R. (record_format R 3).spell no_record) (λ R. sym (no_cell_spelled R)) h))
 
 pub cell_value-requires-clause-there : goal.cell_value-requires-clause-there
 cell_value-requires-clause-there c = let e = c.len.ensures in let f = c.if-number-len.false in cells_readable c.args.self.now.world.now c.requires c.args.number (omega (arith, e, f))
