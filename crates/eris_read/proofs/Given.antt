@@ -1,5 +1,5 @@
 -- What is read by what permanents stand for: the reader, the code, and that what is accepted leaves a sound world.
-use Rattle.std.proofs.Common.{◌≡◌, ℕ, zero, suc, length-append, List, [], ◌∷◌, Option, Some, None, Bool, true, false, cond, map, refl, ap, ap₂, sym, subst, ◌∙◌, arith}
+use Rattle.std.proofs.Common.{◌≡◌, ◌<◌, ◌+◌, ◌++◌, length, ℕ, zero, suc, length-append, List, [], ◌∷◌, Option, Some, None, Bool, true, false, cond, map, refl, ap, ap₂, sym, subst, ◌∙◌, arith}
 use Rattle.std.specs.Prelude.{slice_get, Result, Ok, Err, IsTrue, nat_eq}
 use Rattle.std.specs.List.{list_any}
 use Rattle.std.proofs.Math.Path.{fun_ext}
@@ -116,28 +116,21 @@ pub sound_image : (primitives : ℕ) (V : World) (perms : List Perm) (I : Image)
 sound_image primitives V perms I roots met bytes there e =
     accepted_is_sound (reader perms V.prelude_environment) (code_named V perms) (host primitives V perms I) roots met I bytes (is_reader primitives V perms I there) refl e
 
+-- what is made of a record stands behind what was there
+below_new : {B : Type 0} (rs : List Record) (made : Record → Option B) (is : Record → Bool) → ((r : Record) (t : B) → made r ≡ Some t → is r ≡ true) → ((r : Record) → made r ≡ None → is r ≡ false)
+    → (old : List B) (count n : ℕ) (r : Record) → count ≡ length old → slice_get rs n ≡ Some r → (t : B) × (made r ≡ Some t) → count + rank is rs n < length (old ++ chosen made rs)
+below_new rs made is yes no old count n r same g t =
+    let w = get_within (chosen made rs) (rank is rs n) t.0 (chosen_get is made yes no rs n r t.0 g t.1) in
+    let l = length-append old (chosen made rs) in
+    omega (arith, w, l, same)
+
 -- the roots of what is loaded are there
 
 module _ (primitives : ℕ) (V : World) (T : Target) (rs : List Record) (is : IsTarget T V) (solid : Solid primitives V) where
   new_there : (n : ℕ) (r : Record) (kind : Kind) → slice_get rs n ≡ Some r → kind_in r ≡ Some kind → Valid (sizes primitives (loaded T rs V)) (object kind (new_number T rs kind n))
-  new_there n r a_table g e =
-      let t = table_makes T rs r e in
-      let w = get_within (chosen (table_made T rs) rs) (rank (is_of a_table) rs n) t.0 (chosen_get (is_of a_table) (table_made T rs) (table_yes T rs) (table_no T rs) rs n r t.0 g t.1) in
-      let l = length-append V.heap.tables (chosen (table_made T rs) rs) in
-      let c = is.tables in
-      omega (arith, w, l, c)
-  new_there n r a_function g e =
-      let t = function_makes T rs r e in
-      let w = get_within (chosen (function_made T rs) rs) (rank (is_of a_function) rs n) t.0 (chosen_get (is_of a_function) (function_made T rs) (function_yes T rs) (function_no T rs) rs n r t.0 g t.1) in
-      let l = length-append V.functions (chosen (function_made T rs) rs) in
-      let c = is.functions in
-      omega (arith, w, l, c)
-  new_there n r a_coroutine g e =
-      let t = coroutine_makes T rs r e in
-      let w = get_within (chosen (coroutine_made T rs) rs) (rank (is_of a_coroutine) rs n) t.0 (chosen_get (is_of a_coroutine) (coroutine_made T rs) (coroutine_yes T rs) (coroutine_no T rs) rs n r t.0 g t.1) in
-      let l = length-append V.coroutines (chosen (coroutine_made T rs) rs) in
-      let c = is.coroutines in
-      omega (arith, w, l, c)
+  new_there n r a_table g e = below_new rs (table_made T rs) (is_of a_table) (table_yes T rs) (table_no T rs) V.heap.tables T.tables n r is.tables g (table_makes T rs r e)
+  new_there n r a_function g e = below_new rs (function_made T rs) (is_of a_function) (function_yes T rs) (function_no T rs) V.functions T.functions n r is.functions g (function_makes T rs r e)
+  new_there n r a_coroutine g e = below_new rs (coroutine_made T rs) (is_of a_coroutine) (coroutine_yes T rs) (coroutine_no T rs) V.coroutines T.coroutines n r is.coroutines g (coroutine_makes T rs r e)
 
   old_there : (v : Value) → Valid (sizes primitives V) v → Valid (sizes primitives (loaded T rs V)) v
   old_there (known p) h = h
