@@ -1,5 +1,5 @@
 -- Keys of permanents and of rows: equal in memory where they are equal in an image.
-use Rattle.std.proofs.Common.{◌≡◌, ℕ, ℤ, pos, negsuc, arith, tests, List, [], ◌∷◌, Option, Some, None, map, Bool, true, false, cond, refl, sym, ◌∙◌}
+use Rattle.std.proofs.Common.{◌≡◌, ℕ, ℤ, pos, negsuc, arith, tests, List, [], ◌∷◌, Option, Some, None, map, Bool, true, false, cond, refl, sym, ap, ◌∙◌}
 use Rattle.std.specs.Prelude.{bytes_eq, is_some}
 use Rattle.std.specs.Borrow.{Bor}
 use Rattle.std.specs.Map.{lookup}
@@ -12,7 +12,7 @@ use Rattle.image_records.specs.declared.record.Key.TheVariants.{Number, Text}
 use Rattle.image_records.specs.declared.known.Named.{Named}
 use Rattle.image_records.specs.contracts.record.KeyPartialEq.TheImpl as key_impl
 use Rattle.image_records.specs.Views.{key}
-use Rattle.image_records.specs.Names.{perm, found_object, found_code, code_in, has_key, object_of, proto_of}
+use Rattle.image_records.specs.Names.{perm, found_object, found_code, code_in, has_key}
 
 abbrev pub key_eq : Key → Key → Bool
 key_eq = (key_impl.ghosts).eq
@@ -43,31 +43,25 @@ key_same (Text s) (Text t) = bytes_same s t ∙ bytes_turned s.now t.now
 key_same (Number m) (Text t) = refl
 key_same (Text s) (Number n) = refl
 
-pub object_found : (es : List (Key × Named)) (k : Key) → found_object (lookup (key_eq k) es) ≡ object_named (map perm es) (key k)
-object_found [] k = refl
-object_found (e ∷ es) k = rw (key_same k e.0) (go (same_key (key e.0) (key k)) (object_found es k))
+-- what a list tells of a key is what the name found by it tells
+found_told : {A : Type 0} (k : Key) (told : Option Named → A) (held : List (Key × Named) → A) → told None ≡ held [] → ((e : Key × Named) (es : List (Key × Named)) → cond (same_key (key e.0) (key k)) (told (Some e.1)) (held es) ≡ held (e ∷ es))
+    → (es : List (Key × Named)) → told (lookup (key_eq k) es) ≡ held es
+found_told k told held none more [] = none
+found_told k told held none more (e ∷ es) =
+    ap (λ b. told (cond b (Some e.1) (lookup (key_eq k) es))) (key_same k e.0) ∙ go (same_key (key e.0) (key k)) (found_told k told held none more es) ∙ more e es
   where
-    go : (b : Bool) → found_object (lookup (key_eq k) es) ≡ object_named (map perm es) (key k)
-        → found_object (cond b (Some e.1) (lookup (key_eq k) es)) ≡ cond b (object_of e.1.object) (object_named (map perm es) (key k))
+    go : (b : Bool) → told (lookup (key_eq k) es) ≡ held es → told (cond b (Some e.1) (lookup (key_eq k) es)) ≡ cond b (told (Some e.1)) (held es)
     go true h = refl
     go false h = h
+
+pub object_found : (es : List (Key × Named)) (k : Key) → found_object (lookup (key_eq k) es) ≡ object_named (map perm es) (key k)
+object_found es k = found_told k found_object (λ es. object_named (map perm es) (key k)) refl (λ e es. refl) es
 
 pub code_found : (es : List (Key × Named)) (k : Key) → found_code (lookup (key_eq k) es) ≡ code_in es (key k)
-code_found [] k = refl
-code_found (e ∷ es) k = rw (key_same k e.0) (go (same_key (key e.0) (key k)) (code_found es k))
-  where
-    go : (b : Bool) → found_code (lookup (key_eq k) es) ≡ code_in es (key k)
-        → found_code (cond b (Some e.1) (lookup (key_eq k) es)) ≡ cond b (proto_of e.1.code) (code_in es (key k))
-    go true h = refl
-    go false h = h
+code_found es k = found_told k found_code (λ es. code_in es (key k)) refl (λ e es. refl) es
 
 pub known_key : (es : List (Key × Named)) (k : Key) → is_some (lookup (key_eq k) es) ≡ has_key es (key k)
-known_key [] k = refl
-known_key (e ∷ es) k = rw (key_same k e.0) (go (same_key (key e.0) (key k)) (known_key es k))
-  where
-    go : (b : Bool) → is_some (lookup (key_eq k) es) ≡ has_key es (key k) → is_some (cond b (Some e.1) (lookup (key_eq k) es)) ≡ cond b true (has_key es (key k))
-    go true h = refl
-    go false h = h
+known_key es k = found_told k is_some (λ es. has_key es (key k)) refl (λ e es. refl) es
 
 pub none_is : {A : Type 0} (o : Option A) → is_some o ≡ false → o ≡ None
 none_is None h = refl
