@@ -94,10 +94,7 @@ pub fn cell_at(places: &[Place], number: u32) -> Option<CellId>
 {
     match places.get(number as usize) {
         Some(Place::Cell(id)) => Some(*id),
-        Some(Place::Table(_)) => None,
-        Some(Place::Func(_)) => None,
-        Some(Place::Coro(_)) => None,
-        None => None,
+        _ => None,
     }
 }
 
@@ -107,9 +104,6 @@ pub fn coroutine_at(places: &[Place], number: u32) -> Option<CoroId>
 {
     match places.get(number as usize) {
         Some(Place::Coro(id)) => Some(*id),
-        Some(Place::Table(_)) => None,
-        Some(Place::Func(_)) => None,
-        Some(Place::Cell(_)) => None,
-        None => None,
+        _ => None,
     }
 }
