@@ -15,8 +15,7 @@ overflow_cast-place c =
     let protos = c.behind-prelude.inside.protos in
     let n = counted protos.items _ _ _ _ c.len-count.ensures protos.ok.0 (c.behind-prelude.view_is ∙ c.proto.ensures.same) refl in
     let t = c.functions-test.true in
-    let few = c.requires.few in
-    omega (arith, n, t, few)
+    omega (arith, n, t, c.requires.few)
 
 pub functions-init : goal.functions-init
 functions-init c = record {

@@ -124,13 +124,11 @@ repeated-returns-in-Lazy-clause-first t c =
 pub shortest_first-returns-then-not-is_class_at-clause-first : goal.shortest_first-returns-then-not-is_class_at-clause-first
 shortest_first-returns-then-not-is_class_at-clause-first t c =
     let i = c.loop-end.invariant in
-    let class = c.args.class.now in
-    let subject = c.args.subject.now in
     let place = c.loop-end.place in
-    let behind : ℕ → List Found = λ place. ends subject c.args.rest.now place c.args.captures.now.items in
+    let behind : ℕ → List Found = λ place. ends c.args.subject.now c.args.rest.now place c.args.captures.now.items in
     let is : IsFirst (behind place) c.in_ok-end.end c.args.captures.now.items c.tried.new.captures.items =
-    subst (λ captures. IsFirst (ends subject c.args.rest.now place captures) c.in_ok-end.end captures c.tried.new.captures.items) i.2 c.in_ok-end.ensures.first in
-    shortest_none behind c.args.captures.now.items c.tried.new.captures.items place _ c.in_ok-end.end (run_none class subject place (sym c.if-not-is_class_at.ensures)) i.3 (sym c.if-is_some.ensures) is
+    subst (λ captures. IsFirst (ends c.args.subject.now c.args.rest.now place captures) c.in_ok-end.end captures c.tried.new.captures.items) i.2 c.in_ok-end.ensures.first in
+    shortest_none behind c.args.captures.now.items c.tried.new.captures.items place _ c.in_ok-end.end (run_none c.args.class.now c.args.subject.now place (sym c.if-not-is_class_at.ensures)) i.3 (sym c.if-is_some.ensures) is
 
 pub shortest_first-loop-end-preserved : goal.shortest_first-loop-end-preserved
 shortest_first-loop-end-preserved t c =

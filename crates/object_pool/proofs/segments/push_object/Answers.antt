@@ -13,11 +13,9 @@ push_reserved-requires g c =
 
 pub returns-clause-objects : goal.returns-clause-objects
 returns-clause-objects g c =
-    let ss = c.args.segments.now.items in
-    let n = c.args.len in
     let segment = c.index_mut-segment.result.now in
-    let there : n / 512 < length ss = omega (arith, c.requires.room) in
-    objects-pushed ss n (n / 512) segment c.push_reserved.new.self c.args.value c.requires.filled there c.index_mut-segment.ensures.value (omega arith) (omega arith) c.push_reserved.ensures.items
+    let there : c.args.len / 512 < length c.args.segments.now.items = omega (arith, c.requires.room) in
+    objects-pushed c.args.segments.now.items c.args.len (c.args.len / 512) segment c.push_reserved.new.self c.args.value c.requires.filled there c.index_mut-segment.ensures.value (omega arith) (omega arith) c.push_reserved.ensures.items
 
 pub returns-clause-filled : goal.returns-clause-filled
 returns-clause-filled g c =

@@ -11,13 +11,12 @@ pub returns-then-length-gt-MAX_LINE_BYTES-clause-limit :
 returns-then-length-gt-MAX_LINE_BYTES-clause-limit c = λ _.
     let count = c.next_part-count.result.0 in
     let pending = c.args.self.now.pending in
-    let line = c.args.line.now in
     record {
       part = take count pending;
       rest = drop count pending;
       front = sym (take-append-drop count pending);
       unbroken = c.next_part-count.ensures.unbroken;
-      past = inl (omega (arith, length-append line.items (take count pending), length-take-le count pending c.next_part-count.ensures.within, line.ok.0));
+      past = inl (omega (arith, length-append c.args.line.now.items (take count pending), length-take-le count pending c.next_part-count.ensures.within, c.args.line.now.ok.0));
     }
 
 pub returns-then-self-length-gt-MAX_INPUT_BYTES-clause-limit :
