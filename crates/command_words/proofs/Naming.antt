@@ -20,29 +20,25 @@ pub record Named (files : List (List ℕ)) (budget : Option ℕ) (save : Option 
   pub names : Names words files' budgets saves strips
   pub comes : Comes files budget save strip files' budgets saves strips end.files end.budget end.save end.strip
 
--- the same where the value of `--budget` stands first
-pub record NamedBudget (files : List (List ℕ)) (budget : Option ℕ) (save : Option (List ℕ)) (strip : Bool) (words : List (List ℕ)) (end : Arguments) : Type 0 where
-  pub digits : List ℕ
+-- the same where the value of an option stands first, and is read so
+pub record NamedBehind (reads : List ℕ → List (List ℕ) → List (List ℕ) → List (List ℕ) → ℕ → Type 0) (words : List (List ℕ)) : Type 0 where
+  pub value : List ℕ
   pub words' : List (List ℕ)
-  pub are : words ≡ digits ∷ words'
+  pub are : words ≡ value ∷ words'
   pub files' : List (List ℕ)
   pub budgets : List (List ℕ)
   pub saves : List (List ℕ)
   pub strips : ℕ
   pub names : Names words' files' budgets saves strips
-  pub comes : Comes files budget save strip files' (digits ∷ budgets) saves strips end.files end.budget end.save end.strip
+  pub comes : reads value files' budgets saves strips
 
--- and where that of `--save` does
-pub record NamedSave (files : List (List ℕ)) (budget : Option ℕ) (save : Option (List ℕ)) (strip : Bool) (words : List (List ℕ)) (end : Arguments) : Type 0 where
-  pub image : List ℕ
-  pub words' : List (List ℕ)
-  pub are : words ≡ image ∷ words'
-  pub files' : List (List ℕ)
-  pub budgets : List (List ℕ)
-  pub saves : List (List ℕ)
-  pub strips : ℕ
-  pub names : Names words' files' budgets saves strips
-  pub comes : Comes files budget save strip files' budgets (image ∷ saves) strips end.files end.budget end.save end.strip
+-- that of `--budget`
+abbrev pub NamedBudget : (files : List (List ℕ)) (budget : Option ℕ) (save : Option (List ℕ)) (strip : Bool) (words : List (List ℕ)) (end : Arguments) → Type 0
+NamedBudget files budget save strip words end = NamedBehind (λ digits files' budgets saves strips. Comes files budget save strip files' (digits ∷ budgets) saves strips end.files end.budget end.save end.strip) words
+
+-- and that of `--save`
+abbrev pub NamedSave : (files : List (List ℕ)) (budget : Option ℕ) (save : Option (List ℕ)) (strip : Bool) (words : List (List ℕ)) (end : Arguments) → Type 0
+NamedSave files budget save strip words end = NamedBehind (λ image files' budgets saves strips. Comes files budget save strip files' budgets (image ∷ saves) strips end.files end.budget end.save end.strip) words
 
 abbrev pub NamedFrom : Next → (files : List (List ℕ)) (budget : Option ℕ) (save : Option (List ℕ)) (strip : Bool) (words : List (List ℕ)) (end : Arguments) → Type 0
 NamedFrom Any files budget save strip words end = Named files budget save strip words end
@@ -188,10 +184,10 @@ module _ (word : List ℕ) (words : List (List ℕ)) (end : Arguments) (further 
       let n : NamedBudget files budget save strip words end = further Budget files budget save strip few e in
       record {
         files' = n.files';
-        budgets = n.digits ∷ n.budgets;
+        budgets = n.value ∷ n.budgets;
         saves = n.saves;
         strips = n.strips;
-        names = subst (λ ws. Names ws n.files' (n.digits ∷ n.budgets) n.saves n.strips) (sym (ap₂ (λ w ws. w ∷ ws) is n.are)) (a_budget n.digits n.names);
+        names = subst (λ ws. Names ws n.files' (n.value ∷ n.budgets) n.saves n.strips) (sym (ap₂ (λ w ws. w ∷ ws) is n.are)) (a_budget n.value n.names);
         comes = n.comes;
       }
   by_name false false true s files budget save strip t u v s' few e =
@@ -200,9 +196,9 @@ module _ (word : List ℕ) (words : List (List ℕ)) (end : Arguments) (further 
       record {
         files' = n.files';
         budgets = n.budgets;
-        saves = n.image ∷ n.saves;
+        saves = n.value ∷ n.saves;
         strips = n.strips;
-        names = subst (λ ws. Names ws n.files' n.budgets (n.image ∷ n.saves) n.strips) (sym (ap₂ (λ w ws. w ∷ ws) is n.are)) (a_save n.image n.names);
+        names = subst (λ ws. Names ws n.files' n.budgets (n.value ∷ n.saves) n.strips) (sym (ap₂ (λ w ws. w ∷ ws) is n.are)) (a_save n.value n.names);
         comes = n.comes;
       }
   by_name false false false true files budget save strip t u v s few e = is_strip files budget save strip ((bytes_eq-Decides word (codes "--strip")).0 s) few e
@@ -218,9 +214,9 @@ named (word ∷ words) end Any files budget save strip few e =
 named (word ∷ words) end Budget files budget save strip few e =
     let r = is_budget word words end (named words end) word (number_in word) Budget files budget save strip refl few e in
     let n = r.0 in
-    record { digits = word; words' = words; are = refl; files' = n.files'; budgets = n.budgets; saves = n.saves; strips = n.strips; names = n.names; comes = r.1 }
+    record { value = word; words' = words; are = refl; files' = n.files'; budgets = n.budgets; saves = n.saves; strips = n.strips; names = n.names; comes = r.1 }
 named (word ∷ words) end Save files budget save strip few e =
     let r = is_save word words end (named words end) word Save files budget save strip few e in
     let n = r.0 in
-    record { image = word; words' = words; are = refl; files' = n.files'; budgets = n.budgets; saves = n.saves; strips = n.strips; names = n.names; comes = r.1 }
+    record { value = word; words' = words; are = refl; files' = n.files'; budgets = n.budgets; saves = n.saves; strips = n.strips; names = n.names; comes = r.1 }
 named (word ∷ words) end File files budget save strip few e = file_behind word words end (named words end) (nat_lt (length files) 2) files budget save strip refl e
