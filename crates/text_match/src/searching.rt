@@ -23,18 +23,16 @@ pub fn read_items(alloc: Global, pattern: &[u8]) -> Result<Pattern, PatternFault
     Ok(items)
 }
 
+/// The match that is found, if there is one, or why a pattern gives none.
+pub type Searched = Result<Option<Hit>, PatternFault>;
+
 /// The first match from a place on; with a `^` before the pattern at that place alone. A pattern in which each byte stands for itself is
 /// searched as a plain text.
 ///
 /// # Errors
 ///
 /// The first rule that the pattern breaks, or else that it is too complex; or memory runs out.
-pub fn search(
-    alloc: Global,
-    subject: &[u8],
-    pattern: &[u8],
-    at: usize,
-) -> Result<Option<Hit>, PatternFault>
+pub fn search(alloc: Global, subject: &[u8], pattern: &[u8], at: usize) -> Searched
     requires { at ≤ length subject.now }
     ensures found { IsFound result (search subject.now pattern.now at) }
     ensures inside { IfOk result (λ hit. IfSome hit (IsWithin (length subject.now))) }
@@ -86,12 +84,7 @@ fn plain_hit(alloc: Global, text: &[u8], len: usize, place: Option<usize>) -> Op
 }
 
 /// The first match of a pattern by its items.
-fn search_items(
-    alloc: Global,
-    subject: &[u8],
-    pattern: &[u8],
-    at: usize,
-) -> Result<Option<Hit>, PatternFault>
+fn search_items(alloc: Global, subject: &[u8], pattern: &[u8], at: usize) -> Searched
     requires { at ≤ length subject.now }
     ensures found { IsFound result (search subject.now pattern.now at) }
     ensures inside { IfOk result (λ hit. IfSome hit (IsWithin (length subject.now))) }
@@ -119,7 +112,7 @@ pub fn next_hit(
     at: usize,
     last: usize,
     raw: bool,
-) -> Result<Option<Hit>, PatternFault>
+) -> Searched
     ensures found { IsFound result (next_hit subject.now pattern.now at last raw) }
     ensures inside { IfOk result (λ hit. IfSome hit (IsWithin (length subject.now))) }
 {
@@ -139,7 +132,7 @@ fn next_by_items(
     at: usize,
     last: usize,
     raw: bool,
-) -> Result<Option<Hit>, PatternFault>
+) -> Searched
     ensures found { IsFound result (next_hit subject.now pattern.now at last raw) }
     ensures inside { IfOk result (λ hit. IfSome hit (IsWithin (length subject.now))) }
 {
