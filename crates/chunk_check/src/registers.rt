@@ -33,12 +33,8 @@ pub fn registers_there(stack: u8, op: Opcode, word: Instruction) -> bool
     let (a, b, c) = (word.a(), word.b(), word.c());
     let far = u16::from(a);
     match op {
-        Opcode::Move
-        | Opcode::GetI
-        | Opcode::GetField
-        | Opcode::AddI
-        | Opcode::ShrI
-        | Opcode::ShlI => a < stack && b < stack,
+        Opcode::Move | Opcode::GetI | Opcode::GetField | Opcode::AddI => a < stack && b < stack,
+        Opcode::ShrI | Opcode::ShlI => a < stack && b < stack,
         Opcode::AddK | Opcode::SubK | Opcode::MulK | Opcode::ModK | Opcode::IDivK => a < stack
             && b < stack,
         Opcode::BAndK | Opcode::BOrK | Opcode::BXorK | Opcode::MmBin => a < stack && b < stack,

@@ -45,12 +45,8 @@ fn hold_registers(room: usize, op: Opcode, word: Instruction) -> usize
         u16::from(word.c()),
     );
     match op {
-        Opcode::Move
-        | Opcode::GetI
-        | Opcode::GetField
-        | Opcode::AddI
-        | Opcode::ShrI
-        | Opcode::ShlI => hold(hold(room, a), b),
+        Opcode::Move | Opcode::GetI | Opcode::GetField | Opcode::AddI => hold(hold(room, a), b),
+        Opcode::ShrI | Opcode::ShlI => hold(hold(room, a), b),
         Opcode::AddK | Opcode::SubK | Opcode::MulK | Opcode::ModK | Opcode::IDivK => {
             hold(hold(room, a), b)
         }
