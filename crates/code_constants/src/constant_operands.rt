@@ -9,6 +9,7 @@ use crate::constants::Constants;
 use crate::numerals::operand_numeral;
 use int_core::Allocated;
 use std::alloc::Global;
+use tree_core::BinOp::{Add, Band, Bor, Bxor, Eq, Idiv, Mod, Mul, Ne, Sub};
 use tree_core::{BinOp, Exp, ExpNode};
 
 impl Constants {
@@ -28,15 +29,8 @@ impl Constants {
         ensures { OnOk result (self.new ≡ with_any (constant_by op (plain_exp exp.now)) self.old) }
     {
         match op {
-            BinOp::Add
-            | BinOp::Sub
-            | BinOp::Mul
-            | BinOp::Mod
-            | BinOp::Idiv
-            | BinOp::Band
-            | BinOp::Bor
-            | BinOp::Bxor => self.add_numeral(exp),
-            BinOp::Eq | BinOp::Ne => self.add_literal(alloc, exp),
+            Add | Sub | Mul | Mod | Idiv | Band | Bor | Bxor => self.add_numeral(exp),
+            Eq | Ne => self.add_literal(alloc, exp),
             _ => Ok(()),
         }
     }
@@ -94,15 +88,8 @@ impl Constants {
         ensures { result ≡ short_of self.now (constant_by op (plain_exp exp.now)) }
     {
         match op {
-            BinOp::Add
-            | BinOp::Sub
-            | BinOp::Mul
-            | BinOp::Mod
-            | BinOp::Idiv
-            | BinOp::Band
-            | BinOp::Bor
-            | BinOp::Bxor => self.numeral_number(exp),
-            BinOp::Eq | BinOp::Ne => self.literal_number(exp),
+            Add | Sub | Mul | Mod | Idiv | Band | Bor | Bxor => self.numeral_number(exp),
+            Eq | Ne => self.literal_number(exp),
             _ => None,
         }
     }
