@@ -11,7 +11,11 @@ use crate::expressions::expression;
 use code_core::Opcode;
 use code_emitter::{Emitter, local_of};
 use int_core::Allocated;
-use tree_core::{BinOp, Exp, ExpNode, UnOp};
+use tree_core::ExpNode::{
+    And, Binary, Call, False, Function, Index, Int, Method, Nil, Or, Paren, Str, Table, True,
+    Unary, Var, Vararg,
+};
+use tree_core::{BinOp, Exp, UnOp};
 
 /// Writes a first operand. Where its truth is `k`, its value is in the register then and the code leads
 /// away: answers the places of the jumps that do. Else code goes on behind it. The registers from this
@@ -29,23 +33,23 @@ pub(crate) fn keep(
         return keep_truth(emitter, exp, k, target);
     }
     match &exp.node {
-        ExpNode::Paren(inner) => keep(emitter, inner, k, target),
-        ExpNode::And(first, second) => keep_either(emitter, false, first, second, k, target),
-        ExpNode::Or(first, second) => keep_either(emitter, true, first, second, k, target),
-        ExpNode::Nil
-        | ExpNode::True
-        | ExpNode::False
-        | ExpNode::Int(_)
-        | ExpNode::Str(_)
-        | ExpNode::Vararg
-        | ExpNode::Function(_)
-        | ExpNode::Var(_)
-        | ExpNode::Index(_, _)
-        | ExpNode::Call(_, _)
-        | ExpNode::Method(_, _, _)
-        | ExpNode::Unary(_, _)
-        | ExpNode::Binary(_, _, _)
-        | ExpNode::Table(_) => keep_value(emitter, exp, k, target),
+        Paren(inner) => keep(emitter, inner, k, target),
+        And(first, second) => keep_either(emitter, false, first, second, k, target),
+        Or(first, second) => keep_either(emitter, true, first, second, k, target),
+        Nil
+        | True
+        | False
+        | Int(_)
+        | Str(_)
+        | Vararg
+        | Function(_)
+        | Var(_)
+        | Index(_, _)
+        | Call(_, _)
+        | Method(_, _, _)
+        | Unary(_, _)
+        | Binary(_, _, _)
+        | Table(_) => keep_value(emitter, exp, k, target),
     }
 }
 
@@ -136,22 +140,9 @@ fn is_truth(exp: &Exp) -> bool
     ensures { result ≡ is_truth (plain_exp exp.now) }
 {
     match &exp.node {
-        ExpNode::Unary(op, _) => is_not(*op),
-        ExpNode::Binary(op, _, _) => is_compared(*op),
-        ExpNode::Nil
-        | ExpNode::True
-        | ExpNode::False
-        | ExpNode::Int(_)
-        | ExpNode::Str(_)
-        | ExpNode::Vararg
-        | ExpNode::Function(_)
-        | ExpNode::Var(_)
-        | ExpNode::Index(_, _)
-        | ExpNode::Call(_, _)
-        | ExpNode::Method(_, _, _)
-        | ExpNode::And(_, _)
-        | ExpNode::Or(_, _)
-        | ExpNode::Paren(_)
-        | ExpNode::Table(_) => false,
+        Unary(op, _) => is_not(*op),
+        Binary(op, _, _) => is_compared(*op),
+        Nil | True | False | Int(_) | Str(_) | Vararg | Function(_) | Var(_) | Index(_, _) => false,
+        Call(_, _) | Method(_, _, _) | And(_, _) | Or(_, _) | Paren(_) | Table(_) => false,
     }
 }

@@ -31,21 +31,11 @@ fn is_direct(exp: &Exp) -> bool
     match &exp.node {
         ExpNode::Binary(op, _, _) => computes(*op),
         ExpNode::Paren(inner) => is_direct(inner),
-        ExpNode::Nil
-        | ExpNode::True
-        | ExpNode::False
-        | ExpNode::Int(_)
-        | ExpNode::Str(_)
-        | ExpNode::Var(_)
-        | ExpNode::Unary(_, _)
-        | ExpNode::Index(_, _) => true,
-        ExpNode::Vararg
-        | ExpNode::Function(_)
-        | ExpNode::Call(_, _)
-        | ExpNode::Method(_, _, _)
-        | ExpNode::And(_, _)
-        | ExpNode::Or(_, _)
-        | ExpNode::Table(_) => false,
+        ExpNode::Nil | ExpNode::True | ExpNode::False | ExpNode::Int(_) | ExpNode::Str(_) => true,
+        ExpNode::Var(_) | ExpNode::Unary(_, _) | ExpNode::Index(_, _) => true,
+        ExpNode::Vararg | ExpNode::Function(_) | ExpNode::Table(_) => false,
+        ExpNode::Call(_, _) | ExpNode::Method(_, _, _) => false,
+        ExpNode::And(_, _) | ExpNode::Or(_, _) => false,
     }
 }
 

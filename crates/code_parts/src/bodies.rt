@@ -35,13 +35,8 @@ fn find_in_exp<'a>(found: &mut Vec<&'a Body>, exp: &'a Exp) -> Allocated<()>
     ensures { OnOk result (map (λ b. plain_body b.now) found.new.items ≡ map (λ b. plain_body b.now) found.old.items ++ exp_bodies (plain_exp exp.now)) }
 {
     match &exp.node {
-        ExpNode::Nil
-        | ExpNode::True
-        | ExpNode::False
-        | ExpNode::Int(_)
-        | ExpNode::Str(_)
-        | ExpNode::Vararg
-        | ExpNode::Var(_) => Ok(()),
+        ExpNode::Nil | ExpNode::True | ExpNode::False | ExpNode::Int(_) | ExpNode::Str(_) => Ok(()),
+        ExpNode::Vararg | ExpNode::Var(_) => Ok(()),
         ExpNode::Function(body) => {
             found.push(body)?;
             Ok(())

@@ -84,13 +84,8 @@ fn check_form(
             12,
         ),
         StatNode::GenFor(_, _, block) => meet_where(least, block.tokens > 16000, stat.line, 12),
-        StatNode::Empty
-        | StatNode::LocalFunction(_, _)
-        | StatNode::Call(_)
-        | StatNode::Do(_)
-        | StatNode::While(_, _)
-        | StatNode::Repeat(_, _)
-        | StatNode::If(_, _) => {}
+        StatNode::Empty | StatNode::LocalFunction(_, _) | StatNode::Call(_) => {}
+        StatNode::Do(_) | StatNode::While(_, _) | StatNode::Repeat(_, _) | StatNode::If(_, _) => {}
     }
 }
 

@@ -29,12 +29,8 @@ fn meet_exp(
     ensures met { OnOk result (least.new.violation ≡ met_exp nesting.old is_vararg least.old.violation (plain_exp exp.now)) }
 {
     match &exp.node {
-        ExpNode::Nil
-        | ExpNode::True
-        | ExpNode::False
-        | ExpNode::Int(_)
-        | ExpNode::Str(_)
-        | ExpNode::Var(_) => Ok(()),
+        ExpNode::Nil | ExpNode::True | ExpNode::False | ExpNode::Int(_) | ExpNode::Str(_) => Ok(()),
+        ExpNode::Var(_) => Ok(()),
         ExpNode::Vararg => {
             meet_where(least, !is_vararg, exp.line, 8);
             Ok(())

@@ -30,13 +30,8 @@ pub fn held_by(exp: &Exp) -> u32
     ensures { result ≡ min (held (plain_exp exp.now)) 1000 }
 {
     match &exp.node {
-        ExpNode::Nil
-        | ExpNode::True
-        | ExpNode::False
-        | ExpNode::Int(_)
-        | ExpNode::Str(_)
-        | ExpNode::Vararg
-        | ExpNode::Function(_) => 1,
+        ExpNode::Nil | ExpNode::True | ExpNode::False | ExpNode::Int(_) | ExpNode::Str(_) => 1,
+        ExpNode::Vararg | ExpNode::Function(_) => 1,
         ExpNode::Var(name) => held_by_name(name.place),
         ExpNode::Unary(_, inner) | ExpNode::Paren(inner) => held_by(inner),
         ExpNode::Index(left, right)
