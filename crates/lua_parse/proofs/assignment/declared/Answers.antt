@@ -18,43 +18,34 @@ use Rattle.token_cursor.specs.declared.level.Level.TheVariants.{Product}
 use Rattle.lua_parse.proofs.LevelLemmas.{same_rank, rank_looser, chain_leads, failed_chain, failed_operators, next_operand, at_most_product, less, not_less}
 use Rattle.token_cursor.specs.Words.{first}
 use Rattle.tree_making.specs.Made.{all_plain, all_fields, all_stats, all_arms}
-use Rattle.lua_parse.proofs.Steps.{Comes, Leads, starts, picked, passed, turned, holds, fails, stayed, mapped, placed, neither_first, neither_second, either_second, refused, found, failed, ended, ended_as, into, answered, has_room, no_room, one_less}
+use Rattle.lua_parse.proofs.Steps.{Comes, Leads, starts, picked, passed, turned, holds, fails, stayed, mapped, placed, neither_first, neither_second, either_second, refused, found, failed_by, ended, ended_as, into, answered, has_room, no_room, one_less}
 use Rattle.lua_parse.proofs.assignment.declared.Goals as goal
 
 pub returns-in_err-variable-clause-reads : goal.returns-in_err-variable-clause-reads
-returns-in_err-variable-clause-reads c =
-    let r : c.from_residual.result ≡ Err c.in_err-variable.field-0.0 = search rules in rw r (failed (starts declared 0 c.args.cursor.now) _ c.in_err-variable.ensures.reads)
+returns-in_err-variable-clause-reads c = failed_by (starts declared 0 c.args.cursor.now) c.in_err-variable.ensures.reads (search rules)
 
 pub returns-then-not-is-clause-reads : goal.returns-then-not-is-clause-reads
 returns-then-not-is-clause-reads c =
-    let l1 = found (starts declared 0 c.args.cursor.now) (c.in_ok-variable.ensures.reads.tells) in
-    let l2 = picked l1 c.if-not-is.ensures.more in
-    let l3 = fails _ l2 (sym c.if-not-is.ensures.is) in
-    record { tells = ended_as l3 (refl) (refl) }
+    let l1 = picked (found (starts declared 0 c.args.cursor.now) (c.in_ok-variable.ensures.reads.tells)) c.if-not-is.ensures.more in
+    let l2 = fails _ l1 (sym c.if-not-is.ensures.is) in
+    record { tells = ended_as l2 (refl) (refl) }
 
 pub returns-in_err-word-clause-reads : goal.returns-in_err-word-clause-reads
 returns-in_err-word-clause-reads c =
-    let l1 = found (starts declared 0 c.args.cursor.now) (c.in_ok-variable.ensures.reads.tells) in
-    let l2 = picked l1 c.if-not-is.ensures.more in
-    let l3 = holds _ l2 (sym c.if-not-is.ensures.is) in
-    let l4 = passed l3 c.if-not-is.ensures.more (c.skip.ensures) in
-    let r : c.from_residual-in_err-word.result ≡ Err c.in_err-word.field-0.0 = search rules in rw r (failed l4 _ c.in_err-word.ensures.reads)
+    let l1 = picked (found (starts declared 0 c.args.cursor.now) (c.in_ok-variable.ensures.reads.tells)) c.if-not-is.ensures.more in
+    let l2 = passed (holds _ l1 (sym c.if-not-is.ensures.is)) c.if-not-is.ensures.more (c.skip.ensures) in
+    failed_by l2 c.in_err-word.ensures.reads (search rules)
 
 pub returns-in_err-expect-clause-reads : goal.returns-in_err-expect-clause-reads
 returns-in_err-expect-clause-reads c =
-    let l1 = found (starts declared 0 c.args.cursor.now) (c.in_ok-variable.ensures.reads.tells) in
-    let l2 = picked l1 c.if-not-is.ensures.more in
-    let l3 = holds _ l2 (sym c.if-not-is.ensures.is) in
-    let l4 = passed l3 c.if-not-is.ensures.more (c.skip.ensures) in
-    let l5 = found l4 (c.in_ok-word.ensures.reads.tells) in
-    let r : c.from_residual-in_err-expect.result ≡ Err c.in_err-expect.field-0.0 = search rules in rw r (failed l5 _ c.in_err-expect.ensures.reads)
+    let l1 = picked (found (starts declared 0 c.args.cursor.now) (c.in_ok-variable.ensures.reads.tells)) c.if-not-is.ensures.more in
+    let l2 = passed (holds _ l1 (sym c.if-not-is.ensures.is)) c.if-not-is.ensures.more (c.skip.ensures) in
+    failed_by (found l2 (c.in_ok-word.ensures.reads.tells)) c.in_err-expect.ensures.reads (search rules)
 
 pub returns-clause-reads : goal.returns-clause-reads
 returns-clause-reads c =
-    let l1 = found (starts declared 0 c.args.cursor.now) (c.in_ok-variable.ensures.reads.tells) in
-    let l2 = picked l1 c.if-not-is.ensures.more in
-    let l3 = holds _ l2 (sym c.if-not-is.ensures.is) in
-    let l4 = passed l3 c.if-not-is.ensures.more (c.skip.ensures) in
-    let l5 = found l4 (c.in_ok-word.ensures.reads.tells) in
-    let l6 = found l5 (c.in_ok-expect.ensures.reads.tells) in
-    record { tells = ended_as l6 (ap (λ a. a_declared (record { name = c.in_ok-variable.variable; attrib = a; attrib_line = c.in_ok-word.word.line })) c.attrib.ensures) (refl) }
+    let l1 = picked (found (starts declared 0 c.args.cursor.now) (c.in_ok-variable.ensures.reads.tells)) c.if-not-is.ensures.more in
+    let l2 = passed (holds _ l1 (sym c.if-not-is.ensures.is)) c.if-not-is.ensures.more (c.skip.ensures) in
+    let l3 = found l2 (c.in_ok-word.ensures.reads.tells) in
+    let l4 = found l3 (c.in_ok-expect.ensures.reads.tells) in
+    record { tells = ended_as l4 (ap (λ a. a_declared (record { name = c.in_ok-variable.variable; attrib = a; attrib_line = c.in_ok-word.word.line })) c.attrib.ensures) (refl) }

@@ -19,17 +19,16 @@ use Rattle.token_cursor.specs.declared.level.Level.TheVariants.{Product}
 use Rattle.lua_parse.proofs.LevelLemmas.{same_rank, rank_looser, chain_leads, failed_chain, failed_operators, next_operand, at_most_product, less, not_less}
 use Rattle.token_cursor.specs.Words.{first}
 use Rattle.tree_making.specs.Made.{all_plain, all_fields, all_stats, all_arms}
-use Rattle.lua_parse.proofs.Steps.{Comes, Leads, starts, picked, passed, turned, holds, fails, stayed, mapped, placed, neither_first, neither_second, either_second, refused, found, failed, ended, ended_as, into, answered, has_room, no_room, one_less}
+use Rattle.lua_parse.proofs.Steps.{Comes, Leads, starts, picked, passed, turned, holds, fails, stayed, mapped, placed, neither_first, neither_second, either_second, refused, found, failed_by, ended, ended_as, into, answered, has_room, no_room, one_less}
 use Rattle.lua_parse.proofs.assignment.function_name.Goals as goal
 
 pub returns-in_err-first-clause-reads : goal.returns-in_err-first-clause-reads
-returns-in_err-first-clause-reads c =
-    let r : c.from_residual.result ≡ Err c.in_err-first.field-0.0 = search rules in rw r (failed (starts function_name c.args.room c.args.cursor.now) _ c.in_err-first.ensures.reads)
+returns-in_err-first-clause-reads c = failed_by (starts function_name c.args.room c.args.cursor.now) c.in_err-first.ensures.reads (search rules)
 
 pub returns-in_err-exp-clause-reads : goal.returns-in_err-exp-clause-reads
 returns-in_err-exp-clause-reads c =
     let l1 = found (starts function_name c.args.room c.args.cursor.now) (c.in_ok-first.ensures.reads.tells) in
-    let r : c.from_residual-in_err-exp.result ≡ Err c.in_err-exp.field-0.0 = search rules in rw r (failed l1 _ (rw (c.in_ok-first-2.ensures.node, c.in_ok-first-2.ensures.levels) at c.in_err-exp.ensures.reads))
+    failed_by l1 (rw (c.in_ok-first-2.ensures.node, c.in_ok-first-2.ensures.levels) at c.in_err-exp.ensures.reads) (search rules)
 
 pub returns-then-not-is-clause-reads : goal.returns-then-not-is-clause-reads
 returns-then-not-is-clause-reads c =
@@ -45,7 +44,7 @@ returns-in_err-exp-2-clause-reads c =
     let l2 = found l1 ((rw (c.in_ok-first-2.ensures.node, c.in_ok-first-2.ensures.levels) at c.in_ok-exp.ensures.reads).tells) in
     let l3 = picked l2 c.if-not-is.ensures.more in
     let l4 = holds _ l3 (sym c.if-not-is.ensures.is) in
-    let r : c.from_residual-in_err-exp-2.result ≡ Err c.in_err-exp-2.field-0.0 = search rules in rw r (failed l4 _ c.in_err-exp-2.ensures.reads)
+    failed_by l4 c.in_err-exp-2.ensures.reads (search rules)
 
 pub returns-clause-reads : goal.returns-clause-reads
 returns-clause-reads c =

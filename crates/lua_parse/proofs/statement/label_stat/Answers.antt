@@ -18,27 +18,20 @@ use Rattle.token_cursor.specs.declared.level.Level.TheVariants.{Product}
 use Rattle.lua_parse.proofs.LevelLemmas.{same_rank, rank_looser, chain_leads, failed_chain, failed_operators, next_operand, at_most_product, less, not_less}
 use Rattle.token_cursor.specs.Words.{first}
 use Rattle.tree_making.specs.Made.{all_plain, all_fields, all_stats, all_arms}
-use Rattle.lua_parse.proofs.Steps.{Comes, Leads, starts, picked, passed, turned, holds, fails, stayed, mapped, placed, neither_first, neither_second, either_second, refused, found, failed, ended, ended_as, into, answered, has_room, no_room, one_less}
+use Rattle.lua_parse.proofs.Steps.{Comes, Leads, starts, picked, passed, turned, holds, fails, stayed, mapped, placed, neither_first, neither_second, either_second, refused, found, failed_by, ended, ended_as, into, answered, has_room, no_room, one_less}
 use Rattle.lua_parse.proofs.statement.label_stat.Goals as goal
 
 pub returns-in_err-line-clause-reads : goal.returns-in_err-line-clause-reads
-returns-in_err-line-clause-reads c =
-    let r : c.from_residual.result ≡ Err c.in_err-line.field-0.0 = search rules in rw r (failed (starts label_stat c.args.room c.args.cursor.now) _ c.in_err-line.ensures.reads)
+returns-in_err-line-clause-reads c = failed_by (starts label_stat c.args.room c.args.cursor.now) c.in_err-line.ensures.reads (search rules)
 
 pub returns-in_err-name-clause-reads : goal.returns-in_err-name-clause-reads
-returns-in_err-name-clause-reads c =
-    let l1 = found (starts label_stat c.args.room c.args.cursor.now) (c.in_ok-line.ensures.reads.tells) in
-    let r : c.from_residual-in_err-name.result ≡ Err c.in_err-name.field-0.0 = search rules in rw r (failed l1 _ c.in_err-name.ensures.reads)
+returns-in_err-name-clause-reads c = failed_by (found (starts label_stat c.args.room c.args.cursor.now) (c.in_ok-line.ensures.reads.tells)) c.in_err-name.ensures.reads (search rules)
 
 pub returns-in_err-expect-clause-reads : goal.returns-in_err-expect-clause-reads
 returns-in_err-expect-clause-reads c =
-    let l1 = found (starts label_stat c.args.room c.args.cursor.now) (c.in_ok-line.ensures.reads.tells) in
-    let l2 = found l1 (c.in_ok-name.ensures.reads.tells) in
-    let r : c.from_residual-in_err-expect.result ≡ Err c.in_err-expect.field-0.0 = search rules in rw r (failed l2 _ c.in_err-expect.ensures.reads)
+    failed_by (found (found (starts label_stat c.args.room c.args.cursor.now) (c.in_ok-line.ensures.reads.tells)) (c.in_ok-name.ensures.reads.tells)) c.in_err-expect.ensures.reads (search rules)
 
 pub returns-clause-reads : goal.returns-clause-reads
 returns-clause-reads c =
-    let l1 = found (starts label_stat c.args.room c.args.cursor.now) (c.in_ok-line.ensures.reads.tells) in
-    let l2 = found l1 (c.in_ok-name.ensures.reads.tells) in
-    let l3 = found l2 (c.in_ok-expect.ensures.reads.tells) in
-    record { tells = ended_as l3 (ap a_stat c.bare_stat.ensures.node) c.bare_stat.ensures.levels }
+    let l1 = found (found (starts label_stat c.args.room c.args.cursor.now) (c.in_ok-line.ensures.reads.tells)) (c.in_ok-name.ensures.reads.tells) in
+    record { tells = ended_as (found l1 (c.in_ok-expect.ensures.reads.tells)) (ap a_stat c.bare_stat.ensures.node) c.bare_stat.ensures.levels }
