@@ -18,6 +18,10 @@ use Rattle.chunk_check.specs.Finds.{IsFirst}
 pub entry : {A : Type 0} (xs : List A) (n : ℕ) (x : A) → n < length xs → x ≡ get_or xs n x → slice_get xs n ≡ Some x
 entry xs n x within is = slice_get-get_or xs n x within ∙ ap (λ y. Some y) (sym is)
 
+-- the same of a list that is shown as another
+pub shown_entry : {A : Type 0} (xs ys : List A) (n : ℕ) (x : A) → xs ≡ ys → n < length ys → x ≡ get_or ys n x → slice_get xs n ≡ Some x
+shown_entry xs ys n x shown within is = ap (λ zs. slice_get zs n) shown ∙ entry ys n x within is
+
 abbrev pub or_else : Option ℕ → Option ℕ → Option ℕ
 or_else None other = other
 or_else (Some rule) other = Some rule
@@ -133,31 +137,39 @@ pub inner_is_first : (function : ℕ) (p : Prototype) (ps : List Prototype) (n :
     own_faults function p p.own.code ≡ [] → IsFirst (inner_faults (function + 1) p.inner) fault → IsFirst (inner_faults function (prototypes (drop n ps))) fault
 inner_is_first function p ps n fault there own first = rw (drop-there ps n p there, own) (is_first_still (inner_faults (function + 1) p.inner) _ fault first)
 
--- a function that can be written has inner ones that can, and so can be written with fewer of them
+-- what a function that can be written says of its first inner function and of those behind it
+record FirstFits (parent own : Parts) (inner rest : Prototypes) : Type 0 where
+  fits : (parts_fit own && (all_fit own inner && all_fit parent rest)) ≡ true
+  deep : depth (more own inner rest) < greatest_depth
+  many : 1 + count (more own inner rest) < 2 ^ 31
+
+first_fits : (parent own : Parts) (inner rest : Prototypes) → is_writable (record { own = parent; inner = more own inner rest }) ≡ true → FirstFits parent own inner rest
+first_fits parent own inner rest h =
+    let within = rest_of (parts_fit parent) h in
+    let sizes = rest_of (all_fit parent (more own inner rest)) within in
+    record {
+      fits = rest_of (keeps_source parent own) (first_of_two (all_fit parent (more own inner rest)) _ within);
+      deep = (Decides-ltb (depth (more own inner rest)) greatest_depth).0 (first_of_two (nat_lt (depth (more own inner rest)) greatest_depth) _ sizes);
+      many = (Decides-ltb (1 + count (more own inner rest)) (2 ^ 31)).0 (rest_of (nat_lt (depth (more own inner rest)) greatest_depth) sizes);
+    }
+
+-- so it has inner ones that can be written, and can be written with fewer of them
 
 pub writable_first : (parent own : Parts) (inner rest : Prototypes) → is_writable (record { own = parent; inner = more own inner rest }) ≡ true →
     is_writable (record { own = own; inner = inner }) ≡ true
 writable_first parent own inner rest h =
-    let within = rest_of (parts_fit parent) h in
-    let fits = rest_of (keeps_source parent own) (first_of_two (all_fit parent (more own inner rest)) _ within) in
-    let sizes = rest_of (all_fit parent (more own inner rest)) within in
-    let deep = (Decides-ltb (depth (more own inner rest)) greatest_depth).0 (first_of_two (nat_lt (depth (more own inner rest)) greatest_depth) _ sizes) in
-    let many = (Decides-ltb (1 + count (more own inner rest)) (2 ^ 31)).0 (rest_of (nat_lt (depth (more own inner rest)) greatest_depth) sizes) in
-    let less_deep : depth inner < greatest_depth = omega arith in
-    let fewer : 1 + count inner < 2 ^ 31 = omega arith in
-    rw (first_of_two (parts_fit own) _ fits, first_of_two (all_fit own inner) _ (rest_of (parts_fit own) fits), (Decides-ltb (depth inner) greatest_depth).1 less_deep, (Decides-ltb (1 + count inner) (2 ^ 31)).1 fewer) refl
+    let k = first_fits parent own inner rest h in
+    let less_deep : depth inner < greatest_depth = omega (arith, k.deep) in
+    let fewer : 1 + count inner < 2 ^ 31 = omega (arith, k.many) in
+    rw (first_of_two (parts_fit own) _ k.fits, first_of_two (all_fit own inner) _ (rest_of (parts_fit own) k.fits), (Decides-ltb (depth inner) greatest_depth).1 less_deep, (Decides-ltb (1 + count inner) (2 ^ 31)).1 fewer) refl
 
 pub writable_rest : (parent own : Parts) (inner rest : Prototypes) → is_writable (record { own = parent; inner = more own inner rest }) ≡ true →
     is_writable (record { own = parent; inner = rest }) ≡ true
 writable_rest parent own inner rest h =
-    let within = rest_of (parts_fit parent) h in
-    let fits = rest_of (keeps_source parent own) (first_of_two (all_fit parent (more own inner rest)) _ within) in
-    let sizes = rest_of (all_fit parent (more own inner rest)) within in
-    let deep = (Decides-ltb (depth (more own inner rest)) greatest_depth).0 (first_of_two (nat_lt (depth (more own inner rest)) greatest_depth) _ sizes) in
-    let many = (Decides-ltb (1 + count (more own inner rest)) (2 ^ 31)).0 (rest_of (nat_lt (depth (more own inner rest)) greatest_depth) sizes) in
-    let less_deep : depth rest < greatest_depth = omega arith in
-    let fewer : 1 + count rest < 2 ^ 31 = omega arith in
-    rw (first_of_two (parts_fit parent) _ h, rest_of (all_fit own inner) (rest_of (parts_fit own) fits), (Decides-ltb (depth rest) greatest_depth).1 less_deep, (Decides-ltb (1 + count rest) (2 ^ 31)).1 fewer) refl
+    let k = first_fits parent own inner rest h in
+    let less_deep : depth rest < greatest_depth = omega (arith, k.deep) in
+    let fewer : 1 + count rest < 2 ^ 31 = omega (arith, k.many) in
+    rw (first_of_two (parts_fit parent) _ h, rest_of (all_fit own inner) (rest_of (parts_fit own) k.fits), (Decides-ltb (depth rest) greatest_depth).1 less_deep, (Decides-ltb (1 + count rest) (2 ^ 31)).1 fewer) refl
 
 pub writable_at : (parent : Parts) (ps : List Prototype) (n : ℕ) (p : Prototype) → slice_get ps n ≡ Some p →
     is_writable (record { own = parent; inner = prototypes (drop n ps) }) ≡ true → is_writable p ≡ true
