@@ -38,24 +38,31 @@ lists_of p = record { code = p.code; constants = p.constants; upvalues = p.upval
 abbrev details_of : Parts → Details
 details_of p = record { line_info = p.line_info; abs_lines = p.abs_lines; locals = p.locals; up_names = p.up_names }
 
-record Fits (p : Parts) : Type 0 where
-  source : name_fits p.source ≡ true
-  line_defined : number_fits p.line_defined ≡ true
-  last_line : number_fits p.last_line ≡ true
-  lists : lists_fit p ≡ true
-  entries : entries_fit p ≡ true
+-- what a function that can be written says of each of its parts
+pub record Fits (p : Parts) : Type 0 where
+  pub source : name_fits p.source ≡ true
+  pub line_defined : number_fits p.line_defined ≡ true
+  pub last_line : number_fits p.last_line ≡ true
+  pub params : byte_fits p.params ≡ true
+  pub stack : byte_fits p.stack ≡ true
+  pub lists : lists_fit p ≡ true
+  pub entries : entries_fit p ≡ true
 
-fits_of : (p : Parts) → parts_fit p ≡ true → Fits p
+pub fits_of : (p : Parts) → parts_fit p ≡ true → Fits p
 fits_of p h =
     let a = rest_of (name_fits p.source) h in
     let b = rest_of (number_fits p.line_defined) a in
-    let c = rest_of (byte_fits p.stack) (rest_of (byte_fits p.params) (rest_of (number_fits p.last_line) b)) in
+    let c = rest_of (number_fits p.last_line) b in
+    let d = rest_of (byte_fits p.params) c in
+    let e = rest_of (byte_fits p.stack) d in
     record {
       source = first_of_two (name_fits p.source) _ h;
       line_defined = first_of_two (number_fits p.line_defined) _ a;
       last_line = first_of_two (number_fits p.last_line) _ b;
-      lists = first_of_two (lists_fit p) _ c;
-      entries = rest_of (lists_fit p) c;
+      params = first_of_two (byte_fits p.params) _ c;
+      stack = first_of_two (byte_fits p.stack) _ d;
+      lists = first_of_two (lists_fit p) _ e;
+      entries = rest_of (lists_fit p) e;
     }
 
 head_spelled : (parent : Option (List ℕ)) (p : Parts) → Fits p → (is_none parent || is_some p.source) ≡ true → HeadOf parent (head_of p) (spelled.head parent p)
@@ -165,19 +172,13 @@ and_true false b h k = absurd (cc)
 
 stripped_fits : (p : Parts) → parts_fit p ≡ true → parts_fit (kept_parts true p) ≡ true
 stripped_fits p h =
-    let a = rest_of (name_fits p.source) h in
-    let b = rest_of (number_fits p.line_defined) a in
-    let c = rest_of (number_fits p.last_line) b in
-    let d = rest_of (byte_fits p.params) c in
-    let e = rest_of (byte_fits p.stack) d in
-    let lists = first_of_two (lists_fit p) _ e in
-    let entries = rest_of (lists_fit p) e in
-    let constants = rest_of (list_fits p.code) lists in
-    let entry_constants = rest_of (list_all word_fits p.code) entries in
-    and_true _ _ (first_of_two (number_fits p.line_defined) _ a) (and_true _ _ (first_of_two (number_fits p.last_line) _ b) (and_true _ _ (first_of_two (byte_fits p.params) _ c) (and_true _ _ (first_of_two (byte_fits p.stack) _ d)
+    let f = fits_of p h in
+    let constants = rest_of (list_fits p.code) f.lists in
+    let entry_constants = rest_of (list_all word_fits p.code) f.entries in
+    and_true _ _ f.line_defined (and_true _ _ f.last_line (and_true _ _ f.params (and_true _ _ f.stack
     (and_true _ _
-    (and_true _ _ (first_of_two (list_fits p.code) _ lists) (and_true _ _ (first_of_two (list_fits p.constants) _ constants) (and_true _ _ (first_of_two (nat_le (length p.upvalues) 255) _ (rest_of (list_fits p.constants) constants)) refl)))
-    (and_true _ _ (first_of_two (list_all word_fits p.code) _ entries) (and_true _ _ (first_of_two (list_all constant_fits p.constants) _ entry_constants) (and_true _ _ (first_of_two (list_all upvalue_fits p.upvalues) _ (rest_of (list_all constant_fits p.constants) entry_constants)) refl)))))))
+    (and_true _ _ (first_of_two (list_fits p.code) _ f.lists) (and_true _ _ (first_of_two (list_fits p.constants) _ constants) (and_true _ _ (first_of_two (nat_le (length p.upvalues) 255) _ (rest_of (list_fits p.constants) constants)) refl)))
+    (and_true _ _ (first_of_two (list_all word_fits p.code) _ f.entries) (and_true _ _ (first_of_two (list_all constant_fits p.constants) _ entry_constants) (and_true _ _ (first_of_two (list_all upvalue_fits p.upvalues) _ (rest_of (list_all constant_fits p.constants) entry_constants)) refl)))))))
 
 all_stripped_fit : (parent : Parts) (ps : Prototypes) → all_fit parent ps ≡ true → all_fit (kept_parts true parent) (all_kept true ps) ≡ true
 all_stripped_fit parent none h = refl

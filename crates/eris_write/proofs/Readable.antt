@@ -8,8 +8,9 @@ use Rattle.code_core.specs.declared.opcode.Opcode.TheVariants.{Concat}
 use Rattle.code_core.specs.Check.{IsChecked}
 use Rattle.code_core.specs.Instruction.{b_of}
 use Rattle.code_core.specs.Prototype.{Parts, Prototype}
-use Rattle.code_core.specs.Writable.{Writable, byte_fits, entries_fit, list_fits, lists_fit, name_fits, number_fits, parts_fit}
+use Rattle.code_core.specs.Writable.{Writable, list_fits, parts_fit}
 use Rattle.code_core.proofs.CheckedLemmas.{described_is_writable, first_of_two, rest_of}
+use Rattle.chunk_format.proofs.SpelledFunctions.{fits_of}
 use Rattle.machine_core.specs.World.{Function as MachineFunction, for_concat, read_cell}
 use Rattle.table_core.specs.declared.value.Value.{Value as Kept}
 use Rattle.table_core.specs.declared.value.Value.TheVariants as kept
@@ -122,14 +123,7 @@ code_found ps n p g = sym (ap code_or_none g)
 
 few_upvalues : (p : Parts) → parts_fit p ≡ true → length p.upvalues ≤ 255
 few_upvalues p h =
-    let a = rest_of (name_fits p.source) h in
-    let b = rest_of (number_fits p.line_defined) a in
-    let c = rest_of (number_fits p.last_line) b in
-    let d = rest_of (byte_fits p.params) c in
-    let e = rest_of (byte_fits p.stack) d in
-    let f = first_of_two (lists_fit p) (entries_fit p) e in
-    let g = rest_of (list_fits p.code) f in
-    let k = rest_of (list_fits p.constants) g in
+    let k = rest_of (list_fits p.constants) (rest_of (list_fits p.code) (fits_of p h).lists) in
     le_of (length p.upvalues) 255 (first_of_two (nat_le (length p.upvalues) 255) _ k)
 
 pub few_cells : (f : MachineFunction) → IsWhole f → length f.cells ≤ 255
