@@ -1,17 +1,19 @@
 -- Pieces that open and take lists of values: calls, `...`, returns and the items of a constructor.
-use Rattle.std.proofs.Common.{◌≡◌, ℕ, ◌<◌, ◌≤◌, ◌^◌, ◌/◌, ◌%◌, lit<, Bool, true, false, not, cond, if◌then◌else◌, ◌&&◌, ◌==◌, [], ◌∷◌, Some, None, refl, sym, ap, ap₂, ◌∙◌, arith, ltb-true, ne_eqb}
+use Rattle.std.proofs.Common.{◌≡◌, ℕ, ◌<◌, ◌≤◌, ◌^◌, ◌/◌, ◌%◌, lit<, Bool, true, false, not, cond, if◌then◌else◌, ◌&&◌, ◌==◌, [], ◌∷◌, Option, Some, None, refl, sym, ap, ap₂, ◌∙◌, arith, ltb-true, ne_eqb}
 use Rattle.std.specs.Prelude.{nat_lt}
 use Rattle.code_core.specs.declared.opcode.Opcode.{Opcode}
 use Rattle.code_core.specs.declared.opcode.Opcode.TheVariants.{Jmp, Call, TailCall, VarArg, Return, SetList, NewTable, ExtraArg}
 use Rattle.code_core.specs.Instruction.{abc, op_ax, a_of, b_of, c_of}
-use Rattle.code_core.specs.Fields.{takes_list, opens}
+use Rattle.code_core.specs.declared.instruction.Instruction.{Instruction}
+use Rattle.code_core.specs.Fields.{is_whole, constants, upvalues, second_half, stands_second, takes_list, opens}
+use Rattle.code_core.specs.Check.{function_there, varargs_fit}
 use Rattle.code_core.specs.Prototype.{Prototype}
 use Rattle.code_core.proofs.FieldLemmas.{opcode_of-abc, a_of-abc, b_of-abc, c_of-abc, opcode_of-ax}
 use Rattle.code_of.specs.Coded.{with_abc, leaving_by}
 use Rattle.code_of.specs.Expressions.{set_list}
 use Rattle.code_checked.proofs.Pieces.{Seam, closed, listed, returned, Piece}
-use Rattle.code_checked.proofs.Units.{starts_by, leaves_none, begins_none, Takes, Gives, Plain, StillCouple, one, two}
-use Rattle.code_checked.proofs.Words.{abc_fits, ax_fits, pair, first_new_table, last_extra, joined, joined_set_list}
+use Rattle.code_checked.proofs.Units.{starts_by, leaves_none, begins_none, Takes, Gives, Single, Plain, StillCouple, one, two}
+use Rattle.code_checked.proofs.Words.{abc_fits, ax_fits, list_none, pair, first_new_table, last_extra, joined, joined_set_list}
 use Rattle.code_of.proofs.Fields.{k_of-abc}
 use Rattle.list_laws.proofs.Tests.{is_zero}
 
@@ -53,60 +55,54 @@ module _ (p : Prototype) where
       e ∙ ap₂ (λ n r. if n == 0 then Some r else None) (c_of-abc op a b c k af bf cf) (a_of-abc op a b c k af) ∙ ap (λ t. if t then Some a else None) (is_zero c h.0) ∙ ap Some (sym h.1)
   gives_by returned op a b c k af bf cf e h = absurd h
 
+  -- an opcode that stands alone, names no constant and no upvalue, and has no function
+  record IsBare (op : Opcode) : Type 0 where
+    whole : is_whole op ≡ true
+    alone : stands_second op ≡ false
+    constant : (w : Instruction) (extra : Option ℕ) → constants op w extra ≡ []
+    upvalue : (w : Instruction) → upvalues op w ≡ []
+    inner : (w : Instruction) → function_there p op w ≡ true
+    half : (w : Instruction) → second_half op w ≡ None
+
+  -- its instruction, given the lists that it takes and gives
+  abbrev bare : (f m : Seam) (op : Opcode) → IsBare op → (a b c : ℕ) (k : Bool) → a < 2 ^ 8 → b < 2 ^ 8 → c < 2 ^ 8 → Gives p m op (abc op a b c k) → Takes p f op (abc op a b c k)
+      → ((pc : ℕ) → not (pc == 0 && p.own.vararg) ≡ true → varargs_fit p pc op ≡ true) → Single p f m (abc op a b c k)
+  bare f m op s a b c k af bf cf gives takes varargs = record {
+    opcode = op;
+    is = opcode_of-abc op a b c k;
+    whole = s.whole;
+    fits = abc_fits op a b c k af bf cf;
+    alone = s.alone;
+    constant = λ extra. list_none p _ _ (s.constant (abc op a b c k) extra);
+    upvalue = list_none p _ _ (s.upvalue (abc op a b c k));
+    inner = λ pc here. s.inner (abc op a b c k);
+    half = s.half (abc op a b c k);
+    gives = gives;
+    takes = takes;
+    varargs = varargs;
+  }
+
   pub call_piece : {H : Type 0} {pc : ℕ} (f m : Seam) (t b c line : ℕ) → t < 2 ^ 8 → b < 2 ^ 8 → c < 2 ^ 8 → TakesField f t b → GivesField m t c → Piece p H f m pc (with_abc Call t b c line ∷ [])
   call_piece {H} {pc} f m t b c line tf bf cf takes gives = one p f m (abc Call t b c false) line (record {
-    single = record {
-      opcode = Call;
-      is = opcode_of-abc Call t b c false;
-      whole = refl;
-      fits = abc_fits Call t b c false tf bf cf;
-      alone = refl;
-      constant = λ extra. refl;
-      upvalue = refl;
-      inner = λ pc here. refl;
-      half = refl;
-      gives = gives_by m Call t b c false tf bf cf refl gives;
-      takes = takes_by f Call t b c false tf bf refl takes;
-      varargs = λ pc h. h;
-    };
+    single = bare f m Call
+        (record { whole = refl; alone = refl; constant = λ w extra. refl; upvalue = λ w. refl; inner = λ w. refl; half = λ w. refl })
+        t b c false tf bf cf (gives_by m Call t b c false tf bf cf refl gives) (takes_by f Call t b c false tf bf refl takes) (λ pc h. h);
     still = λ pc. refl;
   })
 
   pub vararg_piece : {H : Type 0} {pc : ℕ} (m : Seam) (t c line : ℕ) → t < 2 ^ 8 → c < 2 ^ 8 → p.own.vararg ≡ true → GivesField m t c → Piece p H closed m pc (with_abc VarArg t 0 c line ∷ [])
   vararg_piece {H} {pc} m t c line tf cf has gives = one p closed m (abc VarArg t 0 c false) line (record {
-    single = record {
-      opcode = VarArg;
-      is = opcode_of-abc VarArg t 0 c false;
-      whole = refl;
-      fits = abc_fits VarArg t 0 c false tf (lit< tt) cf;
-      alone = refl;
-      constant = λ extra. refl;
-      upvalue = refl;
-      inner = λ pc here. refl;
-      half = refl;
-      gives = gives_by m VarArg t 0 c false tf (lit< tt) cf refl gives;
-      takes = refl;
-      varargs = λ pc h. in_front_of (pc == 0) p.own.vararg has h;
-    };
+    single = bare closed m VarArg
+        (record { whole = refl; alone = refl; constant = λ w extra. refl; upvalue = λ w. refl; inner = λ w. refl; half = λ w. refl })
+        t 0 c false tf (lit< tt) cf (gives_by m VarArg t 0 c false tf (lit< tt) cf refl gives) refl (λ pc h. in_front_of (pc == 0) p.own.vararg has h);
     still = λ pc. refl;
   })
 
   pub any_return_piece : {H : Type 0} {pc : ℕ} (f : Seam) (flag : Bool) (t b back line : ℕ) → t < 2 ^ 8 → b < 2 ^ 8 → back < 2 ^ 8 → TakesField f t b → Piece p H f returned pc ((abc Return t b back flag, line) ∷ [])
   any_return_piece {H} {pc} f flag t b back line tf bf cf takes = one p f returned (abc Return t b back flag) line (record {
-    single = record {
-      opcode = Return;
-      is = opcode_of-abc Return t b back flag;
-      whole = refl;
-      fits = abc_fits Return t b back flag tf bf cf;
-      alone = refl;
-      constant = λ extra. refl;
-      upvalue = refl;
-      inner = λ pc here. refl;
-      half = refl;
-      gives = (refl, refl);
-      takes = takes_by f Return t b back flag tf bf refl takes;
-      varargs = λ pc h. h;
-    };
+    single = bare f returned Return
+        (record { whole = refl; alone = refl; constant = λ w extra. refl; upvalue = λ w. refl; inner = λ w. refl; half = λ w. refl })
+        t b back flag tf bf cf (refl, refl) (takes_by f Return t b back flag tf bf refl takes) (λ pc h. h);
     still = λ pc. refl;
   })
 
@@ -115,20 +111,9 @@ module _ (p : Prototype) where
 
   pub tail_piece : {H : Type 0} {pc : ℕ} (f : Seam) (t b back line : ℕ) → t < 2 ^ 8 → b < 2 ^ 8 → back < 2 ^ 8 → TakesField f t b → Piece p H f (listed t) pc (leaving_by TailCall t b back line ∷ [])
   tail_piece {H} {pc} f t b back line tf bf cf takes = one p f (listed t) (abc TailCall t b back (nat_lt 0 t)) line (record {
-    single = record {
-      opcode = TailCall;
-      is = opcode_of-abc TailCall t b back (nat_lt 0 t);
-      whole = refl;
-      fits = abc_fits TailCall t b back (nat_lt 0 t) tf bf cf;
-      alone = refl;
-      constant = λ extra. refl;
-      upvalue = refl;
-      inner = λ pc here. refl;
-      half = refl;
-      gives = ap Some (a_of-abc TailCall t b back (nat_lt 0 t) tf);
-      takes = takes_by f TailCall t b back (nat_lt 0 t) tf bf refl takes;
-      varargs = λ pc h. h;
-    };
+    single = bare f (listed t) TailCall
+        (record { whole = refl; alone = refl; constant = λ w extra. refl; upvalue = λ w. refl; inner = λ w. refl; half = λ w. refl })
+        t b back (nat_lt 0 t) tf bf cf (ap Some (a_of-abc TailCall t b back (nat_lt 0 t) tf)) (takes_by f TailCall t b back (nat_lt 0 t) tf bf refl takes) (λ pc h. h);
     still = λ pc. refl;
   })
 

@@ -42,18 +42,7 @@ source = Some (codes "@s.lua")
 
 inner_near : AreNear source gives_back
 unfolding opcodes number_of
-inner_near = (
-  record {
-    params = lit< tt;
-    room = lit< tt;
-    upvalues = lit≤ tt;
-    code = lit≤ tt;
-    constants = lit≤ tt;
-    functions = lit≤ tt;
-    locals = lit< tt;
-  },
-  (tt, (lit< tt, ((lit< tt, lit< tt), tt))),
-)
+inner_near = (record { params = lit< tt; room = lit< tt; upvalues = lit≤ tt; code = lit≤ tt; constants = lit≤ tt; functions = lit≤ tt; locals = lit< tt }, (tt, (lit< tt, ((lit< tt, lit< tt), tt))))
 
 -- how long a jump is hangs on whether the function makes functions
 either_way : (P : Bool → Type 0) → P true → P false → (b : Bool) → P b

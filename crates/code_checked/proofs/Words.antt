@@ -28,18 +28,26 @@ pub ax_fits : (op : Opcode) (ax : ℕ) → ax < 2 ^ 25 → word_fits (op_ax op a
 ax_fits op ax af = let small = number_below op in lt-ltb _ _ (omega (arith, small, af))
 
 module _ (p : Prototype) where
-  -- an opcode without constants, upvalues, pairs, lists and jumps
-  pub record IsSimple (op : Opcode) : Type 0 where
+  -- an opcode without constants, upvalues, lists and jumps, and the one with which it begins a pair, if there is one
+  pub record IsOrdinary (op : Opcode) (second : Option Opcode) : Type 0 where
     pub whole : is_whole op ≡ true
     pub alone : stands_second op ≡ false
     pub constant : (w : Instruction) (extra : Option ℕ) → constants op w extra ≡ []
     pub upvalue : (w : Instruction) → upvalues op w ≡ []
     pub inner : (w : Instruction) → function_there p op w ≡ true
-    pub half : (w : Instruction) → second_half op w ≡ None
+    pub half : (w : Instruction) → second_half op w ≡ second
     pub gives : (w : Instruction) → opens op w ≡ None
     pub takes : (w : Instruction) → takes_list op w ≡ false
     pub still : (pc : ℕ) (w : Instruction) → target pc op w ≡ None
     pub varargs : (pc : ℕ) → varargs_fit p pc op ≡ not (pc == 0 && p.own.vararg)
+
+  -- one that begins no pair
+  abbrev pub IsSimple : Opcode → Type 0
+  IsSimple op = IsOrdinary op None
+
+  -- one that begins a pair
+  abbrev pub IsFirst : (op second : Opcode) → Type 0
+  IsFirst op second = IsOrdinary op (Some second)
 
   -- one that stands alone, whatever it names: no half of a pair, without a list and without a function
   pub record IsAlone (op : Opcode) : Type 0 where
@@ -49,19 +57,6 @@ module _ (p : Prototype) where
     pub half : (w : Instruction) → second_half op w ≡ None
     pub gives : (w : Instruction) → opens op w ≡ None
     pub takes : (w : Instruction) → takes_list op w ≡ false
-    pub varargs : (pc : ℕ) → varargs_fit p pc op ≡ not (pc == 0 && p.own.vararg)
-
-  -- one that begins a pair
-  pub record IsFirst (op second : Opcode) : Type 0 where
-    pub whole : is_whole op ≡ true
-    pub alone : stands_second op ≡ false
-    pub constant : (w : Instruction) (extra : Option ℕ) → constants op w extra ≡ []
-    pub upvalue : (w : Instruction) → upvalues op w ≡ []
-    pub inner : (w : Instruction) → function_there p op w ≡ true
-    pub half : (w : Instruction) → second_half op w ≡ Some second
-    pub gives : (w : Instruction) → opens op w ≡ None
-    pub takes : (w : Instruction) → takes_list op w ≡ false
-    pub still : (pc : ℕ) (w : Instruction) → target pc op w ≡ None
     pub varargs : (pc : ℕ) → varargs_fit p pc op ≡ not (pc == 0 && p.own.vararg)
 
   -- the first half of a pair, whatever constants it names and whatever list it takes
