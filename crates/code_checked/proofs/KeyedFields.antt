@@ -79,21 +79,15 @@ module _ (p : Prototype) (W : Whole p) (source : Option (List ℕ)) (H : Type 0)
       (both p
       (both p (key_piece p H s (exp_code p.own.constants e (t + 1) j 2) (one_e (t + 1) j _ size cs (from_exp source d (from_fields source more_fields rest)) near.0 (omega (arith, le)) known_e fs))
       (both p (value_piece p H value (exp_code p.own.constants d (t + 2) (j + made_by e) 2) (one_d (t + 2) (j + made_by e) _ size named (from_fields source more_fields rest) near.1.0 (omega (arith, le)) known after_e))
-      (store_piece p source H s quiet e (is_constant value) t t (value_seat value (t + 2)) size at_line cs stands near.0 (omega (arith, register)) (omega (arith, register)) seat_near known_e)))
+      (store_piece p source H s (is_quiet d) e (is_constant value) t t (value_seat value (t + 2)) size at_line cs (field_key_stands p.own.constants (is_quiet d) e) near.0 (omega (arith, register)) (omega (arith, register)) seat_near known_e)))
       (laws (stored + waiting) 0 t (j + made_by e + made_by d) line _ size second rest (omega arith) (λ h. let all = few h in omega (arith, all)) (subst (λ z. FieldsAreNear source p more_fields z size t) same near.1.1) le (omega (arith, r)) g
       (after_exp source p d (j + made_by e) (from_fields source more_fields rest) after_e)))
     where
       value : StoredValue
       value = stored_value p.own.constants d
 
-      quiet : Bool
-      quiet = is_quiet d
-
       s : FieldKey
       s = field_key p.own.constants (is_quiet d) e
-
-      stands : FieldKeyStands p.own.constants (is_quiet d) e (field_key p.own.constants (is_quiet d) e)
-      stands = field_key_stands p.own.constants (is_quiet d) e
 
       above_near : t + 2 < 2 ^ 8
       above_near = let register = exp_register source p d size (t + 2) near.1.0 in omega (arith, register)

@@ -117,18 +117,21 @@ whole_fit : (cs : List Const) (back : Leaving) (n : ℕ) (block : Block) (params
 whole_fit cs back n (Falls ss tokens line) params j pc w le = stats_fit cs back n ss false params j pc (pc + whole_size cs back (Falls ss tokens line) params j) w.1 (omega (arith, le)) le
 whole_fit cs back n (Returns ss es tokens line) params j pc w le = stats_fit cs back n ss false params j pc (pc + whole_size cs back (Returns ss es tokens line) params j) w.1.0 (omega (arith, le)) le
 
+-- the variables of a function with n instructions, whose statements begin at a place
+locals_from : (params : List Name) (cs : List Const) (back : Leaving) (inner : Block) (n pc : ℕ) → NamesFit params → BlockIsWritten inner → pc + whole_size cs back inner (length params) 0 ≤ n → n < 2 ^ 31
+    → list_all local_fits (variables params 0 n ++ within_whole cs back inner (length params) 0 pc) ≡ true
+locals_from params cs back inner n pc named written le few =
+    all_locals n (variables params 0 n ++ within_whole cs back inner (length params) 0 pc) few
+    (locals_both n (variables params 0 n) _ (variables_fit n params 0 n named (omega arith) (omega arith)) (whole_fit cs back n inner (length params) 0 pc written le))
+
 pub body_locals : (body : Body) → BodyIsWritten body → length (body_code body) < 2 ^ 31 → list_all local_fits (variables_of body) ≡ true
 body_locals (BodyOf params false inner ups line) w few =
-    let n = length (body_code (BodyOf params false inner ups line)) in
     let cs = of_block inner [] in
     let back = leaving_of false (length params) inner in
     let size = whole_sized cs back inner (length params) 0 in
-    all_locals n (variables_of (BodyOf params false inner ups line)) few
-    (locals_both n (variables params 0 n) _ (variables_fit n params 0 n w.1.0 (omega arith) (omega arith)) (whole_fit cs back n inner (length params) 0 0 w.1.1.1 (omega (arith, size))))
+    locals_from params cs back inner (length (body_code (BodyOf params false inner ups line))) 0 w.1.0 w.1.1.1 (omega (arith, size)) few
 body_locals (BodyOf params true inner ups line) w few =
-    let n = length (body_code (BodyOf params true inner ups line)) in
     let cs = of_block inner [] in
     let back = leaving_of true (length params) inner in
     let size = whole_sized cs back inner (length params) 1 in
-    all_locals n (variables_of (BodyOf params true inner ups line)) few
-    (locals_both n (variables params 0 n) _ (variables_fit n params 0 n w.1.0 (omega arith) (omega arith)) (whole_fit cs back n inner (length params) 0 1 w.1.1.1 (omega (arith, size))))
+    locals_from params cs back inner (length (body_code (BodyOf params true inner ups line))) 1 w.1.0 w.1.1.1 (omega (arith, size)) few
