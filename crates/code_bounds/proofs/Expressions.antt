@@ -471,14 +471,14 @@ module _ (cs : List Const) where
         (test_e true (length second) size t j known.0 in_scope (omega (arith, small))) (keep_d true ahead size t (j + made_by e) known.1 in_scope (omega (arith, small)))
 
     or_keeps : (line : ℕ) (e d : Exp) → TestTakes e → KeepTakes e → KeepTakes d → KeepTakes (Or line e d)
-    or_keeps line e d test_e keep_e keep_d true ahead size t j known in_scope small =
-        let second = keep_code cs d true ahead t (j + made_by e) in
-        join_takes t (room_of_keep cs e true) (room_of_keep cs d true) (keep_code cs e true (length second + ahead) t j) second
-        (keep_e true (length second + ahead) size t j known.0 in_scope (omega (arith, small))) (keep_d true ahead size t (j + made_by e) known.1 in_scope (omega (arith, small)))
     or_keeps line e d test_e keep_e keep_d false ahead size t j known in_scope small =
         let second = keep_code cs d false ahead t (j + made_by e) in
         join_takes t (room_of_test cs e) (room_of_keep cs d false) (test_code cs e false (length second) t j) second
         (test_e false (length second) size t j known.0 in_scope (omega (arith, small))) (keep_d false ahead size t (j + made_by e) known.1 in_scope (omega (arith, small)))
+    or_keeps line e d test_e keep_e keep_d true ahead size t j known in_scope small =
+        let second = keep_code cs d true ahead t (j + made_by e) in
+        join_takes t (room_of_keep cs e true) (room_of_keep cs d true) (keep_code cs e true (length second + ahead) t j) second
+        (keep_e true (length second + ahead) size t j known.0 in_scope (omega (arith, small))) (keep_d true ahead size t (j + made_by e) known.1 in_scope (omega (arith, small)))
 
     mutual
       pub exp_takes : (e : Exp) → ExpTakes e

@@ -135,11 +135,11 @@ module _ (cs : List Const) where
       omega (arith, test_e true (length second) t j, keep_d true ahead t (j + made_by e), length-append front second)
 
   pub or_keeps : (line : ℕ) (e d : Exp) → Short e → KeepShort e → KeepShort d → KeepShort (Or line e d)
-  or_keeps line e d test_e keep_e keep_d true ahead t j =
-      let second = keep_code cs d true ahead t (j + made_by e) in
-      let front = keep_code cs e true (length second + ahead) t j in
-      omega (arith, keep_e true (length second + ahead) t j, keep_d true ahead t (j + made_by e), length-append front second)
   or_keeps line e d test_e keep_e keep_d false ahead t j =
       let second = keep_code cs d false ahead t (j + made_by e) in
       let front = test_code cs e false (length second) t j in
       omega (arith, test_e false (length second) t j, keep_d false ahead t (j + made_by e), length-append front second)
+  or_keeps line e d test_e keep_e keep_d true ahead t j =
+      let second = keep_code cs d true ahead t (j + made_by e) in
+      let front = keep_code cs e true (length second + ahead) t j in
+      omega (arith, keep_e true (length second + ahead) t j, keep_d true ahead t (j + made_by e), length-append front second)

@@ -297,12 +297,12 @@ module _ (cs : List Const) where
     kept_lines (And line e d) true ahead t j w h =
         let far = length (keep_code cs d true ahead t (j + made_by e)) in
         lines_both (test_code cs e true far t j) _ (tested_lines e true far t j w.1.0 (exp_lines e t j 2 w.1.0)) (kept_lines d true ahead t (j + made_by e) w.1.1 (exp_lines d t (j + made_by e) 2 w.1.1))
-    kept_lines (Or line e d) true ahead t j w h =
-        let far = length (keep_code cs d true ahead t (j + made_by e)) + ahead in
-        lines_both (keep_code cs e true far t j) _ (kept_lines e true far t j w.1.0 (exp_lines e t j 2 w.1.0)) (kept_lines d true ahead t (j + made_by e) w.1.1 (exp_lines d t (j + made_by e) 2 w.1.1))
     kept_lines (Or line e d) false ahead t j w h =
         let far = length (keep_code cs d false ahead t (j + made_by e)) in
         lines_both (test_code cs e false far t j) _ (tested_lines e false far t j w.1.0 (exp_lines e t j 2 w.1.0)) (kept_lines d false ahead t (j + made_by e) w.1.1 (exp_lines d t (j + made_by e) 2 w.1.1))
+    kept_lines (Or line e d) true ahead t j w h =
+        let far = length (keep_code cs d true ahead t (j + made_by e)) + ahead in
+        lines_both (keep_code cs e true far t j) _ (kept_lines e true far t j w.1.0 (exp_lines e t j 2 w.1.0)) (kept_lines d true ahead t (j + made_by e) w.1.1 (exp_lines d t (j + made_by e) 2 w.1.1))
     kept_lines (Unary line op e) k ahead t j w h =
         either (is_not op) _ _ (lines_both (test_code cs e (not k) 2 t j) _ (tested_lines e (not k) 2 t j w.1 (exp_lines e t j 2 w.1)) (w.0, (w.0, tt))) (leaf_lines (Unary line op e) k ahead t j w h)
     kept_lines (Binary line op e d) k ahead t j w h =
