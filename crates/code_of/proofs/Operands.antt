@@ -1,13 +1,14 @@
 -- What operands are, by where they stand.
 use Rattle.std.proofs.Common.{leb-true, ◌≡◌, ℕ, zero, suc, ◌+◌, ◌≤◌, max, pos, negsuc, Bool, true, false, cond, List, ◌++◌, length, Option, Some, None, refl, sym, ap, ◌∙◌, arith, length-append}
-use Rattle.std.specs.Prelude.{nat_le}
+use Rattle.std.specs.Prelude.{nat_le, not, ◌||◌}
 use Rattle.tree_core.specs.declared.operator.BinOp.{BinOp}
-use Rattle.tree_core.specs.declared.operator.BinOp.TheVariants.{Sub as Minus, Mul as Times, Mod as Modulo, Idiv, Band, Bor, Bxor, Shl as ShiftLeft, Concat as Join, Eq as Equal, Ne, Lt as Less, Le as AtMost, Gt, Ge}
+use Rattle.tree_core.specs.declared.operator.BinOp.TheVariants.{Sub as Minus, Mul as Times, Mod as Modulo, Idiv, Band, Bor, Bxor, Shl as ShiftLeft, Concat as Join}
 use Rattle.tree_core.specs.declared.name.Name.{Name}
 use Rattle.tree_core.specs.declared.name.Place.{Place}
 use Rattle.tree_core.specs.declared.name.Place.TheVariants.{Local as LocalPlace}
 use Rattle.tree_core.specs.Tree.{Exp, Nil, True, False, Int, Str, Vararg, Var, Unary, Binary, And, Or, Paren, Table, Exps, EndExps, MoreExps}
 use Rattle.code_of.specs.Coded.{Coded}
+use Rattle.code_of.specs.Truths.{is_compared}
 use Rattle.code_of.specs.Expressions.{made_by}
 use Rattle.code_of.specs.Operands.{local_at, local_of, lone_local, computes, is_direct, target_local, assigned, numeral_of, from_one, operand_numeral, joins, Second, a_number, a_local, made, second_by, second_of, key_operand, first_of, unless, seat, operand_code, second_code, operands_code, operands_room, second_assigned}
 
@@ -119,14 +120,11 @@ number_no_join op d n e joined = number_not_made n (sym e ∙ joins_made op d jo
 
 -- an operator that computes a value joins nothing
 pub computes_no_join : (op : BinOp) → computes op ≡ true → joins op ≡ false
-computes_no_join Join e = absurd (cc)
-computes_no_join Equal e = absurd (cc)
-computes_no_join Ne e = absurd (cc)
-computes_no_join Less e = absurd (cc)
-computes_no_join AtMost e = absurd (cc)
-computes_no_join Gt e = absurd (cc)
-computes_no_join Ge e = absurd (cc)
-computes_no_join _ e = refl
+computes_no_join op e = by (joins op) (is_compared op) e
+  where
+    by : (a b : Bool) → not (a || b) ≡ true → a ≡ false
+    by true b e = absurd (cc)
+    by false b e = refl
 
 -- where a local is assigned a value straight into its register
 

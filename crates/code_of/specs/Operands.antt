@@ -1,12 +1,13 @@
 -- Where the operands of an operator, or an object and its key, stand. The second one may be a numeral in the instruction, and a local stays in its own register where nothing is
 -- evaluated between its turn and the instruction; any other operand has a register of its own.
-use Rattle.std.specs.Prelude.{ℕ, zero, suc, ◌+◌, ℤ, pos, negsuc, Bool, true, false, cond, List, [], ◌++◌, max, nat_le, Option, Some, None}
+use Rattle.std.specs.Prelude.{ℕ, zero, suc, ◌+◌, ℤ, pos, negsuc, Bool, true, false, not, ◌||◌, cond, List, [], ◌++◌, max, nat_le, Option, Some, None}
 use Rattle.tree_core.specs.declared.name.Place.{Place}
 use Rattle.tree_core.specs.declared.name.Place.TheVariants.{Local as LocalPlace}
 use Rattle.tree_core.specs.declared.operator.BinOp.{BinOp}
 use Rattle.tree_core.specs.declared.operator.BinOp.TheVariants.{Add as Plus, Sub as Minus, Shl as ShiftLeft, Shr as ShiftRight, Concat as Join, Eq as Equal, Ne, Lt as Less, Le as AtMost, Gt, Ge}
 use Rattle.tree_core.specs.Tree.{Exp, Nil, True, False, Int, Str, Var, Index, Unary, Binary, Paren, Exps, EndExps, MoreExps}
 use Rattle.code_of.specs.Coded.{Coded}
+use Rattle.code_of.specs.Truths.{is_compared}
 
 -- the local that an expression names, in brackets or not
 
@@ -84,14 +85,7 @@ key_operand key = second_by (numeral_of key (Some 255)) (local_of key)
 -- and a field, in brackets or not. Where a local is assigned such a value alone, it goes straight to the local's register
 
 abbrev pub computes : BinOp → Bool
-computes Join = false
-computes Equal = false
-computes Ne = false
-computes Less = false
-computes AtMost = false
-computes Gt = false
-computes Ge = false
-computes _ = true
+computes op = not (joins op || is_compared op)
 
 abbrev pub is_direct : Exp → Bool
 is_direct (Nil line) = true
