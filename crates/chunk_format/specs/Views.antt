@@ -12,14 +12,7 @@ use Rattle.chunk_format.specs.declared.function.Details.{Details as DetailsHeld}
 use Rattle.chunk_format.specs.Reading.{Got, read, refused, and_then, Head, Lists, Details, read_number, read_functions}
 
 abbrev pub head_of : HeadHeld → Head
-head_of head = record {
-  source = head.source;
-  line_defined = head.line_defined;
-  last_line = head.last_line;
-  params = head.params;
-  vararg = head.vararg;
-  stack = head.stack;
-}
+head_of head = record { source = head.source; line_defined = head.line_defined; last_line = head.last_line; params = head.params; vararg = head.vararg; stack = head.stack }
 
 abbrev pub lists_of : ListsHeld → Lists
 lists_of lists = record { code = lists.code.items; constants = lists.constants.items; upvalues = lists.upvalues.items }

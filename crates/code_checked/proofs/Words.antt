@@ -270,20 +270,8 @@ module _ (p : Prototype) where
   abbrev pub lone : (op : Opcode) → IsAlone op → (w : Instruction) → opcode_of w ≡ Some op → word_fits w ≡ true
       → ((extra : Option ℕ) → list_all (λ used. there (constant_is used.0) (slice_get p.own.constants used.1)) (constants op w extra) ≡ true)
       → list_all (λ u. nat_lt u (length p.own.upvalues)) (upvalues op w) ≡ true → Single p closed closed w
-  lone op s w is fits constant upvalue = record {
-    opcode = op;
-    is = is;
-    whole = s.whole;
-    fits = fits;
-    alone = s.alone;
-    constant = constant;
-    upvalue = upvalue;
-    inner = λ pc here. s.inner w;
-    half = s.half w;
-    gives = s.gives w;
-    takes = s.takes w;
-    varargs = λ pc h. s.varargs pc ∙ h;
-  }
+  lone op s w is fits constant upvalue =
+      record { opcode = op; is = is; whole = s.whole; fits = fits; alone = s.alone; constant = constant; upvalue = upvalue; inner = λ pc here. s.inner w; half = s.half w; gives = s.gives w; takes = s.takes w; varargs = λ pc h. s.varargs pc ∙ h }
 
   pub plain : (op : Opcode) → IsSimple op → (w : Instruction) → opcode_of w ≡ Some op → word_fits w ≡ true → Plain p closed closed w
   plain op s w is fits = record {

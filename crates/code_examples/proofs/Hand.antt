@@ -1,11 +1,11 @@
 -- Short forms for prototypes that are written by hand, all on line 1.
-use Rattle.std.specs.Prelude.{◌≡◌, ℕ, Bool, true, List, [], map, Some, codes}
+use Rattle.std.specs.Prelude.{◌≡◌, ℕ, Bool, true, List, map, Some, codes}
 use Prim.Native.String.{String}
 use Rattle.tree_core.specs.Tree.{Body}
 use Rattle.code_core.specs.declared.instruction.Instruction.{Instruction}
 use Rattle.code_core.specs.declared.proto.Const.{Const}
 use Rattle.code_core.specs.declared.proto.LocVar.{LocVar}
-use Rattle.code_core.specs.Prototype.{Prototype, prototypes}
+use Rattle.code_core.specs.Prototype.{Prototype, none, prototypes, stripped}
 use Rattle.code_of.specs.CodeOf.{code_of}
 use Rattle.code_means.proofs.Forms.{zeros}
 
@@ -18,18 +18,11 @@ Outer = String × ℕ
 
 abbrev pub hand : (params : ℕ) → (vararg : Bool) → (stack : ℕ) → List Const → List Outer → List LocVar → List Prototype → List Instruction → Prototype
 hand params vararg stack constants outers variables inner words = record {
-  own = record {
+  own = record (stripped params vararg stack words constants (map (λ u. record { in_stack = true; index = u.1; kind = 0 }) outers) none).own {
     source = Some source;
     line_defined = 1;
     last_line = 1;
-    params = params;
-    vararg = vararg;
-    stack = stack;
-    code = words;
-    constants = constants;
-    upvalues = map (λ u. record { in_stack = true; index = u.1; kind = 0 }) outers;
     line_info = zeros words;
-    abs_lines = [];
     locals = variables;
     up_names = map (λ u. Some (codes u.0)) outers;
   };

@@ -9,7 +9,7 @@ use Rattle.code_core.specs.declared.proto.Const.TheVariants.{Str as ConstStr}
 use Rattle.code_core.specs.declared.proto.UpDesc.{UpDesc}
 use Rattle.code_core.specs.declared.proto.LocVar.{LocVar}
 use Rattle.code_core.specs.Instruction.{abx, op_ax}
-use Rattle.code_core.specs.Prototype.{Prototype, prototypes}
+use Rattle.code_core.specs.Prototype.{Prototype, none, prototypes, stripped}
 use Rattle.int_core.specs.Ask.{Reply, runs}
 use Rattle.tree_activation.specs.Work.{when_captured}
 use Rattle.tree_activation.specs.Activation.{start, step}
@@ -38,21 +38,7 @@ hidden from to = record { name = None; start = from; end = to }
 
 abbrev pub code : ℕ → Bool → List Const → List UpDesc → List LocVar → List Prototype → List Instruction → Prototype
 code params vararg constants upvalues variables inner words = record {
-  own = record {
-    source = None;
-    line_defined = 1;
-    last_line = 1;
-    params = params;
-    vararg = vararg;
-    stack = 12;
-    code = words;
-    constants = constants;
-    upvalues = upvalues;
-    line_info = zeros words;
-    abs_lines = [];
-    locals = variables;
-    up_names = [];
-  };
+  own = record (stripped params vararg 12 words constants upvalues none).own { line_defined = 1; last_line = 1; line_info = zeros words; locals = variables };
   inner = prototypes inner;
 }
 

@@ -44,16 +44,8 @@ code_made name source lines resolved code t is means = record {
 }
 
 pub chunk_made : (name source bytes : List ℕ) (strip : Bool) (code : Prototype) → IsCodeOf name source (not strip) code → IsChecked code → bytes ≡ spelled.chunk code → ChunkOf code bytes → IsChunkOf name source strip bytes
-chunk_made name source bytes strip code c checked wrote fits = record {
-  tree = c.tree;
-  is_source = c.is_source;
-  code = code;
-  code_is = c.code_is;
-  means = c.means;
-  checked = checked;
-  spelled = wrote;
-  in_grammar = fits;
-}
+chunk_made name source bytes strip code c checked wrote fits =
+    record { tree = c.tree; is_source = c.is_source; code = code; code_is = c.code_is; means = c.means; checked = checked; spelled = wrote; in_grammar = fits }
 
 -- a source has one chunk under a name
 pub chunk_once : (name source bytes : List ℕ) (strip : Bool) → IsChunkOf name source strip bytes → (bytes' : List ℕ) → IsChunkOf name source strip bytes' → bytes' ≡ bytes

@@ -115,16 +115,7 @@ hides_as :
     {gs frames : List Frame} {c : ℕ} {hidden : List ℕ} {t : ℕ} {us : List UpName} (hidden' : List ℕ) → View gs frames c hidden t us → AllBelow t hidden' → ((n : ℕ) → IsNoneOf n hidden → IsNoneOf n hidden')
     → View gs frames c hidden' t us
 hides_as hidden' w below none =
-    record {
-      closed = w.closed;
-      seen = w.seen;
-      depth = w.depth;
-      level = w.level;
-      most = w.most;
-      below = below;
-      shown = λ text n e. none n (w.shown text n e);
-      own = w.own;
-    }
+    record { closed = w.closed; seen = w.seen; depth = w.depth; level = w.level; most = w.most; below = below; shown = λ text n e. none n (w.shown text n e); own = w.own }
 
 pub view_counts :
     {gs frames : List Frame} {c : ℕ} {hidden : List ℕ} {t : ℕ} {us : List UpName} (name : Name) → View gs frames c hidden t us → t + 4 ≤ 200
