@@ -29,6 +29,10 @@ use Rattle.machine_arms_numbers.proofs.NumberRows.{shape_integer}
 pub kept_integer : (n : ℤ) → FitsSigned w64 n → known (integer n) ≡ known (integer (to_z w64 (of_z w64 n)))
 kept_integer n f = ap (λ n. known (integer n)) (sym (to_z-of_z w64 n f))
 
+-- the same of one that is another
+pub kept_count : (n m : ℤ) → n ≡ m → FitsSigned w64 n → known (integer m) ≡ known (integer (to_z w64 (of_z w64 n)))
+kept_count n m e f = ap (λ k. known (integer k)) (sym e) ∙ kept_integer n f
+
 -- what follows the first register, and the second
 abbrev pub third_of : ℕ → (Option ℤ → Option ℤ → Option ℤ → Text) → Option ℤ → Option ℤ → Text
 third_of base more i l = own (read_register (base + 2)) (λ _ d. more i l (integer_of_shape d))
