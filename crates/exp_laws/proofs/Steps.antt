@@ -70,19 +70,21 @@ module _ (p : Prototype) where
         ∙ own_step (read_register n) (λ v _. to_register t (read v)) [] a c (lt-ltb n (length a.registers) n_room)
         ∙ to_register_step t (read 0) w (nth a.registers n ∷ []) a c t_room there
 
+    -- a truth is loaded, at an opcode whose row does so
+    truth_step : (op : Opcode) (b : Bool) → ((v : Instruction) → row_of p a.pc op v ≡ to_register (a_of v) (written (boolean b))) → (t : ℕ) → at p a.pc ≡ Some (abc op t 0 0 false) → t < 2 ^ 8 → t < length a.registers
+        → talk_step p (before a c) ≡ goes_on (before (put_on a t (known (boolean b)) 1) c)
+    truth_step op b row t here t_fits t_room =
+        row_step (abc op t 0 0 false) op (to_register t (written (boolean b))) a c here (opcode_of-abc op t 0 0 false)
+        (row (abc op t 0 0 false) ∙ ap (λ d. to_register d (written (boolean b))) (a_of-abc op t 0 0 false t_fits))
+        ∙ to_register_step t (written (boolean b)) w [] a c t_room there
+
     pub true_step : (t : ℕ) → at p a.pc ≡ Some (abc LoadTrue t 0 0 false) → t < 2 ^ 8 → t < length a.registers
         → talk_step p (before a c) ≡ goes_on (before (put_on a t (known (boolean true)) 1) c)
-    true_step t here t_fits t_room =
-        row_step (abc LoadTrue t 0 0 false) LoadTrue (to_register t (written (boolean true))) a c here (opcode_of-abc LoadTrue t 0 0 false)
-        (ap (λ d. to_register d (written (boolean true))) (a_of-abc LoadTrue t 0 0 false t_fits))
-        ∙ to_register_step t (written (boolean true)) w [] a c t_room there
+    true_step t here t_fits t_room = truth_step LoadTrue true (λ v. refl) t here t_fits t_room
 
     pub false_step : (t : ℕ) → at p a.pc ≡ Some (abc LoadFalse t 0 0 false) → t < 2 ^ 8 → t < length a.registers
         → talk_step p (before a c) ≡ goes_on (before (put_on a t (known (boolean false)) 1) c)
-    false_step t here t_fits t_room =
-        row_step (abc LoadFalse t 0 0 false) LoadFalse (to_register t (written (boolean false))) a c here (opcode_of-abc LoadFalse t 0 0 false)
-        (ap (λ d. to_register d (written (boolean false))) (a_of-abc LoadFalse t 0 0 false t_fits))
-        ∙ to_register_step t (written (boolean false)) w [] a c t_room there
+    false_step t here t_fits t_room = truth_step LoadFalse false (λ v. refl) t here t_fits t_room
 
     pub not_step : (t x : ℕ) → at p a.pc ≡ Some (abc Not t x 0 false) → t < 2 ^ 8 → x < 2 ^ 8 → x < length a.registers → t < length a.registers
         → talk_step p (before a c) ≡ goes_on (before (put_on a t (known (boolean (not (holds (shape (nth a.registers x)))))) 1) c)

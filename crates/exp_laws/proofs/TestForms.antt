@@ -171,25 +171,22 @@ module _ (S : Setting) (pending : List Pending) where
       (decided (same_truth truth k) x y opcode field ahead line n pc opened _ regs1 (ws ++ []) c1 has inside
       (λ is. on truth env1 regs1 c1 opened af is) (λ is. away truth env1 regs1 c1 opened af is)))
 
-  -- what every condition does
-  abbrev pub TestSame : Exp → Type 0
-  TestSame e =
+  -- what every condition does, which goes on in one way where its truth is the wanted one and where it is not
+  abbrev pub ConditionSame : ((n t : ℕ) → (env regs : List Value) → (pc : ℕ) → (w : List Work) → (k b : Bool) → Type 0) → Exp → Type 0
+  ConditionSame Way e =
       (k : Bool) (ahead t j n pc opened : ℕ) (env regs : List Value) (c : Captured) (w : List Work)
       → n ≤ S.bound → HasAt S pc (test_code S.code.own.constants e k ahead t j) → IsPlaced S e (length env) j → pc + length (test_code S.code.own.constants e k ahead t j) + ahead < length S.code.own.code
       → length env ≤ t → t + room_of_test S.code.own.constants e ≤ S.code.own.stack → Rel S.hidden S.code.own.stack pending env c regs
-      → GoesIf n t env regs (pc + length (test_code S.code.own.constants e k ahead t j)) w k true
-      → GoesIf n t env regs (pc + length (test_code S.code.own.constants e k ahead t j) + ahead) w k false
+      → Way n t env regs (pc + length (test_code S.code.own.constants e k ahead t j)) w k true
+      → Way n t env regs (pc + length (test_code S.code.own.constants e k ahead t j) + ahead) w k false
       → Agree S n (tree.at (evaluate e) (of_tree S pending env c) w) (before (of_code S pending pc regs opened) c)
 
-  -- what every condition does that is a truth itself
+  abbrev pub TestSame : Exp → Type 0
+  TestSame e = ConditionSame GoesIf e
+
+  -- of one that is a truth itself
   abbrev pub TruthSame : Exp → Type 0
-  TruthSame e =
-      (k : Bool) (ahead t j n pc opened : ℕ) (env regs : List Value) (c : Captured) (w : List Work)
-      → n ≤ S.bound → HasAt S pc (test_code S.code.own.constants e k ahead t j) → IsPlaced S e (length env) j → pc + length (test_code S.code.own.constants e k ahead t j) + ahead < length S.code.own.code
-      → length env ≤ t → t + room_of_test S.code.own.constants e ≤ S.code.own.stack → Rel S.hidden S.code.own.stack pending env c regs
-      → GoesTruth n t env regs (pc + length (test_code S.code.own.constants e k ahead t j)) w k true
-      → GoesTruth n t env regs (pc + length (test_code S.code.own.constants e k ahead t j) + ahead) w k false
-      → Agree S n (tree.at (evaluate e) (of_tree S pending env c) w) (before (of_code S pending pc regs opened) c)
+  TruthSame e = ConditionSame GoesTruth e
 
   -- it goes on with any values of that truth
   truth_tested : (e : Exp) → TruthSame e → TestSame e

@@ -5,15 +5,16 @@ use Rattle.int_core.specs.Value.{Value, known, integer, primitive, nth, shape, w
 use Rattle.int_core.specs.Ask.{Captured, goes_on}
 use Rattle.tree_activation.specs.Expressions.{integer_in}
 use Rattle.tree_activation.specs.Statements.{goes_on_from}
+use Rattle.code_core.specs.declared.opcode.Opcode.{Opcode}
 use Rattle.code_core.specs.declared.opcode.Opcode.TheVariants.{ForPrep, ForLoop}
 use Rattle.code_core.specs.declared.instruction.Instruction.{Instruction}
-use Rattle.code_core.specs.Instruction.{abx}
+use Rattle.code_core.specs.Instruction.{abx, a_of, bx_of}
 use Rattle.code_core.specs.Prototype.{Prototype}
 use Rattle.code_core.specs.Check.{at}
 use Rattle.code_core.proofs.FieldLemmas.{opcode_of-abx, a_of-abx, bx_of-abx}
 use Rattle.machine_core.specs.World.{Activation}
 use Rattle.machine_core.specs.Text.{Text, written, read_register, write_register, own}
-use Rattle.machine_core.specs.InstructionRows.{next, back, integer_of_shape, with_loop, prepares, goes_round, writes_integer, runs}
+use Rattle.machine_core.specs.InstructionRows.{next, back, row_of, integer_of_shape, with_loop, prepares, goes_round, writes_integer, runs}
 use Rattle.machine_core.specs.Talk.{before, talk, talk_step}
 use Rattle.list_laws.proofs.Values.{write_more}
 use Rattle.exp_laws.proofs.Steps.{row_step, own_step, go_step}
@@ -52,19 +53,22 @@ module _ (p : Prototype) where
       ∙ own_step p (read_register (t + 1)) (λ _ l. own (read_register (t + 2)) (λ _ d. k (integer_of_shape (shape (nth a.registers t))) (integer_of_shape l) (integer_of_shape d))) (nth a.registers t ∷ []) a c (lt-ltb (t + 1) (length a.registers) (omega arith))
       ∙ own_step p (read_register (t + 2)) (λ _ d. k (integer_of_shape (shape (nth a.registers t))) (integer_of_shape (shape (nth a.registers (t + 1)))) (integer_of_shape d)) (nth a.registers t ∷ nth a.registers (t + 1) ∷ []) a c (lt-ltb (t + 2) (length a.registers) room)
 
+  -- an opcode whose row reads the three registers
+  loop_step : (op : Opcode) (rest : ℕ → ℕ → Option ℤ → Option ℤ → Option ℤ → Text) → ((pc : ℕ) (w : Instruction) → row_of p pc op w ≡ with_loop (a_of w) (rest (a_of w) (bx_of w)))
+      → (t bx : ℕ) (a : Activation) (c : Captured) → at p a.pc ≡ Some (abx op t bx) → t < 2 ^ 8 → bx < 2 ^ 17 → t + 2 < length a.registers
+      → talk_step p (before a c) ≡ talk p (loop_text t a.registers (rest t bx)) (three t a.registers) a c
+  loop_step op rest row t bx a c here t_fits fits room =
+      row_step p (abx op t bx) op (with_loop t (rest t bx)) a c here (opcode_of-abx op t bx)
+      (row a.pc (abx op t bx) ∙ ap₂ (λ d b. with_loop d (rest d b)) (a_of-abx op t bx t_fits) (bx_of-abx op t bx t_fits fits))
+      ∙ loop_read t (rest t bx) a c room
+
   pub begin_step : (t bx : ℕ) (a : Activation) (c : Captured) → at p a.pc ≡ Some (abx ForPrep t bx) → t < 2 ^ 8 → bx < 2 ^ 17 → t + 2 < length a.registers
       → talk_step p (before a c) ≡ talk p (loop_text t a.registers (prepares t bx)) (three t a.registers) a c
-  begin_step t bx a c here t_fits fits room =
-      row_step p (abx ForPrep t bx) ForPrep (with_loop t (prepares t bx)) a c here (opcode_of-abx ForPrep t bx)
-      (ap₂ (λ d b. with_loop d (prepares d b)) (a_of-abx ForPrep t bx t_fits) (bx_of-abx ForPrep t bx t_fits fits))
-      ∙ loop_read t (prepares t bx) a c room
+  begin_step t bx a c here t_fits fits room = loop_step ForPrep prepares (λ pc w. refl) t bx a c here t_fits fits room
 
   pub turn_step : (t bx : ℕ) (a : Activation) (c : Captured) → at p a.pc ≡ Some (abx ForLoop t bx) → t < 2 ^ 8 → bx < 2 ^ 17 → t + 2 < length a.registers
       → talk_step p (before a c) ≡ talk p (loop_text t a.registers (goes_round t bx)) (three t a.registers) a c
-  turn_step t bx a c here t_fits fits room =
-      row_step p (abx ForLoop t bx) ForLoop (with_loop t (goes_round t bx)) a c here (opcode_of-abx ForLoop t bx)
-      (ap₂ (λ d b. with_loop d (goes_round d b)) (a_of-abx ForLoop t bx t_fits) (bx_of-abx ForLoop t bx t_fits fits))
-      ∙ loop_read t (goes_round t bx) a c room
+  turn_step t bx a c here t_fits fits room = loop_step ForLoop goes_round (λ pc w. refl) t bx a c here t_fits fits room
 
   put_integer : (r : ℕ) (z : ℤ) (x : Text) (slots : List Value) (a : Activation) (c : Captured) → r < length a.registers
       → talk p (writes_integer r z x) slots a c ≡ talk p x (slots ++ []) (record a { registers = write r (known (integer z)) a.registers }) c
