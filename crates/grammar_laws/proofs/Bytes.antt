@@ -128,19 +128,18 @@ tests_numeral false false false false false true k _ no_numeral is = absurd (no_
 tests_numeral false false false false false false k true no_numeral is = absurd (cc)
 tests_numeral false false false false false false k false no_numeral is = absurd (cc)
 
-comment_no_word : (text : List ℕ) → comment_kind text ≡ Word → ⊥
-comment_no_word text is = by (opens_long (drop 2 text)) is
+comment_no_other : (kind : Kind) → (LongComment ≡ kind → ⊥) → (Comment ≡ kind → ⊥) → (text : List ℕ) → comment_kind text ≡ kind → ⊥
+comment_no_other kind long short text is = by (opens_long (drop 2 text)) is
   where
-    by : (b : Bool) → (if b then LongComment else Comment) ≡ Word → ⊥
-    by true e = cc
-    by false e = cc
+    by : (b : Bool) → (if b then LongComment else Comment) ≡ kind → ⊥
+    by true e = long e
+    by false e = short e
+
+comment_no_word : (text : List ℕ) → comment_kind text ≡ Word → ⊥
+comment_no_word text is = comment_no_other Word (λ e. cc) (λ e. cc) text is
 
 comment_no_numeral : (text : List ℕ) → comment_kind text ≡ Numeral → ⊥
-comment_no_numeral text is = by (opens_long (drop 2 text)) is
-  where
-    by : (b : Bool) → (if b then LongComment else Comment) ≡ Numeral → ⊥
-    by true e = cc
-    by false e = cc
+comment_no_numeral text is = comment_no_other Numeral (λ e. cc) (λ e. cc) text is
 
 word_starts : (text : List ℕ) → kind_of text ≡ Word → is_name_start (slice_index text 0) ≡ true
 unfolding kind_of

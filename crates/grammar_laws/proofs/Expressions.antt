@@ -8,7 +8,6 @@ use Rattle.tree_making.specs.Form.{variable_of}
 use Rattle.tree_making.specs.declared.operator.Infix.{Infix}
 use Rattle.tree_making.specs.declared.operator.Infix.TheVariants as joining
 use Rattle.token_cursor.specs.declared.level.Level.{Level}
-use Rattle.token_cursor.specs.declared.level.Level.TheVariants.{Or, And, Comparison, BitOr, BitXor, BitAnd, Shift, Concat, Sum, Product}
 use Rattle.token_cursor.specs.declared.word.Word.{Word}
 use Rattle.token_cursor.specs.declared.word.TheConstants.{FUNCTION, ASSIGN, OPEN_ROUND, CLOSE_ROUND, OPEN_CURLY, CLOSE_CURLY, OPEN_SQUARE, COLON, COMMA, DOT}
 use Rattle.token_cursor.specs.Words.{Lexeme, is_word, is_string, string_of, begins_suffix, is_separator, operator_of, unary_of}
@@ -22,6 +21,7 @@ use Rattle.grammar_laws.specs.Counted.{all_counted}
 use Rattle.grammar_laws.proofs.Claims.{ExpHolds, Claim, carried, written, IsReady}
 use Rattle.grammar_laws.proofs.SizeKeeping.{opened, Keeps, picks, passes, refuses, reads, ends, either, either_by, passes_if, on_a_line, on_a_name, on_an_exp, on_some_exps, on_a_field, on_some_fields, on_a_body, only_reads, more, more_arguments, more_fields_hold}
 use Rattle.grammar_laws.proofs.Lists.{exps_weigh, exps_have, fields_weigh, fields_have, arguments_weigh}
+use Rattle.grammar_laws.proofs.Operands.{operand_has, right_has}
 use Rattle.grammar_laws.proofs.Words.{Kept, light_constant, constant_keeps}
 use Rattle.grammar_laws.proofs.Asking.{exps_more, fields_more}
 
@@ -53,20 +53,10 @@ unary_gives : GivesExp unary
 unary_gives = (tt, λ e k j c. (omega (arith, c.0), omega (arith, c.1), c.2))
 
 operand_gives : (level : Level) → GivesExp (operand level)
-operand_gives Or = chain_gives And
-operand_gives And = chain_gives Comparison
-operand_gives Comparison = chain_gives BitOr
-operand_gives BitOr = chain_gives BitXor
-operand_gives BitXor = chain_gives BitAnd
-operand_gives BitAnd = chain_gives Shift
-operand_gives Shift = chain_gives Concat
-operand_gives Concat = chain_gives Sum
-operand_gives Sum = chain_gives Product
-operand_gives Product = unary_gives
+operand_gives level = operand_has GivesExp chain_gives unary_gives level
 
 right_gives : (level : Level) → GivesExp (right_operand level)
-right_gives Concat = chain_gives Concat
-right_gives level = operand_gives level
+right_gives level = right_has GivesExp chain_gives unary_gives level
 
 pub chain_kept : (level : Level) → Kept (chain level)
 chain_kept level room ready =

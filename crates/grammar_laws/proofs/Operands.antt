@@ -17,13 +17,5 @@ operand_has P chains ends Sum = chains Product
 operand_has P chains ends Product = ends
 
 pub right_has : (P : Part → Type 0) → ((level : Level) → P (chain level)) → P unary → (level : Level) → P (right_operand level)
-right_has P chains ends Or = chains And
-right_has P chains ends And = chains Comparison
-right_has P chains ends Comparison = chains BitOr
-right_has P chains ends BitOr = chains BitXor
-right_has P chains ends BitXor = chains BitAnd
-right_has P chains ends BitAnd = chains Shift
-right_has P chains ends Shift = chains Concat
 right_has P chains ends Concat = chains Concat
-right_has P chains ends Sum = chains Product
-right_has P chains ends Product = ends
+right_has P chains ends level = operand_has P chains ends level
