@@ -1,5 +1,5 @@
 -- The first label of each name in the statements of a block.
-use Rattle.std.proofs.Common.{arith, ℕ, zero, suc, ◌+◌, ◌-◌, ◌≡◌, ◌≤◌, ◌<◌, Bool, true, false, true≢false, List, [], ◌∷◌, Option, Some, None, refl, sym, ap, ap₂, ◌∙◌, if◌then◌else◌, is_some, length, max, take, drop, reverse, subst, nat_le, leb-true, leb-false}
+use Rattle.std.proofs.Common.{arith, ℕ, zero, suc, ◌+◌, ◌-◌, ◌≡◌, ◌≤◌, ◌<◌, Bool, true, false, true≢false, List, [], ◌∷◌, Option, Some, None, refl, sym, ap, ap₂, ◌∙◌, if◌then◌else◌, is_some, length, map, max, take, drop, reverse, subst, nat_le, leb-true, leb-false}
 use Rattle.std.specs.Prelude.{not, ◌&&◌, ◌||◌, nat_eq, nat_lt, slice_index_or, unwrap_or}
 use Rattle.std.specs.Cmp.Lexicographic.{pointwise, nat_list_eq_equiv}
 use Rattle.std.specs.HashMap.{HashMap, Updates}
@@ -8,14 +8,17 @@ use Rattle.std.specs.Map.{KeepsOthers}
 use Rattle.std.specs.Str.{bytes_eq}
 use Rattle.std.specs.declared.vec.Vec.{Vec}
 use Rattle.std.proofs.lemmas.Bool.{lt-ltb, le-ltb}
-use Rattle.std.proofs.lemmas.List.{drop_all, drop_more}
+use Rattle.std.proofs.lemmas.List.{drop_all, drop_more, length-map}
 use Rattle.std.proofs.lemmas.List.Sorted.{list_any-IsPermutation, IsPermutation-reverse}
 use Rattle.std.proofs.lemmas.Slice.Eq.{bytes_eq-Decides}
+use Rattle.tree_core.specs.Plain.{plain_stat}
 use Rattle.tree_core.specs.Tree.{Stat, Label, stats}
+use Rattle.tree_core.specs.declared.tree.Stat.{Stat as HeldStat}
 use Rattle.scope_core.specs.Rules.{Found, Missing, Fine, Entering, is_label, declares_variable, is_empty_or_label, only_labels, find_behind}
 use Rattle.lua_scope.specs.declared.index.LabelPlace.{LabelPlace}
 use Rattle.lua_scope.specs.Indexed.{declared_behind, first_label, found_in, label_of, or_first, IsEndFrom}
 use Rattle.scope_core.proofs.Holding.{front}
+use Rattle.lua_scope.proofs.Looping.{mapped}
 
 -- a statement that is no label adds nothing
 pub no_label : (o : Option LabelPlace) (place : LabelPlace) → o ≡ or_first o false place
@@ -286,3 +289,15 @@ done_no_more xs from x some inside is e all i = by (nat_le from i) refl
         let less = leb-false from i here in
         let last : from - 1 ≡ i + (from - 1 - i) = omega (arith, less, some) in
         done_before xs i (from - 1 - i) x (omega (arith, last, inside, some)) (subst (λ n. x ≡ slice_index_or xs n x) last is) e
+
+-- both, of statements as they are held
+
+pub item_done : (items : List HeldStat) (from : ℕ) (x : HeldStat) → 0 < from → from ≤ length items → x ≡ slice_index_or items (from - 1) x → is_empty_or_label (plain_stat x) ≡ true
+    → AllDone (map plain_stat items) from → AllDone (map plain_stat items) (from - 1)
+item_done items from x some inside is e all =
+    one_more_done (map plain_stat items) from (plain_stat x) some (subst (λ m. from ≤ m) (sym (length-map items plain_stat)) inside) (mapped plain_stat items (from - 1) x (omega (arith, some, inside)) is) e all
+
+pub item_ends : (items : List HeldStat) (from : ℕ) (x : HeldStat) → 0 < from → from ≤ length items → x ≡ slice_index_or items (from - 1) x → is_empty_or_label (plain_stat x) ≡ false
+    → AllDone (map plain_stat items) from → IsEndFrom from (map plain_stat items)
+item_ends items from x some inside is e all =
+    done_no_more (map plain_stat items) from (plain_stat x) some (subst (λ m. from ≤ m) (sym (length-map items plain_stat)) inside) (mapped plain_stat items (from - 1) x (omega (arith, some, inside)) is) e all

@@ -124,6 +124,11 @@ keyed-written xs keyed keyed' is key v (Some was) first some none same =
       now = now;
     }
 
+-- the same of a key whose place is past the array
+pub past-written : (xs : List Value) (keyed keyed' : Rows) (is : AreSplit xs keyed) (key v : Value) (found : Option Value) (at : ℕ) → IsPlaceOf key at → length xs ≤ at
+    → IfSome found (λ was. IsReplaced keyed keyed' key was v) → IfNone found (IsAbsent keyed key) → IfNone found (keyed' ≡ keyed) → IsWritten xs keyed keyed' key v found
+past-written xs keyed keyed' is key v found at place past some none same = keyed-written xs keyed keyed' is key v found (not-in-array xs keyed is key at place past) some none same
+
 -- ---- a new row
 
 pub pushed-distinct : (rows : Rows) (key v : Value) → IsDistinct value_eq (keys_of rows) → IsAbsent rows key → IsDistinct value_eq (keys_of (rows ++ (key, v) ∷ []))

@@ -10,8 +10,7 @@ loop-i-init c = (omega arith, refl, λ reach xs. none_led (arrives reach) (arriv
 
 pub loop-i-preserved : goal.loop-i-preserved
 loop-i-preserved c =
-    let inside : c.loop-i.i < length c.loop-i.jumps.items = search rules in
-    let is : c.index_mut.result.now ≡ slice_index_or c.loop-i.jumps.items c.loop-i.i c.index_mut.result.now = search rules in (
+    let inside : c.loop-i.i < length c.loop-i.jumps.items = search rules in let is : c.index_mut.result.now ≡ slice_index_or c.loop-i.jumps.items c.loop-i.i c.index_mut.result.now = search rules in (
       omega (arith, c.loop-i.invariant.0),
       front_kept c.loop-i.jumps.items c.args.from c.loop-i.i c.leave.new.self c.loop-i.invariant.0 ∙ c.loop-i.invariant.1,
       λ reach xs. one_more (arrives reach) (arrives (in_loop reach c.args.to.place c.args.to.level)) c.loop-i.jumps.items c.args.from c.loop-i.i c.index_mut.result.now c.leave.new.self xs c.loop-i.invariant.0 inside is c.leave.ensures.place c.leave.ensures.line c.leave.ensures.closes (c.leave.ensures.leads reach) ∙ c.loop-i.invariant.2 reach xs,

@@ -9,8 +9,7 @@ loop-i-init c = (omega arith, refl, λ ahead reach xs. none_led (leads_to ahead 
 
 pub loop-i-preserved : goal.loop-i-preserved
 loop-i-preserved c =
-    let inside : c.loop-i.i < length c.loop-i.jumps.items = search rules in
-    let is : c.index_mut.result.now ≡ slice_index_or c.loop-i.jumps.items c.loop-i.i c.index_mut.result.now = search rules in (
+    let inside : c.loop-i.i < length c.loop-i.jumps.items = search rules in let is : c.index_mut.result.now ≡ slice_index_or c.loop-i.jumps.items c.loop-i.i c.index_mut.result.now = search rules in (
       omega (arith, c.loop-i.invariant.0),
       front_kept c.loop-i.jumps.items c.args.from c.loop-i.i c.meet.new.self c.loop-i.invariant.0 ∙ c.loop-i.invariant.1,
       λ ahead reach xs. one_more (leads_to ahead reach) (leads_to (record { name = c.args.name.now; landing = landing c.args.to } ∷ ahead) reach) c.loop-i.jumps.items c.args.from c.loop-i.i c.index_mut.result.now c.meet.new.self xs c.loop-i.invariant.0 inside is c.meet.ensures.place c.meet.ensures.line c.meet.ensures.closes (c.meet.ensures.leads ahead reach) ∙ c.loop-i.invariant.2 ahead reach xs,

@@ -1,5 +1,5 @@
 use Rattle.std.proofs.Common.{◌<◌, ◌≤◌, Some, length, ◌∙◌, ap, arith}
-use Rattle.table_core.proofs.SplitLemmas.{array-lookup, array-now, keyed-written, not-in-array}
+use Rattle.table_core.proofs.SplitLemmas.{array-lookup, array-now, past-written}
 use Rattle.table_core.proofs.rows.Rows.replace.Goals as goal
 
 pub invariant_of-self : goal.invariant_of-self
@@ -26,26 +26,17 @@ returns-then-at-len-clause-now c =
 pub invariant_of-self-2 : goal.invariant_of-self-2
 invariant_of-self-2 c =
     let array = c.self.inside.array.items in
-    let keyed = c.self.inside.keyed in
     let past : length array ≤ c.place_of-at.result = omega (arith, c.len.ensures, c.self.inside.array.ok.0, c.if-at-len.false) in
-    let first = not-in-array array keyed c.self.invariant c.args.key c.place_of-at.result c.place_of-at.ensures past in
-    let e = c.replace-2.ensures in
-    (keyed-written array keyed c.replace-2.new.self c.self.invariant c.args.key c.args.value c.replace-2.result first e.found e.absent e.same).split
+    (past-written array c.self.inside.keyed c.replace-2.new.self c.self.invariant c.args.key c.args.value c.replace-2.result c.place_of-at.result c.place_of-at.ensures past c.replace-2.ensures.found c.replace-2.ensures.absent c.replace-2.ensures.same).split
 
 pub returns-clause-was : goal.returns-clause-was
 returns-clause-was c =
     let array = c.self.inside.array.items in
-    let keyed = c.self.inside.keyed in
     let past : length array ≤ c.place_of-at.result = omega (arith, c.len.ensures, c.self.inside.array.ok.0, c.if-at-len.false) in
-    let first = not-in-array array keyed c.self.invariant c.args.key c.place_of-at.result c.place_of-at.ensures past in
-    let e = c.replace-2.ensures in
-    rw (← c.self.view_is) (keyed-written array keyed c.replace-2.new.self c.self.invariant c.args.key c.args.value c.replace-2.result first e.found e.absent e.same).was
+    rw (← c.self.view_is) (past-written array c.self.inside.keyed c.replace-2.new.self c.self.invariant c.args.key c.args.value c.replace-2.result c.place_of-at.result c.place_of-at.ensures past c.replace-2.ensures.found c.replace-2.ensures.absent c.replace-2.ensures.same).was
 
 pub returns-clause-now : goal.returns-clause-now
 returns-clause-now c =
     let array = c.self.inside.array.items in
-    let keyed = c.self.inside.keyed in
     let past : length array ≤ c.place_of-at.result = omega (arith, c.len.ensures, c.self.inside.array.ok.0, c.if-at-len.false) in
-    let first = not-in-array array keyed c.self.invariant c.args.key c.place_of-at.result c.place_of-at.ensures past in
-    let e = c.replace-2.ensures in
-    rw (← c.self.view_is) (keyed-written array keyed c.replace-2.new.self c.self.invariant c.args.key c.args.value c.replace-2.result first e.found e.absent e.same).now
+    rw (← c.self.view_is) (past-written array c.self.inside.keyed c.replace-2.new.self c.self.invariant c.args.key c.args.value c.replace-2.result c.place_of-at.result c.place_of-at.ensures past c.replace-2.ensures.found c.replace-2.ensures.absent c.replace-2.ensures.same).now
