@@ -1,5 +1,6 @@
 -- Each refusal has its cause, and a source that is refused is the source of no tree.
-use Rattle.std.proofs.Common.{arith, ℕ, ◌<◌, ◌≤◌, ◌≡◌, ◌⊎◌, inl, inr, List, [], length, Contains, Err, refl, subst, sym, ap, ◌∙◌}
+use Rattle.std.proofs.Common.{arith, ℕ, ◌<◌, ◌≤◌, ◌≡◌, ◌⊎◌, inl, inr, List, [], length, Contains, Result, Ok, Err, refl, subst, sym, ap, ◌∙◌}
+use Rattle.std.proofs.lemmas.Bool.{cases_lt}
 use Rattle.token_cursor.specs.Words.{Lexeme}
 use Rattle.lua_lex.specs.Answers.{OnRefused}
 use Rattle.lua_lex.specs.Lexical.{TokensOf, BadToken}
@@ -31,6 +32,13 @@ tree_there source tokens tree r = record { limited = r.limited; tokens = tokens;
 
 pub tree_only : (source : List ℕ) (tokens : List Lexeme) (tree : Block) → IsRead source tokens tree → (other : Block) → HasTree source other → other ≡ tree
 tree_only source tokens tree r other h = r.derived_only other (subst (λ ts. Derives ts other) (r.lexed_only h.tokens h.lexed) h.derived)
+
+-- a source that has tokens is not too long
+pub not_over : {T : Type 0} (tokens : T) (n : ℕ) → (1048576 < n → ◌≡◌ {A = Result T LexFault} (Ok tokens) (Err LexLimit)) → n ≤ 1048576
+not_over tokens n limit = elim (cases_lt 1048576 n) [
+  | inl over ↦ absurd (let bad = limit over in cc)
+  | inr short ↦ short
+]
 
 pub lexer_fault : (source : List ℕ) (fault : LexFault) → (length source ≤ 1048576) ⊎ (fault ≡ LexLimit) → (fault ≡ LexLimit → 1048576 < length source)
     → OnRefused {T = List Lexeme} (Err fault) (λ line. BadToken source line) → OnRefused {T = List Lexeme} (Err fault) (λ line. (list : List Lexeme) → TokensOf source list → ⊥) → IsRefused source (fault_of_lexer fault)
