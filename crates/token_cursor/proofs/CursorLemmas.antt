@@ -17,19 +17,19 @@ first_of (t ∷ ts) = refl
 get_or_zero : (at : ℕ) (ts : List Lexeme) → first (drop at ts) ≡ get_or ts at (End, 0)
 get_or_zero at ts = first_of (drop at ts) ∙ get_or-drop at ts 0 (End, 0) ∙ ap (λ n. get_or ts n (End, 0)) (omega arith)
 
-pub first_token : (at : ℕ) (ts : List Lexeme) (token : Token) → option_map (λ (pair : Lexeme). pair.0) (slice_get ts at) ≡ Some token → token ≡ (first (drop at ts)).0
-first_token at ts token e = at_cases (slice_get ts at) refl e
+-- a part of the token at a place, as it is looked up, is that of the first one from there on
+first_part : {B : Type 0} (part : Lexeme → B) (at : ℕ) (ts : List Lexeme) (x : B) → option_map part (slice_get ts at) ≡ Some x → x ≡ part (first (drop at ts))
+first_part {B} part at ts x e = at_cases (slice_get ts at) refl e
   where
-    at_cases : (o : Option Lexeme) → slice_get ts at ≡ o → option_map (λ (pair : Lexeme). pair.0) o ≡ Some token → token ≡ (first (drop at ts)).0
-    at_cases None is e' = absurd (let bad : ◌≡◌ {A = Option Token} None (Some token) = e' in cc)
-    at_cases (Some t) is e' = let same : t.0 ≡ token = cc in sym same ∙ ap (λ (p : Lexeme). p.0) (sym (get_or_from_slice_get ts at t (End, 0) is) ∙ sym (get_or_zero at ts))
+    at_cases : (o : Option Lexeme) → slice_get ts at ≡ o → option_map part o ≡ Some x → x ≡ part (first (drop at ts))
+    at_cases None is e' = absurd (let bad : ◌≡◌ {A = Option B} None (Some x) = e' in cc)
+    at_cases (Some t) is e' = let same : part t ≡ x = cc in sym same ∙ ap part (sym (get_or_from_slice_get ts at t (End, 0) is) ∙ sym (get_or_zero at ts))
+
+pub first_token : (at : ℕ) (ts : List Lexeme) (token : Token) → option_map (λ (pair : Lexeme). pair.0) (slice_get ts at) ≡ Some token → token ≡ (first (drop at ts)).0
+first_token at ts token e = first_part (λ (pair : Lexeme). pair.0) at ts token e
 
 pub first_line : (at : ℕ) (ts : List Lexeme) (line : ℕ) → option_map (λ (pair : Lexeme). pair.1) (slice_get ts at) ≡ Some line → line ≡ (first (drop at ts)).1
-first_line at ts line e = at_cases (slice_get ts at) refl e
-  where
-    at_cases : (o : Option Lexeme) → slice_get ts at ≡ o → option_map (λ (pair : Lexeme). pair.1) o ≡ Some line → line ≡ (first (drop at ts)).1
-    at_cases None is e' = absurd (let bad : ◌≡◌ {A = Option ℕ} None (Some line) = e' in cc)
-    at_cases (Some t) is e' = let same : t.1 ≡ line = cc in sym same ∙ ap (λ (p : Lexeme). p.1) (sym (get_or_from_slice_get ts at t (End, 0) is) ∙ sym (get_or_zero at ts))
+first_line at ts line e = first_part (λ (pair : Lexeme). pair.1) at ts line e
 
 ends_later : (ts : List Lexeme) → EndsOnce ts → is_end (first ts).0 ≡ false → EndsOnce (drop 1 ts)
 ends_later [] once not_end = absurd once

@@ -6,8 +6,7 @@ use Rattle.lua_lex.proofs.digits.value_below.Goals as goal
 
 pub returns-in_err-checked_mul-clause-none : goal.returns-in_err-checked_mul-clause-none
 returns-in_err-checked_mul-clause-none c =
-    let digits = c.args.digits.now in
-    let i = c.loop-byte.byte-index in
+    let digits = c.args.digits.now in let i = c.loop-byte.byte-index in
     let more = digits_value_more c.args.radix digits i c.loop-byte-test.true in
     let part = digits_value-take-le c.args.radix digits (i + 1) c.requires in
     let over : (c.loop-byte.value * c.args.radix < 2 ^ 64) → ⊥ = c.in_err-checked_mul.ensures in
@@ -16,8 +15,7 @@ returns-in_err-checked_mul-clause-none c =
 
 pub returns-in_err-value-clause-none : goal.returns-in_err-value-clause-none
 returns-in_err-value-clause-none c =
-    let digits = c.args.digits.now in
-    let i = c.loop-byte.byte-index in
+    let digits = c.args.digits.now in let i = c.loop-byte.byte-index in
     let more = digits_value_more c.args.radix digits i c.loop-byte-test.true in
     let part = digits_value-take-le c.args.radix digits (i + 1) c.requires in
     let product = ap (λ v. v * c.args.radix) c.loop-byte.invariant in
