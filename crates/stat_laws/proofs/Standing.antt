@@ -1,6 +1,7 @@
 -- What holds of a tree and its code between two statements, and how a jump leads from one such place to another.
 use Rattle.std.proofs.Common.{◌≡◌, ℕ, zero, suc, ◌+◌, ◌-◌, ◌<◌, ◌≤◌, pos, negsuc, ◌+ℤ◌, ◌-ℤ◌, Bool, true, false, cond, List, [], ◌∷◌, ◌++◌, length, map, Option, Some, None, refl, sym, ap, ap₂, subst, ◌∙◌, arith, length-append, append_assoc}
-use borrow.Author.Tests.{le-leb, leb-true}
+use borrow.Author.Tests.{le-leb}
+use Rattle.std.proofs.lemmas.Bool.{lt-leb}
 use Rattle.std.specs.Prelude.{nat_le}
 use Rattle.int_core.specs.Value.{Value, known, nil, bind}
 use Rattle.int_core.specs.Ask.{pays, values_in, Captured, Next, goes_on, stuck, brought}
@@ -174,19 +175,11 @@ module _ (S : Setting) where
   ahead_one : (x : Landing) (pc line : ℕ) → pc + 1 ≤ x.place → jump_code false x pc line ≡ jump_over (x.place - (pc + 1)) line ∷ []
   ahead_one x pc line le = ap (λ b. cond b (jump_over (x.place - (pc + 1)) line) (jump_back (pc + 1 - x.place) line) ∷ []) (le-leb (pc + 1) x.place le)
 
-  -- a place that is not so far
-  not_ahead : (m place : ℕ) → place < m → nat_le m place ≡ false
-  not_ahead m place lt = by (nat_le m place) refl
-    where
-      by : (b : Bool) → nat_le m place ≡ b → nat_le m place ≡ false
-      by false e = e
-      by true e = let h = leb-true m place e in absurd (omega (arith, h, lt))
-
   back_code : (x : Landing) (pc line : ℕ) → x.place ≤ pc → jump_code true x pc line ≡ with_abc Close x.level 0 0 line ∷ jump_back (pc + 2 - x.place) line ∷ []
-  back_code x pc line le = ap (λ b. with_abc Close x.level 0 0 line ∷ cond b (jump_over (x.place - (pc + 2)) line) (jump_back (pc + 2 - x.place) line) ∷ []) (not_ahead (pc + 2) x.place (omega (arith, le)))
+  back_code x pc line le = ap (λ b. with_abc Close x.level 0 0 line ∷ cond b (jump_over (x.place - (pc + 2)) line) (jump_back (pc + 2 - x.place) line) ∷ []) (lt-leb (pc + 2) x.place (omega (arith, le)))
 
   back_one : (x : Landing) (pc line : ℕ) → x.place ≤ pc → jump_code false x pc line ≡ jump_back (pc + 1 - x.place) line ∷ []
-  back_one x pc line le = ap (λ b. cond b (jump_over (x.place - (pc + 1)) line) (jump_back (pc + 1 - x.place) line) ∷ []) (not_ahead (pc + 1) x.place (omega (arith, le)))
+  back_one x pc line le = ap (λ b. cond b (jump_over (x.place - (pc + 1)) line) (jump_back (pc + 1 - x.place) line) ∷ []) (lt-leb (pc + 1) x.place (omega (arith, le)))
 
   module _ (n : ℕ) (x : Landing) (closed : List ℕ) (pc line : ℕ) (ps : List Pending) (env regs : List Value) (c : Captured) (opened : ℕ) (s : tree.State) (k : List Work)
       (inside : x.place < length S.code.own.code) (more : List ℕ) (numbered : numbers ps ≡ closed ++ more) (from : AllFrom x.level more) (under : AllBelow closed x.level)

@@ -8,16 +8,14 @@ use Rattle.code_stat.proofs.simple.write_single.Goals as goal
 
 pub returns-then-len-ne1 : goal.returns-then-len-ne1
 returns-then-len-ne1 c =
-    let ts = c.args.targets.now.items in
-    let es = tree.exps (plain_exps c.args.values.now.items) in
+    let ts = c.args.targets.now.items in let es = tree.exps (plain_exps c.args.values.now.items) in
     let size : c.len.result ≡ length ts = search rules in
     on_ok_weaker c.write_stored.result
     (kept_follows c.args.emitter.now c.write_stored.new.emitter (tree.exps (plain_exps ts)) es c.args.register c.args.line (one_field ts es (λ h. c.if-len-ne1.true (size ∙ h))) (one_name c.args.emitter.now.constants ts es (λ h. c.if-len-ne1.true (size ∙ h)))) c.write_stored.ensures
 
 pub returns-then-len-ne1-2 : goal.returns-then-len-ne1-2
 returns-then-len-ne1-2 c =
-    let es = c.args.values.now.items in
-    let ts = tree.exps (plain_exps c.args.targets.now.items) in
+    let es = c.args.values.now.items in let ts = tree.exps (plain_exps c.args.targets.now.items) in
     let size : c.len-2.result ≡ length es = search rules in
     on_ok_weaker c.write_stored-then-len-ne1-2.result
     (kept_follows c.args.emitter.now c.write_stored-then-len-ne1-2.new.emitter ts (tree.exps (plain_exps es)) c.args.register c.args.line (one_stored ts es (λ h. c.if-len-ne1-2.true (size ∙ h))) (one_local c.args.emitter.now.constants ts es (λ h. c.if-len-ne1-2.true (size ∙ h)))) c.write_stored-then-len-ne1-2.ensures
