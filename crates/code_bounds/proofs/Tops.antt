@@ -312,23 +312,16 @@ one_iterate t n t_fits n_fits =
 
 -- `...` with its number of values
 
-rest_below_by : (t c : ℕ) (b : Bool) → (c == 0) ≡ b → room_for (if b then t ∷ [] else last_of t (c - 1)) 0 ≤ t + room_of_values c
-rest_below_by t zero true e = omega arith
-rest_below_by t zero false e = absurd (cc)
-rest_below_by t (suc n) true e = let nothing : suc n ≡ 0 = eqb-true (suc n) 0 e in absurd (omega (arith, nothing))
-rest_below_by t (suc n) false e =
+rest_by : (t c : ℕ) (b : Bool) → (c == 0) ≡ b
+    → (room_for (if b then t ∷ [] else last_of t (c - 1)) 0 ≤ t + room_of_values c) × (t + room_of_values c ≤ max t (room_for (if b then t ∷ [] else last_of t (c - 1)) 0))
+rest_by t zero true e = (omega arith, omega arith)
+rest_by t zero false e = absurd (cc)
+rest_by t (suc n) true e = let nothing : suc n ≡ 0 = eqb-true (suc n) 0 e in absurd (omega (arith, nothing))
+rest_by t (suc n) false e =
     let less : suc n - 1 ≡ n = omega arith in
     let below = last_below t (suc n - 1) in
-    omega (arith, below, less)
-
-rest_above_by : (t c : ℕ) (b : Bool) → (c == 0) ≡ b → t + room_of_values c ≤ max t (room_for (if b then t ∷ [] else last_of t (c - 1)) 0)
-rest_above_by t zero true e = omega arith
-rest_above_by t zero false e = absurd (cc)
-rest_above_by t (suc n) true e = let nothing : suc n ≡ 0 = eqb-true (suc n) 0 e in absurd (omega (arith, nothing))
-rest_above_by t (suc n) false e =
-    let less : suc n - 1 ≡ n = omega arith in
     let above = last_above t (suc n - 1) in
-    omega (arith, above, less)
+    (omega (arith, below, less), omega (arith, above, less))
 
 rest_is : (t c : ℕ) → t < 2 ^ 8 → c < 2 ^ 8 → one (abc VarArg t 0 c false) ≡ room_for (if c == 0 then t ∷ [] else last_of t (c - 1)) 0
 rest_is t c t_fits c_fits =
@@ -339,7 +332,7 @@ rest_is t c t_fits c_fits =
     ∙ ap (λ z. room_for (if z == 0 then t ∷ [] else last_of t (z - 1)) 0) (c_of-abc VarArg t 0 c false t_fits small c_fits)
 
 pub rest_below : (t c : ℕ) → t < 2 ^ 8 → c < 2 ^ 8 → one (abc VarArg t 0 c false) ≤ t + room_of_values c
-rest_below t c t_fits c_fits = let e = rest_is t c t_fits c_fits in let below = rest_below_by t c (c == 0) refl in omega (arith, e, below)
+rest_below t c t_fits c_fits = let e = rest_is t c t_fits c_fits in let below = (rest_by t c (c == 0) refl).0 in omega (arith, e, below)
 
 pub rest_above : (t c : ℕ) → t < 2 ^ 8 → c < 2 ^ 8 → t + room_of_values c ≤ max t (one (abc VarArg t 0 c false))
-rest_above t c t_fits c_fits = let e = rest_is t c t_fits c_fits in let above = rest_above_by t c (c == 0) refl in omega (arith, e, above)
+rest_above t c t_fits c_fits = let e = rest_is t c t_fits c_fits in let above = (rest_by t c (c == 0) refl).1 in omega (arith, e, above)

@@ -116,6 +116,10 @@ capture_source r xs ys d f text s p hy e none v u =
     ap (λ fs. up_name fs text) (set_last r ys d f p hy ∙ ap (λ (g : Frame). g ∷ reverse (take (r - 1) ys)) (framed f frame (frame.upvalues ++ up_name_at text s ∷ []) v u))
     ∙ missing_source text frame (reverse (take (r - 1) ys)) s none'
 
+-- the last of so many
+pub last_here : (xs : List Frame) (n : ℕ) (x : Frame) → n ≡ length xs → x ≡ slice_index_or xs (n - 1) x → x ≡ slice_index_or xs (length xs - 1) x
+last_here xs n x size read = read ∙ ap (λ m. slice_index_or xs (m - 1) x) size
+
 -- a change of the last function, which is the first of those around
 pub last_changed :
     (xs : List Frame) (d f : Frame) (φ : List Frame → List Frame)

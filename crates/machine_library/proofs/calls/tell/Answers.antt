@@ -19,9 +19,7 @@ hand_over-requires-in-Gives c = runs_after c.args.world.now c.give_values-in-Giv
 
 pub returns-in-One-clause-tells : goal.returns-in-One-clause-tells
 returns-in-One-clause-tells c =
-    let old = c.args.world.now in
-    let new = c.give_values.new.world in
-    let e = ending_of c.hand_over.result in
+    let old = c.args.world.now in let new = c.give_values.new.world in let e = ending_of c.hand_over.result in
     let told : Tells old new (One c.in-One.given) e
     = record { leads = gives_one old new c.in-One.given c.alone.result.items e c.alone.ensures (λ env slot same. c.give_values.ensures.more env [] slot same) c.hand_over.ensures } in
     subst (λ answer. Tells old new answer e) (sym c.in-One.is) told
@@ -31,9 +29,7 @@ returns-in-One-clause-goes c = hands_on c.give_values.new.world c.hand_over.resu
 
 pub returns-in-Two-clause-tells : goal.returns-in-Two-clause-tells
 returns-in-Two-clause-tells c =
-    let old = c.args.world.now in
-    let new = c.give_values-in-Two.new.world in
-    let e = ending_of c.hand_over-in-Two.result in
+    let old = c.args.world.now in let new = c.give_values-in-Two.new.world in let e = ending_of c.hand_over-in-Two.result in
     let told : Tells old new (Two c.in-Two.first c.in-Two.second) e
     = record { leads = gives_two old new c.in-Two.first c.in-Two.second c.both.result.items e c.both.ensures (λ env slot same. c.give_values-in-Two.ensures.more env [] slot same) c.hand_over-in-Two.ensures } in
     subst (λ answer. Tells old new answer e) (sym c.in-Two.is) told
@@ -43,9 +39,7 @@ returns-in-Two-clause-goes c = hands_on c.give_values-in-Two.new.world c.hand_ov
 
 pub returns-in-Gives-clause-tells : goal.returns-in-Gives-clause-tells
 returns-in-Gives-clause-tells c =
-    let old = c.args.world.now in
-    let new = c.give_values-in-Gives.new.world in
-    let e = ending_of c.hand_over-in-Gives.result in
+    let old = c.args.world.now in let new = c.give_values-in-Gives.new.world in let e = ending_of c.hand_over-in-Gives.result in
     let told : Tells old new (Gives c.in-Gives.results) e
     = record { leads = gives_on old new c.in-Gives.results.items e (λ env slot same. c.give_values-in-Gives.ensures.more env [] slot same) c.hand_over-in-Gives.ensures } in
     subst (λ answer. Tells old new answer e) (sym c.in-Gives.is) told
