@@ -19,8 +19,7 @@ read_register-v-requires c = can_do (read_register (c.args.base + 4)) (λ v s. e
 
 pub go_on-requires-clause-safe : goal.go_on-requires-clause-safe
 go_on-requires-clause-safe c =
-    let W = c.args.world.now in
-    let v = meant W.strings c.read_register-v.result in
+    let W = c.args.world.now in let v = meant W.strings c.read_register-v.result in
     let s = safe_after (λ v s. expand (over c.args.base c.args.by v s)) (c.requires.safe c.requires.at.place.function.code) (c.read_register-v.ensures []) in
     let b : is_nil c.read_register-v.result ≡ true = search rules in
     let t = subst (λ t. IsSafe (expand t) (v ∷ []) W) (over_nil W.strings c.args.base c.args.by c.read_register-v.result b) s in
@@ -28,8 +27,7 @@ go_on-requires-clause-safe c =
 
 pub returns-then-is_nil-clause-steps : goal.returns-then-is_nil-clause-steps
 returns-then-is_nil-clause-steps c = λ p.
-    let W = c.args.world.now in
-    let v = meant W.strings c.read_register-v.result in
+    let W = c.args.world.now in let v = meant W.strings c.read_register-v.result in
     let b : is_nil c.read_register-v.result ≡ true = search rules in
     let l : Leads (expand next) (v ∷ []) W c.go_on.new.world go = record { is = c.go_on.ensures.leads.is } in
     steps_read (λ v s. expand (over c.args.base c.args.by v s)) (c.read_register-v.ensures [])
@@ -38,10 +36,8 @@ returns-then-is_nil-clause-steps c = λ p.
 
 pub returns-then-not-pay-clause-steps : goal.returns-then-not-pay-clause-steps
 returns-then-not-pay-clause-steps c = λ p.
-    let W = c.args.world.now in
-    let v = meant W.strings c.read_register-v.result in
-    let n : is_nil c.read_register-v.result ≡ false = search rules in
-    let b : c.pay.result ≡ false = search rules in
+    let W = c.args.world.now in let v = meant W.strings c.read_register-v.result in
+    let n : is_nil c.read_register-v.result ≡ false = search rules in let b : c.pay.result ≡ false = search rules in
     let k : Text = then (write_register (c.args.base + 2) (read 0)) (back c.args.by) in
     steps_read (λ v s. expand (over c.args.base c.args.by v s)) (c.read_register-v.ensures [])
     (subst (λ t. Steps (expand t) (v ∷ []) W c.args.budget.now W c.pay.new.fuel spent) (sym (over_more W.strings c.args.base c.args.by c.read_register-v.result n))
@@ -49,8 +45,7 @@ returns-then-not-pay-clause-steps c = λ p.
 
 pub go_over-requires-clause-safe : goal.go_over-requires-clause-safe
 go_over-requires-clause-safe c =
-    let W = c.args.world.now in
-    let v = meant W.strings c.read_register-v.result in
+    let W = c.args.world.now in let v = meant W.strings c.read_register-v.result in
     let s = safe_after (λ v s. expand (over c.args.base c.args.by v s)) (c.requires.safe c.requires.at.place.function.code) (c.read_register-v.ensures []) in
     let n : is_nil c.read_register-v.result ≡ false = search rules in
     let k : Text = then (write_register (c.args.base + 2) (read 0)) (back c.args.by) in
@@ -58,10 +53,8 @@ go_over-requires-clause-safe c =
 
 pub returns-clause-steps : goal.returns-clause-steps
 returns-clause-steps c = λ p.
-    let W = c.args.world.now in
-    let v = meant W.strings c.read_register-v.result in
-    let n : is_nil c.read_register-v.result ≡ false = search rules in
-    let b : c.pay.result ≡ true = search rules in
+    let W = c.args.world.now in let v = meant W.strings c.read_register-v.result in
+    let n : is_nil c.read_register-v.result ≡ false = search rules in let b : c.pay.result ≡ true = search rules in
     let k : Text = then (write_register (c.args.base + 2) (read 0)) (back c.args.by) in
     steps_read (λ v s. expand (over c.args.base c.args.by v s)) (c.read_register-v.ensures [])
     (subst (λ t. Steps (expand t) (v ∷ []) W c.args.budget.now c.go_over.new.world c.pay.new.fuel go) (sym (over_more W.strings c.args.base c.args.by c.read_register-v.result n))
