@@ -52,28 +52,18 @@ global_at text (frame ∷ frames) s known e =
 still : (text t : List ℕ) (xs ys : List Frame) → reverse ys ≡ reached (reverse xs) t → is_variable text (reverse ys) ≡ is_variable text (reverse xs)
 still text t xs ys e = ap (is_variable text) e ∙ ap (λ b. bytes_eq text environment || b) (same_locals text t (reverse xs))
 
-pub variable_placed :
-    (text : List ℕ) (count : ℕ) (xs ys : List Frame) (s : Source)
-    → count ≡ length xs → length ys ≡ length xs
-    → reverse (take count ys) ≡ reached (reverse (take count xs)) text
-    → is_variable text (reverse xs) ≡ true
-    → up_name (reverse (take count ys)) text ≡ up_name_at text s
-    → place_of text (reverse ys) ≡ local_place s
-variable_placed text count xs ys s c l r known e =
-    let all_ys : take count ys ≡ ys = take_all count ys (omega (arith, c, l)) in
-    let all_xs : take count xs ≡ xs = take_all count xs (omega (arith, c)) in
-    let r' : reverse ys ≡ reached (reverse xs) text = ap reverse (sym all_ys) ∙ r ∙ ap (λ zs. reached (reverse zs) text) all_xs in
-    variable_at text (reverse ys) s (still text text xs ys r' ∙ known) (ap (λ zs. up_name (reverse zs) text) (sym all_ys) ∙ e)
+-- where all functions around are counted, those that were reached are so of all
+all_reached : (text : List ℕ) (count : ℕ) (xs ys : List Frame) → take count ys ≡ ys → take count xs ≡ xs → reverse (take count ys) ≡ reached (reverse (take count xs)) text → reverse ys ≡ reached (reverse xs) text
+all_reached text count xs ys all_ys all_xs r = ap reverse (sym all_ys) ∙ r ∙ ap (λ zs. reached (reverse zs) text) all_xs
 
-pub global_placed :
-    (text : List ℕ) (count : ℕ) (xs ys : List Frame) (s : Source)
-    → count ≡ length xs → length ys ≡ length xs
-    → reverse (take count ys) ≡ reached (reverse (take count xs)) environment
-    → is_variable text (reverse xs) ≡ false
-    → up_name (reverse (take count ys)) environment ≡ up_name_at environment s
-    → place_of text (reverse ys) ≡ global_place_at s
+pub variable_placed : (text : List ℕ) (count : ℕ) (xs ys : List Frame) (s : Source) → count ≡ length xs → length ys ≡ length xs → reverse (take count ys) ≡ reached (reverse (take count xs)) text
+    → is_variable text (reverse xs) ≡ true → up_name (reverse (take count ys)) text ≡ up_name_at text s → place_of text (reverse ys) ≡ local_place s
+variable_placed text count xs ys s c l r known e =
+    let all : take count ys ≡ ys = take_all count ys (omega (arith, c, l)) in let r' = all_reached text count xs ys all (take_all count xs (omega (arith, c))) r in
+    variable_at text (reverse ys) s (still text text xs ys r' ∙ known) (ap (λ zs. up_name (reverse zs) text) (sym all) ∙ e)
+
+pub global_placed : (text : List ℕ) (count : ℕ) (xs ys : List Frame) (s : Source) → count ≡ length xs → length ys ≡ length xs → reverse (take count ys) ≡ reached (reverse (take count xs)) environment
+    → is_variable text (reverse xs) ≡ false → up_name (reverse (take count ys)) environment ≡ up_name_at environment s → place_of text (reverse ys) ≡ global_place_at s
 global_placed text count xs ys s c l r known e =
-    let all_ys : take count ys ≡ ys = take_all count ys (omega (arith, c, l)) in
-    let all_xs : take count xs ≡ xs = take_all count xs (omega (arith, c)) in
-    let r' : reverse ys ≡ reached (reverse xs) environment = ap reverse (sym all_ys) ∙ r ∙ ap (λ zs. reached (reverse zs) environment) all_xs in
-    global_at text (reverse ys) s (still text environment xs ys r' ∙ known) (ap (λ zs. up_name (reverse zs) environment) (sym all_ys) ∙ e)
+    let all : take count ys ≡ ys = take_all count ys (omega (arith, c, l)) in let r' = all_reached environment count xs ys all (take_all count xs (omega (arith, c))) r in
+    global_at text (reverse ys) s (still text environment xs ys r' ∙ known) (ap (λ zs. up_name (reverse zs) environment) (sym all) ∙ e)
