@@ -159,16 +159,14 @@ pub writable_first : (parent own : Parts) (inner rest : Prototypes) → is_writa
     is_writable (record { own = own; inner = inner }) ≡ true
 writable_first parent own inner rest h =
     let k = first_fits parent own inner rest h in
-    let less_deep : depth inner < greatest_depth = omega (arith, k.deep) in
-    let fewer : 1 + count inner < 2 ^ 31 = omega (arith, k.many) in
+    let less_deep : depth inner < greatest_depth = omega (arith, k.deep) in let fewer : 1 + count inner < 2 ^ 31 = omega (arith, k.many) in
     rw (first_of_two (parts_fit own) _ k.fits, first_of_two (all_fit own inner) _ (rest_of (parts_fit own) k.fits), (Decides-ltb (depth inner) greatest_depth).1 less_deep, (Decides-ltb (1 + count inner) (2 ^ 31)).1 fewer) refl
 
 pub writable_rest : (parent own : Parts) (inner rest : Prototypes) → is_writable (record { own = parent; inner = more own inner rest }) ≡ true →
     is_writable (record { own = parent; inner = rest }) ≡ true
 writable_rest parent own inner rest h =
     let k = first_fits parent own inner rest h in
-    let less_deep : depth rest < greatest_depth = omega (arith, k.deep) in
-    let fewer : 1 + count rest < 2 ^ 31 = omega (arith, k.many) in
+    let less_deep : depth rest < greatest_depth = omega (arith, k.deep) in let fewer : 1 + count rest < 2 ^ 31 = omega (arith, k.many) in
     rw (first_of_two (parts_fit parent) _ h, rest_of (all_fit own inner) (rest_of (parts_fit own) k.fits), (Decides-ltb (depth rest) greatest_depth).1 less_deep, (Decides-ltb (1 + count rest) (2 ^ 31)).1 fewer) refl
 
 pub writable_at : (parent : Parts) (ps : List Prototype) (n : ℕ) (p : Prototype) → slice_get ps n ≡ Some p →

@@ -21,6 +21,7 @@ use Rattle.code_of.specs.Operations.{constant_in, constant_code, operation_code}
 use Rattle.code_of.specs.Chains.{chain_code}
 use Rattle.code_of.proofs.Chains.{chain_short}
 use Rattle.code_of.proofs.Operations.{constant_short, operation_short}
+use Rattle.code_of.specs.FieldReads.{read_code}
 use Rattle.code_of.proofs.FieldReads.{read_short}
 use Rattle.code_of.specs.Operators.{name_into, global_code, local_global_code, prefix_code, operator_code, number_code, self_code}
 use Rattle.code_of.specs.Expressions.{made_by, list_field, is_last_open, is_last_item, Wanted, one_less, field_of, wanted_after, nils_code, set_list, waiting_code, item_code, exp_code, exps_code, fields_code}
@@ -159,6 +160,11 @@ nils_after e es wanted = by (is_last_open e es)
 
 -- Two instructions are left over by each expression, which pay for SETLIST where it is an item, and for CALL where it is an argument.
 module _ (cs : List Const) where
+  -- a field, whose object and key have short code
+  field_short : (line : ℕ) (object key : Exp) (first second : List Coded) (r t : ℕ) → length first + 2 ≤ 6 * weight object → length second + 2 ≤ 6 * weight key
+      → length (read_code (name_in cs key) object key first second r t line) + 2 ≤ 6 * weight (Index line object key)
+  field_short line object key first second r t a b = omega (arith, a, b, read_short (name_in cs key) object key first second r t line)
+
   mutual
     pub exp_short : (e : Exp) (t j c : ℕ) → length (exp_code cs e t j c) + 2 ≤ 6 * weight e
     exp_short (Int line n) t j c = omega (arith, integer_short cs n t line)
@@ -166,12 +172,7 @@ module _ (cs : List Const) where
     exp_short (Function line (BodyOf params vararg inner ups own)) t j c = omega arith
     exp_short (Var line name) t j c = omega (arith, name_short cs name.place name.text t t line)
     exp_short (Index line object key) t j c =
-        omega (
-          arith,
-          exp_short object t j 2,
-          exp_short key (t + 1) (j + made_by object) 2,
-          read_short (name_in cs key) object key (exp_code cs object t j 2) (exp_code cs key (t + 1) (j + made_by object) 2) t t line,
-        )
+        field_short line object key (exp_code cs object t j 2) (exp_code cs key (t + 1) (j + made_by object) 2) t t (exp_short object t j 2) (exp_short key (t + 1) (j + made_by object) 2)
     exp_short (Call line f es) t j c =
         let arguments = exps_code cs es None (t + 1) (j + made_by f) line in
         let call = with_abc CallCode t (list_field 0 es) c line ∷ [] in
@@ -295,10 +296,5 @@ module _ (cs : List Const) where
             (λ x n. constant_short op x n r line) (λ x y. operator_short op x y r line) (λ x n. number_short op x n r line),
       )
   direct_short (Index line object key) r t j =
-      omega (
-        arith,
-        exp_short object t j 2,
-        exp_short key (t + 1) (j + made_by object) 2,
-        read_short (name_in cs key) object key (exp_code cs object t j 2) (exp_code cs key (t + 1) (j + made_by object) 2) r t line,
-      )
+      omega (arith, field_short line object key (exp_code cs object t j 2) (exp_code cs key (t + 1) (j + made_by object) 2) r t (exp_short object t j 2) (exp_short key (t + 1) (j + made_by object) 2))
   direct_short _ r t j = omega arith
