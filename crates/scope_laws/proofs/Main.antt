@@ -53,17 +53,7 @@ parts_have [] = tt
 parts_have (p ∷ ps) = both_have (outside_name 0 p.around p.part) (outside_all 0 ps) (part_has p.around p.part) (parts_have ps)
 
 main_view : View main_frames (bare main_frames) 0 [] 0 main_upvalues
-main_view =
-    record {
-      closed = ((λ text h. refl), tt);
-      seen = refl;
-      depth = refl;
-      level = refl;
-      most = omega arith;
-      below = tt;
-      shown = λ text n e. tt;
-      own = refl;
-    }
+main_view = record { closed = ((λ text h. refl), tt); seen = refl; depth = refl; level = refl; most = omega arith; below = tt; shown = λ text n e. tt; own = refl }
 
 pub names_fit : (source : Block) → violations source ≡ [] → BodyNamesFit (placed source)
 names_fit source e =

@@ -13,6 +13,7 @@ use Rattle.tree_activation.specs.Work as tree
 use Rattle.tree_activation.specs.Activation.{step}
 use Rattle.tree_activation.specs.Statements.{aims_at_name}
 use Rattle.tree_activation.specs.Asking.{first, asks}
+use Rattle.code_core.specs.declared.opcode.Opcode.{Opcode}
 use Rattle.code_core.specs.declared.opcode.Opcode.TheVariants.{SetField, SetTabUp}
 use Rattle.code_core.specs.declared.proto.Const.{Const}
 use Rattle.code_core.specs.declared.proto.Const.TheVariants.{Str as StrConst}
@@ -126,11 +127,16 @@ module _ (S : Setting) (ps : List Pending) where
       (env' regs' : List Value) (c' : Captured) (opened' : ℕ) → After S.hidden S.code.own.stack ps env regs t env' regs' c'
       → Agree S n (tree.at (store []) (of_tree S ps env' c') k) (before (of_code S ps pc regs' opened') c')
 
-  -- SETTABUP
-  upvalue_goes : (u : ℕ) (text : List ℕ) (e : Exp) (flag : Bool) (v l t n pc opened : ℕ) (s : tree.State) (env regs : List Value) (c : Captured) (k : List Work)
-      → step s ≡ aims_at_name l text (GlobalOf u) [] EndExps (MoreExps e EndExps) (of_tree S ps env c) k → StoredIn S.code.own.constants e flag v → (flag ≡ false → v < length env) → number_in S.code.own.constants (StrConst text) < 256
-      → HasAt S pc ((abc SetTabUp u (number_in S.code.own.constants (StrConst text)) v flag, l) ∷ []) → NameIsPlaced S (GlobalOf u) text (length env) → pc + 1 < length S.code.own.code → length env ≤ t → Rel S.hidden S.code.own.stack ps env c regs
+  -- what one instruction does that stores a value at a global name of this place
+  abbrev StoresAt : Place → Opcode → (a : ℕ) → Type 0
+  StoresAt place op a =
+      (text : List ℕ) (e : Exp) (flag : Bool) (v l t n pc opened : ℕ) (s : tree.State) (env regs : List Value) (c : Captured) (k : List Work)
+      → step s ≡ aims_at_name l text place [] EndExps (MoreExps e EndExps) (of_tree S ps env c) k → StoredIn S.code.own.constants e flag v → (flag ≡ false → v < length env) → number_in S.code.own.constants (StrConst text) < 256
+      → HasAt S pc ((abc op a (number_in S.code.own.constants (StrConst text)) v flag, l) ∷ []) → NameIsPlaced S place text (length env) → pc + 1 < length S.code.own.code → length env ≤ t → Rel S.hidden S.code.own.stack ps env c regs
       → GoesStored n t env regs (pc + 1) k → Agree S n s (before (of_code S ps pc regs opened) c)
+
+  -- SETTABUP
+  upvalue_goes : (u : ℕ) → StoresAt (GlobalOf u) SetTabUp u
   upvalue_goes u text e flag v l t n pc opened s env regs c k st is below short has ok inside le rel goes =
       let number = number_in S.code.own.constants (StrConst text) in
       let key = known (string text) in
@@ -151,10 +157,7 @@ module _ (S : Setting) (ps : List Pending) where
       (goes env2 regs2 c2 opened (after_then S.hidden S.code.own.stack ps env regs env1 regs1 env2 regs2 c1 c2 t t (omega arith) af af2)))))
 
   -- SETFIELD of a local
-  field_goes : (m : ℕ) (text : List ℕ) (e : Exp) (flag : Bool) (v l t n pc opened : ℕ) (s : tree.State) (env regs : List Value) (c : Captured) (k : List Work)
-      → step s ≡ aims_at_name l text (GlobalIn m) [] EndExps (MoreExps e EndExps) (of_tree S ps env c) k → StoredIn S.code.own.constants e flag v → (flag ≡ false → v < length env) → number_in S.code.own.constants (StrConst text) < 256
-      → HasAt S pc ((abc SetField m (number_in S.code.own.constants (StrConst text)) v flag, l) ∷ []) → NameIsPlaced S (GlobalIn m) text (length env) → pc + 1 < length S.code.own.code → length env ≤ t → Rel S.hidden S.code.own.stack ps env c regs
-      → GoesStored n t env regs (pc + 1) k → Agree S n s (before (of_code S ps pc regs opened) c)
+  field_goes : (m : ℕ) → StoresAt (GlobalIn m) SetField m
   field_goes m text e flag v l t n pc opened s env regs c k st is below short has ok inside le rel goes =
       let number = number_in S.code.own.constants (StrConst text) in
       let key = known (string text) in
