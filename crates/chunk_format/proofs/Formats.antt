@@ -24,6 +24,18 @@ little_number-take n bytes h =
     let enough : n ≤ length (take n bytes) = omega (arith, length-take n bytes) in
     ap (little_number n) (sym (take-append-drop n bytes)) ∙ little_from-append n (take n bytes) (drop n bytes) enough
 
+-- a number of a width in front of a rest: it is not cut short, and the rest stands behind it
+record Wide (width : ℕ) (front rest : List ℕ) : Type 0 where
+  enough : width ≤ length front
+  long : nat_lt (length (front ++ rest)) width ≡ false
+  behind : drop width (front ++ rest) ≡ rest
+
+wide : (width : ℕ) (front rest : List ℕ) → length front ≡ width → Wide width front rest
+wide width front rest is =
+    let not_less : width ≤ length (front ++ rest) = omega (arith, is, length-append front rest) in
+    let long : nat_lt (length (front ++ rest)) width ≡ false = grind (arith, nat_tests) in
+    record { enough = omega (arith, is); long = long; behind = rw (← is) (drop-append_seam front rest) }
+
 sound_word : (bytes rest : List ℕ) (x : ℕ) → read_word bytes ≡ read x rest → Spelled WordOf x bytes rest
 sound_word bytes rest x e =
     let h = width_read (nat_lt (length bytes) 4) (little_number 4 bytes) x (drop 4 bytes) rest e in
@@ -37,13 +49,7 @@ sound_word bytes rest x e =
     }
 
 complete_word : (x : ℕ) (front rest : List ℕ) → WordOf x front → read_word (front ++ rest) ≡ read x rest
-complete_word x front rest h =
-    let four : length front ≡ 4 = h.0 in
-    let enough : 4 ≤ length front = omega arith in
-    let not_less : 4 ≤ length (front ++ rest) = omega (arith, length-append front rest) in
-    let long : nat_lt (length (front ++ rest)) 4 ≡ false = grind (arith, nat_tests) in
-    let behind : drop 4 (front ++ rest) ≡ rest = rw (← four) (drop-append_seam front rest) in
-    rw (long, little_from-append 4 front rest enough, behind, sym h.1) refl
+complete_word x front rest h = let w = wide 4 front rest h.0 in rw (w.long, little_from-append 4 front rest w.enough, w.behind, sym h.1) refl
 
 exact_word : Exact WordOf read_word
 exact_word = record { sound = sound_word; complete = complete_word }
@@ -61,13 +67,7 @@ sound_integer bytes rest x e =
     }
 
 complete_integer : (x : ℤ) (front rest : List ℕ) → IntegerOf x front → read_integer (front ++ rest) ≡ read x rest
-complete_integer x front rest h =
-    let eight : length front ≡ 8 = h.0 in
-    let enough : 8 ≤ length front = omega arith in
-    let not_less : 8 ≤ length (front ++ rest) = omega (arith, length-append front rest) in
-    let long : nat_lt (length (front ++ rest)) 8 ≡ false = grind (arith, nat_tests) in
-    let behind : drop 8 (front ++ rest) ≡ rest = rw (← eight) (drop-append_seam front rest) in
-    rw (long, little_from-append 8 front rest enough, behind, sym h.1) refl
+complete_integer x front rest h = let w = wide 8 front rest h.0 in rw (w.long, little_from-append 8 front rest w.enough, w.behind, sym h.1) refl
 
 pub exact_integer : Exact IntegerOf read_integer
 exact_integer = record { sound = sound_integer; complete = complete_integer }
