@@ -1,12 +1,13 @@
 -- Jumps close the locals behind the level that they lead to; all levels are those of a block around.
-use Rattle.std.proofs.Common.{◌≡◌, ℕ, ◌+◌, ◌-◌, ◌≤◌, Bool, true, false, cond, ◌&&◌, List, [], ◌∷◌, ◌++◌, Option, Some, None, nat_le, bytes_eq, refl, arith}
+use Rattle.std.proofs.Common.{◌≡◌, ℕ, ◌+◌, ◌-◌, ◌≤◌, Bool, true, false, cond, ◌&&◌, List, [], ◌∷◌, ◌++◌, Option, Some, None, nat_le, refl, arith}
 use Rattle.tree_core.specs.Tree.{Stats, EndStats, MoreStats, Stat, Label}
 use Rattle.code_core.specs.declared.opcode.Opcode.TheVariants.{Close, Jmp}
 use Rattle.code_core.specs.declared.proto.Const.{Const}
 use Rattle.code_of.specs.declared.leaving.Leaving.{Leaving}
 use Rattle.code_of.specs.Coded.{with_abc, jump_over, jump_back}
-use Rattle.code_of.specs.Jumps.{Landing, Visible, Reach, label_in, jump_code, leads}
+use Rattle.code_of.specs.Jumps.{Landing, Visible, Reach, jump_code, leads}
 use Rattle.code_of.specs.Levels.{made_by_stat, closing_after}
+use Rattle.code_of.proofs.Landings.{Lands, AllLand}
 use Rattle.tree_terms.specs.Levels.{level_after}
 use Rattle.code_of.specs.Sizes.{stat_size}
 use Rattle.code_of.specs.Statements.{passed_after, labels_ahead}
@@ -15,29 +16,12 @@ use Rattle.scope_laws.specs.Keeping.{StatsKeep}
 use Rattle.code_bounds.proofs.Tops.{top, top_more, ax_is, one_a}
 use Rattle.scope_laws.proofs.Rules.{few_after}
 
-abbrev pub LandsLow : Option Landing → Type 0
-LandsLow None = Unit {0}
-LandsLow (Some x) = x.level ≤ 200
-
-abbrev pub LabelsLow : List Visible → Type 0
-LabelsLow [] = Unit {0}
-LabelsLow (x ∷ xs) = (x.landing.level ≤ 200) × LabelsLow xs
+abbrev pub IsLow : Landing → Type 0
+IsLow x = x.level ≤ 200
 
 pub record ReachLow (reach : Reach) : Type 0 where
-  pub labels : LabelsLow reach.labels
-  pub exit : LandsLow reach.exit
-
-pub labels_append : (xs ys : List Visible) → LabelsLow xs → LabelsLow ys → LabelsLow (xs ++ ys)
-labels_append [] ys h k = k
-labels_append (x ∷ xs) ys h k = (h.0, labels_append xs ys h.1 k)
-
-pub label_low : (name : List ℕ) (labels : List Visible) → LabelsLow labels → LandsLow (label_in name labels)
-label_low name [] h = tt
-label_low name (x ∷ labels) h = by (bytes_eq x.name name) (label_low name labels h.1)
-  where
-    by : (b : Bool) → LandsLow (label_in name labels) → LandsLow (cond b (Some x.landing) (label_in name labels))
-    by true rest = h.0
-    by false rest = rest
+  pub labels : AllLand IsLow reach.labels
+  pub exit : Lands IsLow reach.exit
 
 either_way : (b : Bool) (m n line : ℕ) → top (cond b (jump_over m line) (jump_back n line) ∷ []) ≡ 0
 either_way true m n line = ax_is Jmp (16777215 + m) refl
@@ -52,11 +36,11 @@ jump_top true x pc line low =
     let c = either_way (nat_le (pc + 2) x.place) (x.place - (pc + 2)) (pc + 2 - x.place) line in
     omega (arith, a, b, c, low)
 
-pub leads_top : (closes : Bool) (o : Option Landing) (pc line : ℕ) → LandsLow o → top (leads closes o pc line) ≤ 250
+pub leads_top : (closes : Bool) (o : Option Landing) (pc line : ℕ) → Lands IsLow o → top (leads closes o pc line) ≤ 250
 leads_top closes None pc line low = jump_top closes (record { place = 0; level = 0 }) pc line (omega arith)
 leads_top closes (Some x) pc line low = jump_top closes x pc line low
 
-pub passed_low : (s : Stat) (t pc : ℕ) (passed : List Visible) → t ≤ 200 → LabelsLow passed → LabelsLow (passed_after s t pc passed)
+pub passed_low : (s : Stat) (t pc : ℕ) (passed : List Visible) → t ≤ 200 → AllLand IsLow passed → AllLand IsLow (passed_after s t pc passed)
 passed_low (Label line name) t pc passed few h = (few, h)
 passed_low _ t pc passed few h = h
 
@@ -65,7 +49,7 @@ either_level true m n h k = h
 either_level false m n h k = k
 
 module _ (cs : List Const) (back : Leaving) where
-  pub ahead_low : (ss : Stats) (falls closing : Bool) (outer t j pc : ℕ) (vararg : Bool) (names named : List Named) (loops : Bool) → outer ≤ 200 → t ≤ 200 → StatsKeep ss falls vararg t names named loops → LabelsLow (labels_ahead cs back ss falls closing outer t j pc)
+  pub ahead_low : (ss : Stats) (falls closing : Bool) (outer t j pc : ℕ) (vararg : Bool) (names named : List Named) (loops : Bool) → outer ≤ 200 → t ≤ 200 → StatsKeep ss falls vararg t names named loops → AllLand IsLow (labels_ahead cs back ss falls closing outer t j pc)
   ahead_low EndStats falls closing outer t j pc vararg names named loops a b h = tt
   ahead_low (MoreStats (Label line name) ss) falls closing outer t j pc vararg names named loops a b h =
       (either_level (falls && are_void ss) outer t a b, ahead_low ss falls closing outer t j pc vararg (names_passed (Label line name) names) named loops a b h.1.1)

@@ -19,6 +19,7 @@ use Rattle.code_of.specs.Sizes.{stat_size, arms_size, block_size}
 use Rattle.code_of.specs.Statements.{in_loop, passed_after, labels_ahead, stat_code, arms_code, stats_code, block_code, open_code, whole_code}
 use Rattle.scope_core.specs.Held.{held, held_behind, held_stat, held_tests}
 use Rattle.code_of.specs.Rooms.{room_of, room_of_list, room_of_last}
+use Rattle.code_of.proofs.Landings.{AllLand, both_land, label_lands}
 use Rattle.tree_terms.specs.Labels.{Named, names_ahead, names_passed}
 use Rattle.scope_laws.specs.Finding.{three_hidden, four_hidden, ExpFinds, ExpsFind, StatFinds, ArmsFind, StatsFind, BlockFinds}
 use Rattle.scope_laws.specs.Keeping.{StatKeeps, ArmsKeep, StatsKeep, BlockKeeps}
@@ -28,7 +29,7 @@ use Rattle.code_bounds.proofs.Holding.{same_count}
 use Rattle.code_bounds.proofs.Room.{HasRoom, room_end, room_as, room_append, room_more, room_of_top}
 use Rattle.code_bounds.proofs.Simple.{marks_top, close_top, exp_room, exps_room, filled, return_room}
 use Rattle.code_bounds.proofs.Assigning.{assign_room}
-use Rattle.code_bounds.proofs.Jumping.{LabelsLow, ReachLow, labels_append, label_low, leads_top, passed_low, ahead_low}
+use Rattle.code_bounds.proofs.Jumping.{IsLow, ReachLow, leads_top, passed_low, ahead_low}
 use Rattle.scope_laws.proofs.Rules.{few_after}
 
 -- the forms of statements that have blocks, where their parts have room
@@ -172,7 +173,7 @@ module _ (cs : List Const) (stack : ℕ) where
         top otherwise ≤ 250 → HasRoom stack (arms_code cs back arms otherwise closing t j pc line reach) ((t ≤ stack → ArmsHaveRoom cs stack arms t) × (top otherwise ≤ stack))
 
     abbrev StatsRoom : Stats → Type 0
-    StatsRoom ss = (hidden : List ℕ) (names named : List Named) (loops falls closing : Bool) (outer t j pc : ℕ) (passed : List Visible) (reach : Reach) → StatsFind ss hidden t ups → outer ≤ 200 → t ≤ 200 → StatsKeep ss falls vararg t names named loops → LabelsLow passed → ReachLow reach →
+    StatsRoom ss = (hidden : List ℕ) (names named : List Named) (loops falls closing : Bool) (outer t j pc : ℕ) (passed : List Visible) (reach : Reach) → StatsFind ss hidden t ups → outer ≤ 200 → t ≤ 200 → StatsKeep ss falls vararg t names named loops → AllLand IsLow passed → ReachLow reach →
         HasRoom stack (stats_code cs back ss falls closing outer t j pc passed reach) (t ≤ stack → StatsHaveRoom cs stack ss t)
 
     abbrev BlockRoom : Block → Type 0
@@ -271,7 +272,7 @@ module _ (cs : List Const) (stack : ℕ) where
           (omega (arith, one, within), (all.1.0, (all.1.1.0, all.1.1.1 all.1.1.0))))
       stat_room (Label line name) hidden named loops closing t j pc reach known few holds level keeps low = room_as room_end (λ h within. tt)
       stat_room (Goto line name) hidden named loops closing t j pc reach known few holds level keeps low =
-          room_as (room_of_top (leads (back.closes || closing) (label_in name.text reach.labels) pc line) (leads_top (back.closes || closing) (label_in name.text reach.labels) pc line (label_low name.text reach.labels low.labels))) (λ h within. tt)
+          room_as (room_of_top (leads (back.closes || closing) (label_in name.text reach.labels) pc line) (leads_top (back.closes || closing) (label_in name.text reach.labels) pc line (label_lands IsLow name.text reach.labels low.labels))) (λ h within. tt)
       stat_room (Break line) hidden named loops closing t j pc reach known few holds level keeps low = room_as (room_of_top (leads (back.closes || closing) reach.exit pc line) (leads_top (back.closes || closing) reach.exit pc line low.exit)) (λ h within. tt)
 
       arms_room : (arms : Arms) → ArmsRoom arms
@@ -298,7 +299,7 @@ module _ (cs : List Const) (stack : ℕ) where
           let place = pc + stat_size cs back s closing t j in
           let ahead = labels_ahead cs back ss falls (closing_after s closing) outer (level_after s t) k place in
           let labels = ahead ++ (passed ++ reach.labels) in
-          let all_low = labels_append ahead (passed ++ reach.labels) (ahead_low cs back ss falls (closing_after s closing) outer (level_after s t) k place vararg (names_passed s names) named loops out level keeps.1.1) (labels_append passed reach.labels passing low.labels) in
+          let all_low = both_land IsLow ahead (passed ++ reach.labels) (ahead_low cs back ss falls (closing_after s closing) outer (level_after s t) k place vararg (names_passed s names) named loops out level keeps.1.1) (both_land IsLow passed reach.labels passing low.labels) in
           room_as
           (room_append (stat_code cs back s closing t j pc (record { labels = labels; exit = reach.exit }))
           (stats_code cs back ss falls (closing_after s closing) outer (level_after s t) k place (passed_after s t pc passed) reach)

@@ -1,5 +1,5 @@
 -- Jumps out of a piece of tree: what can be reached stands in the code, and a jump to it is a piece.
-use Rattle.std.proofs.Common.{◌≡◌, ℕ, ◌+◌, ◌-◌, ◌<◌, ◌^◌, lit<, Bool, true, false, cond, List, [], ◌∷◌, ◌++◌, Option, Some, None, bytes_eq, refl, arith, leb-true, leb-false}
+use Rattle.std.proofs.Common.{◌≡◌, ℕ, ◌+◌, ◌-◌, ◌<◌, ◌^◌, lit<, Bool, true, false, cond, List, [], ◌∷◌, Option, Some, None, refl, arith, leb-true, leb-false}
 use Rattle.std.specs.Prelude.{nat_le}
 use Rattle.std.proofs.lemmas.Option.{slice_get_within}
 use Rattle.code_core.specs.declared.opcode.Opcode.TheVariants.{Close, Jmp}
@@ -7,7 +7,8 @@ use Rattle.code_core.specs.Instruction.{op_ax}
 use Rattle.code_core.specs.Prototype.{Prototype}
 use Rattle.code_core.proofs.FieldLemmas.{opcode_of-abc, opcode_of-ax}
 use Rattle.code_of.specs.Coded.{Coded, with_abc, jump_over, jump_back}
-use Rattle.code_of.specs.Jumps.{Landing, Visible, Reach, label_in, jump_code, leads}
+use Rattle.code_of.specs.Jumps.{Landing, Reach, jump_code, leads}
+use Rattle.code_of.proofs.Landings.{Lands, AllLand}
 use Rattle.code_checked.proofs.Pieces.{Seam, closed, Starts, Ends, Leaves, Land, Piece, both}
 use Rattle.code_checked.proofs.Units.{leaves_none, begins_none}
 use Rattle.code_checked.proofs.Words.{simple, simple_close}
@@ -20,31 +21,11 @@ module _ (p : Prototype) where
     pub land : Land p x.place
     pub level : x.level < 2 ^ 8
 
-  abbrev pub MayStand : Option Landing → Type 0
-  MayStand None = Unit {0}
-  MayStand (Some x) = Stands x
-
-  abbrev pub AllStand : List Visible → Type 0
-  AllStand [] = Unit {0}
-  AllStand (v ∷ vs) = Stands v.landing × AllStand vs
-
   -- the code's beginning, the labels and the loop's end
   pub record Reaches (reach : Reach) : Type 0 where
     pub begin : Land p 0
-    pub labels : AllStand reach.labels
-    pub exit : MayStand reach.exit
-
-  pub all_both : (xs ys : List Visible) → AllStand xs → AllStand ys → AllStand (xs ++ ys)
-  all_both [] ys h k = k
-  all_both (x ∷ xs) ys h k = (h.0, all_both xs ys h.1 k)
-
-  pub label_stands : (name : List ℕ) (labels : List Visible) → AllStand labels → MayStand (label_in name labels)
-  label_stands name [] h = tt
-  label_stands name (x ∷ labels) h = by (bytes_eq x.name name) (label_stands name labels h.1)
-    where
-      by : (b : Bool) → MayStand (label_in name labels) → MayStand (cond b (Some x.landing) (label_in name labels))
-      by true rest = h.0
-      by false rest = rest
+    pub labels : AllLand Stands reach.labels
+    pub exit : Lands Stands reach.exit
 
   -- a piece whose fields are known to fit only once it is at its place
   pub late : {H : Type 0} {f m : Seam} {pc : ℕ} {xs : List Coded} → Starts f xs → Ends f m xs → (H → Piece p H f m pc xs) → Piece p H f m pc xs
@@ -110,6 +91,6 @@ module _ (p : Prototype) where
   jump_piece false W x pc line to = alone_piece W x pc line to
 
   -- where nothing is found the jump leads to the beginning
-  pub leads_piece : {H : Type 0} (closes : Bool) (W : Whole p) (o : Option Landing) (pc line : ℕ) → (H → Land p 0) → (H → MayStand o) → Piece p H closed closed pc (leads closes o pc line)
+  pub leads_piece : {H : Type 0} (closes : Bool) (W : Whole p) (o : Option Landing) (pc line : ℕ) → (H → Land p 0) → (H → Lands Stands o) → Piece p H closed closed pc (leads closes o pc line)
   leads_piece closes W None pc line begin to = jump_piece closes W (record { place = 0; level = 0 }) pc line (λ h. record { land = begin h; level = lit< tt })
   leads_piece closes W (Some x) pc line begin to = jump_piece closes W x pc line to

@@ -17,8 +17,9 @@ use Rattle.code_checked.proofs.Pieces.{closed, Front, There, Land, Has, Piece, b
 use Rattle.code_checked.proofs.Found.{grows_then}
 use Rattle.code_checked.proofs.Loads.{Whole}
 use Rattle.code_checked.proofs.Growing.{grows_stats, after_stat}
+use Rattle.code_of.proofs.Landings.{AllLand, both_land}
 use Rattle.code_of.proofs.Sizes.{stat_sized}
-use Rattle.code_checked.proofs.Reaching.{AllStand, all_both}
+use Rattle.code_checked.proofs.Reaching.{Stands}
 use Rattle.code_checked.proofs.Stats.{back, StatLaw, BlockLaw, OpenLaw, ArmsLaw, StatsLaw, Sequence, empty_law, local_law, local_function_law, assign_law, call_law, do_law, while_law, repeat_law, if_law, if_else_law, no_arms, more_arms, num_for_law, num_for_step_law, gen_for_law, goto_law, break_law, falls_law, returns_law, open_falls_law, open_returns_law}
 
 level_fits : (b : Bool) (outer t : ℕ) → outer ≤ t → IsRegister t → cond b outer t < 2 ^ 8
@@ -44,19 +45,19 @@ module _ (p : Prototype) (W : Whole p) (source : Option (List ℕ)) (closes : Bo
   above_after (LocalFunction line name body) outer t le = omega (arith, le)
   above_after _ outer t le = le
 
-  passed_stand : (s : Stat) (t pc : ℕ) (passed : List Visible) → Land p pc → IsRegister t → AllStand p passed → AllStand p (passed_after s t pc passed)
+  passed_stand : (s : Stat) (t pc : ℕ) (passed : List Visible) → Land p pc → IsRegister t → AllLand (Stands p) passed → AllLand (Stands p) (passed_after s t pc passed)
   passed_stand (Label line name) t pc passed land r h = (record { land = land; level = omega (arith, r) }, h)
   passed_stand _ t pc passed land r h = h
 
   -- the labels from a statement on
   ahead_stand : (s : Stat) (ss : Stats) (falls closing : Bool) (outer t j pc : ℕ) → Land p pc → outer ≤ t → IsRegister t
-      → AllStand p (labels_ahead p.own.constants (back p W source closes) ss falls (closing_after s closing) outer (level_after s t) (j + made_by_stat s) (pc + stat_size p.own.constants (back p W source closes) s closing t j))
-      → AllStand p (labels_ahead p.own.constants (back p W source closes) (MoreStats s ss) falls closing outer t j pc)
+      → AllLand (Stands p) (labels_ahead p.own.constants (back p W source closes) ss falls (closing_after s closing) outer (level_after s t) (j + made_by_stat s) (pc + stat_size p.own.constants (back p W source closes) s closing t j))
+      → AllLand (Stands p) (labels_ahead p.own.constants (back p W source closes) (MoreStats s ss) falls closing outer t j pc)
   ahead_stand (Label line name) ss falls closing outer t j pc land le r h =
       let e : j + 0 ≡ j = omega arith in
       let d : pc + 0 ≡ pc = omega arith in (
         record { land = land; level = level_fits (falls && are_void ss) outer t le r },
-        subst (λ k. AllStand p (labels_ahead p.own.constants (back p W source closes) ss falls closing outer t k pc)) e (subst (λ q. AllStand p (labels_ahead p.own.constants (back p W source closes) ss falls closing outer t (j + 0) q)) d h),
+        subst (λ k. AllLand (Stands p) (labels_ahead p.own.constants (back p W source closes) ss falls closing outer t k pc)) e (subst (λ q. AllLand (Stands p) (labels_ahead p.own.constants (back p W source closes) ss falls closing outer t (j + 0) q)) d h),
       )
   ahead_stand _ ss falls closing outer t j pc land le r h = h
 
@@ -72,17 +73,17 @@ module _ (p : Prototype) (W : Whole p) (source : Option (List ℕ)) (closes : Bo
       let behind_code = stats_code cst b ss falls (closing_after s closing) outer (level_after s t) k place (passed_after s t pc passed) reach in
       let first = of_stat s cs in
       let size : pc + length code ≡ place = ap (λ n. pc + n) (stat_sized cst b s closing t j pc here) in
-      let H : Type 0 = G × AllStand p ahead × Land p pc in
+      let H : Type 0 = G × AllLand (Stands p) ahead × Land p pc in
       let one : Piece p H closed closed pc code =
       law H closing t j pc here cs (from_stats source ss rest)
-      (λ h. let q = to h.0 in record { begin = q.begin; labels = all_both p ahead (passed ++ reach.labels) h.1 (all_both p passed reach.labels (had h.0) q.labels); exit = q.exit })
+      (λ h. let q = to h.0 in record { begin = q.begin; labels = both_land (Stands p) ahead (passed ++ reach.labels) h.1 (both_land (Stands p) passed reach.labels (had h.0) q.labels); exit = q.exit })
       near.0 r (grows_then first (of_stats ss first) cst (grows_stats ss first) g) fs in
       let others : Sequence p W source closes ss H falls (closing_after s closing) outer (level_after s t) k place (passed_after s t pc passed) reach =
       laws H falls (closing_after s closing) outer (level_after s t) k place (passed_after s t pc passed) reach first rest (λ h. to h.0) (λ h. passed_stand s t pc passed h.2 r (had h.0))
       near.1 (register_after s closing t j near.0 r) (above_after s outer t le) g (after_stat source p s j (from_stats source ss rest) fs) in
       let next : Piece p H closed closed (pc + length code) behind_code = subst (λ q. Piece p H closed closed q behind_code) (sym size) others.piece in
       let whole : Piece p H closed closed pc (code ++ behind_code) = both p one next in
-      let stand : Has p pc (code ++ behind_code) → Front closed (in_front p pc) → There p (pc + length (code ++ behind_code)) → AllStand p ahead × Land p pc =
+      let stand : Has p pc (code ++ behind_code) → Front closed (in_front p pc) → There p (pc + length (code ++ behind_code)) → AllLand (Stands p) ahead × Land p pc =
       (λ has front behind.
       let left = has_left p pc code behind_code has in
       let right : Has p place behind_code = subst (λ q. Has p q behind_code) size (has_right p pc code behind_code has) in

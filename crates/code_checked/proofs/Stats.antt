@@ -28,9 +28,10 @@ use Rattle.code_checked.proofs.Loads.{Whole, Functions}
 use Rattle.code_checked.proofs.Growing.{grows_exp, grows_exps, grows_arms, grows_block, after_exp, after_exps, after_arms, after_stats, after_block}
 use Rattle.code_checked.proofs.Exps.{exp_law, one_law}
 use Rattle.code_checked.proofs.Conditions.{test_law}
+use Rattle.code_of.proofs.Landings.{AllLand, label_lands}
 use Rattle.code_of.proofs.Sizes.{test_sized, stat_sized, arms_sized, block_sized, past_sized}
 use Rattle.code_checked.proofs.Forms.{while_piece, repeat_piece, arm_piece, counting_piece, iterating_piece}
-use Rattle.code_checked.proofs.Reaching.{AllStand, Reaches, label_stands, leads_piece}
+use Rattle.code_checked.proofs.Reaching.{Stands, Reaches, leads_piece}
 use Rattle.code_checked.proofs.StatForms.{marks_piece, close_piece, as_closed, function_piece, values_piece, assign_piece, return_law}
 
 module _ (p : Prototype) (W : Whole p) (source : Option (List ℕ)) (closes : Bool) where
@@ -64,11 +65,11 @@ module _ (p : Prototype) (W : Whole p) (source : Option (List ℕ)) (closes : Bo
   pub record Sequence (ss : Stats) (G : Type 0) (falls closing : Bool) (outer t j pc : ℕ) (passed : List Visible) (reach : Reach) : Type 0 where
     pub piece : Piece p G closed closed pc (stats_code p.own.constants back ss falls closing outer t j pc passed reach)
     pub ahead : Has p pc (stats_code p.own.constants back ss falls closing outer t j pc passed reach) → Front closed (Rattle.code_core.specs.Check.in_front p pc)
-        → There p (pc + length (stats_code p.own.constants back ss falls closing outer t j pc passed reach)) → AllStand p (labels_ahead p.own.constants back ss falls closing outer t j pc)
+        → There p (pc + length (stats_code p.own.constants back ss falls closing outer t j pc passed reach)) → AllLand (Stands p) (labels_ahead p.own.constants back ss falls closing outer t j pc)
 
   abbrev pub StatsLaw : Stats → Type 1
   StatsLaw ss =
-      (G : Type 0) (falls closing : Bool) (outer t j pc : ℕ) (passed : List Visible) (reach : Reach) (cs : List Const) (rest : Prototypes) → (G → Reaches p reach) → (G → AllStand p passed) → StatsAreNear source p ss closing t j → IsRegister t → outer ≤ t
+      (G : Type 0) (falls closing : Bool) (outer t j pc : ℕ) (passed : List Visible) (reach : Reach) (cs : List Const) (rest : Prototypes) → (G → Reaches p reach) → (G → AllLand (Stands p) passed) → StatsAreNear source p ss closing t j → IsRegister t → outer ≤ t
       → Grows (of_stats ss cs) p.own.constants → Functions p j (from_stats source ss rest) → Sequence ss G falls closing outer t j pc passed reach
 
   -- statements
@@ -240,7 +241,7 @@ module _ (p : Prototype) (W : Whole p) (source : Option (List ℕ)) (closes : Bo
 
   pub goto_law : (line : ℕ) (name : Name) → StatLaw (Goto line name)
   goto_law line name G closing t j pc reach cs rest to near r g fs =
-      leads_piece p (closes || closing) W (label_in name.text reach.labels) pc line (λ x. (to x).begin) (λ x. label_stands p name.text reach.labels (to x).labels)
+      leads_piece p (closes || closing) W (label_in name.text reach.labels) pc line (λ x. (to x).begin) (λ x. label_lands (Stands p) name.text reach.labels (to x).labels)
 
   pub break_law : (line : ℕ) → StatLaw (Break line)
   break_law line G closing t j pc reach cs rest to near r g fs = leads_piece p (closes || closing) W reach.exit pc line (λ x. (to x).begin) (λ x. (to x).exit)
