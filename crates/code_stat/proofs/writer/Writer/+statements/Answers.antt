@@ -4,8 +4,8 @@ use Rattle.std.specs.Option.{option_map}
 use Rattle.tree_core.specs.Tree as tree
 use Rattle.tree_core.specs.declared.tree.Block.{out-Block}
 use Rattle.tree_core.specs.declared.tree.Arm.{out-Arm}
-use Rattle.tree_core.specs.Plain.{plain_exp, plain_exps, plain_stat, plain_stat_node, plain_block, plain_body, plain_arm, num_for_of}
-use Rattle.tree_core.proofs.Rows.{plain-local, plain-assign, plain-if, plain-num_for, plain-gen_for, without_result, with_result}
+use Rattle.tree_core.specs.Plain.{plain_exp, plain_exps, plain_stat, plain_stat_node, plain_block, plain_body, plain_arm}
+use Rattle.tree_core.proofs.Rows.{plain-local, plain-assign, without_result, with_result}
 use Rattle.code_core.specs.declared.opcode.Opcode.TheVariants.{ForPrep, TForPrep, TForCall, TForLoop}
 use Rattle.code_of.specs.Coded.{with_abc, with_abx}
 use Rattle.code_of.specs.Sizes.{block_size}
@@ -15,7 +15,7 @@ use Rattle.code_emitter.specs.Listing.{listed}
 use Rattle.code_emitter.specs.Patches.{replaced}
 use Rattle.code_stat.specs.declared.writer.Writer.{Writer}
 use Rattle.code_stat.specs.Forms.{choice, level_at}
-use Rattle.code_stat.proofs.Plain.{ends_at, marks_at, chosen_of, arms_front}
+use Rattle.code_stat.proofs.Plain.{ends_at, marks_at, choice_plain, num_for_plain, gen_for_plain, arms_front}
 use Rattle.code_stat.proofs.Heights.{stat_height, stats_height, choice_height, block_inside, within_height}
 use Rattle.code_stat.proofs.Drafting.{written_sized}
 use Rattle.code_stat.proofs.Choosing.{full_wrote, empty_wrote}
@@ -64,18 +64,14 @@ statement-returns-in-Assign-clause-code t c =
 
 pub statement-returns-in-If-clause-code : goal.statement-returns-in-If-clause-code
 statement-returns-in-If-clause-code t c =
-    let is : plain_stat c.args.stat.now ≡ choice c.args.stat.now.line (tree.arms (map plain_arm c.in-If.list.items)) (option_map (λ b. plain_block b.value) c.in-If.otherwise) =
-    ap (λ n. plain_stat_node n c.args.stat.now.line) c.in-If.is ∙ plain-if c.args.stat.now.line c.in-If.list c.in-If.otherwise ∙ chosen_of c.args.stat.now.line (map plain_arm c.in-If.list.items) (option_map (λ b. plain_block b.value) c.in-If.otherwise) in
-    subst (λ s. OnOk c.arms.result (WroteStat c.args.self.now c.arms.new.self s c.args.closing c.args.level)) (sym is) c.arms.ensures.code
+    subst (λ s. OnOk c.arms.result (WroteStat c.args.self.now c.arms.new.self s c.args.closing c.args.level)) (sym (choice_plain c.args.stat.now c.in-If.list c.in-If.otherwise c.in-If.is)) c.arms.ensures.code
 
 pub statement-returns-in_ok-counted-in-NumFor-clause-code : goal.statement-returns-in_ok-counted-in-NumFor-clause-code
 statement-returns-in_ok-counted-in-NumFor-clause-code t c =
     let line = c.args.stat.now.line in
     let step = option_map (λ e. plain_exp e.value) c.in-NumFor.step in
-    let is : plain_stat c.args.stat.now ≡ num_for_of line c.in-NumFor.name (plain_exp c.deref-in-NumFor.result.now) (plain_exp c.deref-in-NumFor-2.result.now) step (plain_block c.deref-in-NumFor-3.result.now) =
-    ap (λ n. plain_stat_node n line) c.in-NumFor.is ∙ plain-num_for line c.in-NumFor.name c.in-NumFor.from c.in-NumFor.limit c.in-NumFor.step c.in-NumFor.block
-    ∙ ap₂ (λ e d. num_for_of line c.in-NumFor.name (plain_exp e) (plain_exp d) step (plain_block c.in-NumFor.block.value)) (sym c.deref-in-NumFor.ensures) (sym c.deref-in-NumFor-2.ensures)
-    ∙ ap (λ b. num_for_of line c.in-NumFor.name (plain_exp c.deref-in-NumFor.result.now) (plain_exp c.deref-in-NumFor-2.result.now) step (plain_block b)) (sym c.deref-in-NumFor-3.ensures) in
+    let is = num_for_plain c.args.stat.now c.in-NumFor.name c.in-NumFor.from c.in-NumFor.limit c.in-NumFor.step c.in-NumFor.block c.deref-in-NumFor.result.now c.deref-in-NumFor-2.result.now c.deref-in-NumFor-3.result.now
+    c.in-NumFor.is c.deref-in-NumFor.ensures c.deref-in-NumFor-2.ensures c.deref-in-NumFor-3.ensures in
     subst (λ s. WroteStat c.args.self.now c.counted.new.self s c.args.closing c.args.level) (sym is)
     (num_for_wrote c.args.self.now (record c.args.self.now { emitter = c.write_range.new.emitter }) c.counted.new.self c.write_range.new.emitter c.in-NumFor.name (plain_exp c.deref-in-NumFor.result.now) (plain_exp c.deref-in-NumFor-2.result.now) step
     (plain_block c.deref-in-NumFor-3.result.now) c.args.closing c.args.level line c.in_ok-write_range-in-NumFor.ensures refl refl refl c.in_ok-counted-in-NumFor.ensures.code)
@@ -84,8 +80,7 @@ pub statement-returns-in_ok-iterated-in-GenFor-clause-code : goal.statement-retu
 statement-returns-in_ok-iterated-in-GenFor-clause-code t c =
     let line = c.args.stat.now.line in
     let es = tree.exps (plain_exps c.in-GenFor.values.items) in
-    let is : plain_stat c.args.stat.now ≡ tree.GenFor line c.in-GenFor.names.items es (plain_block c.deref-in-GenFor.result.now) =
-    ap (λ n. plain_stat_node n line) c.in-GenFor.is ∙ plain-gen_for line c.in-GenFor.names c.in-GenFor.values c.in-GenFor.block ∙ ap (λ b. tree.GenFor line c.in-GenFor.names.items es (plain_block b)) (sym c.deref-in-GenFor.ensures) in
+    let is = gen_for_plain c.args.stat.now c.in-GenFor.names c.in-GenFor.values c.in-GenFor.block c.deref-in-GenFor.result.now c.in-GenFor.is c.deref-in-GenFor.ensures in
     subst (λ s. WroteStat c.args.self.now c.iterated.new.self s c.args.closing c.args.level) (sym is)
     (gen_for_wrote c.args.self.now (record c.args.self.now { emitter = c.list.new.emitter }) c.iterated.new.self c.list.new.emitter c.in-GenFor.names.items es (plain_block c.deref-in-GenFor.result.now) c.args.closing (length c.in-GenFor.names.items) c.args.level line refl
     c.in_ok-list-in-GenFor.ensures refl refl refl c.in_ok-iterated-in-GenFor.ensures.code)
@@ -276,9 +271,7 @@ open_block-statements-requires t c = let h = block_inside c.args.block.now in (o
 
 pub statement-arms-requires : goal.statement-arms-requires
 statement-arms-requires t c =
-    let is : plain_stat c.args.stat.now ≡ choice c.args.stat.now.line (tree.arms (map plain_arm c.in-If.list.items)) (option_map (λ b. plain_block b.value) c.in-If.otherwise) =
-    ap (λ n. plain_stat_node n c.args.stat.now.line) c.in-If.is ∙ plain-if c.args.stat.now.line c.in-If.list c.in-If.otherwise ∙ chosen_of c.args.stat.now.line (map plain_arm c.in-If.list.items) (option_map (λ b. plain_block b.value) c.in-If.otherwise) in
-    let h = ap stat_height is ∙ choice_height c.args.stat.now.line (tree.arms (map plain_arm c.in-If.list.items)) c.in-If.otherwise in
+    let h = ap stat_height (choice_plain c.args.stat.now c.in-If.list c.in-If.otherwise c.in-If.is) ∙ choice_height c.args.stat.now.line (tree.arms (map plain_arm c.in-If.list.items)) c.in-If.otherwise in
     (omega (arith, c.decreases, h), tt)
 
 pub statements-statement-requires : goal.statements-statement-requires
@@ -312,18 +305,14 @@ statement-returns-in-LocalFunction-clause-variables t c =
 
 pub statement-returns-in-If-clause-variables : goal.statement-returns-in-If-clause-variables
 statement-returns-in-If-clause-variables t c =
-    let is : plain_stat c.args.stat.now ≡ choice c.args.stat.now.line (tree.arms (map plain_arm c.in-If.list.items)) (option_map (λ b. plain_block b.value) c.in-If.otherwise) =
-    ap (λ n. plain_stat_node n c.args.stat.now.line) c.in-If.is ∙ plain-if c.args.stat.now.line c.in-If.list c.in-If.otherwise ∙ chosen_of c.args.stat.now.line (map plain_arm c.in-If.list.items) (option_map (λ b. plain_block b.value) c.in-If.otherwise) in
-    subst (λ s. OnOk c.arms.result (DeclaresStat c.args.self.now c.arms.new.self s c.args.closing c.args.level)) (sym is) c.arms.ensures.variables
+    subst (λ s. OnOk c.arms.result (DeclaresStat c.args.self.now c.arms.new.self s c.args.closing c.args.level)) (sym (choice_plain c.args.stat.now c.in-If.list c.in-If.otherwise c.in-If.is)) c.arms.ensures.variables
 
 pub statement-returns-in_ok-counted-in-NumFor-clause-variables : goal.statement-returns-in_ok-counted-in-NumFor-clause-variables
 statement-returns-in_ok-counted-in-NumFor-clause-variables t c =
     let line = c.args.stat.now.line in
     let step = option_map (λ e. plain_exp e.value) c.in-NumFor.step in
-    let is : plain_stat c.args.stat.now ≡ num_for_of line c.in-NumFor.name (plain_exp c.deref-in-NumFor.result.now) (plain_exp c.deref-in-NumFor-2.result.now) step (plain_block c.deref-in-NumFor-3.result.now) =
-    ap (λ n. plain_stat_node n line) c.in-NumFor.is ∙ plain-num_for line c.in-NumFor.name c.in-NumFor.from c.in-NumFor.limit c.in-NumFor.step c.in-NumFor.block
-    ∙ ap₂ (λ e d. num_for_of line c.in-NumFor.name (plain_exp e) (plain_exp d) step (plain_block c.in-NumFor.block.value)) (sym c.deref-in-NumFor.ensures) (sym c.deref-in-NumFor-2.ensures)
-    ∙ ap (λ b. num_for_of line c.in-NumFor.name (plain_exp c.deref-in-NumFor.result.now) (plain_exp c.deref-in-NumFor-2.result.now) step (plain_block b)) (sym c.deref-in-NumFor-3.ensures) in
+    let is = num_for_plain c.args.stat.now c.in-NumFor.name c.in-NumFor.from c.in-NumFor.limit c.in-NumFor.step c.in-NumFor.block c.deref-in-NumFor.result.now c.deref-in-NumFor-2.result.now c.deref-in-NumFor-3.result.now
+    c.in-NumFor.is c.deref-in-NumFor.ensures c.deref-in-NumFor-2.ensures c.deref-in-NumFor-3.ensures in
     subst (λ s. DeclaresStat c.args.self.now c.counted.new.self s c.args.closing c.args.level) (sym is)
     (num_for_declares c.args.self.now (record c.args.self.now { emitter = c.write_range.new.emitter }) c.counted.new.self c.write_range.new.emitter c.in-NumFor.name (plain_exp c.deref-in-NumFor.result.now) (plain_exp c.deref-in-NumFor-2.result.now) step
     (plain_block c.deref-in-NumFor-3.result.now) c.args.closing c.args.level line c.in_ok-write_range-in-NumFor.ensures refl refl refl c.in_ok-counted-in-NumFor.ensures.variables)
@@ -332,8 +321,7 @@ pub statement-returns-in_ok-iterated-in-GenFor-clause-variables : goal.statement
 statement-returns-in_ok-iterated-in-GenFor-clause-variables t c =
     let line = c.args.stat.now.line in
     let es = tree.exps (plain_exps c.in-GenFor.values.items) in
-    let is : plain_stat c.args.stat.now ≡ tree.GenFor line c.in-GenFor.names.items es (plain_block c.deref-in-GenFor.result.now) =
-    ap (λ n. plain_stat_node n line) c.in-GenFor.is ∙ plain-gen_for line c.in-GenFor.names c.in-GenFor.values c.in-GenFor.block ∙ ap (λ b. tree.GenFor line c.in-GenFor.names.items es (plain_block b)) (sym c.deref-in-GenFor.ensures) in
+    let is = gen_for_plain c.args.stat.now c.in-GenFor.names c.in-GenFor.values c.in-GenFor.block c.deref-in-GenFor.result.now c.in-GenFor.is c.deref-in-GenFor.ensures in
     subst (λ s. DeclaresStat c.args.self.now c.iterated.new.self s c.args.closing c.args.level) (sym is)
     (gen_for_declares c.args.self.now (record c.args.self.now { emitter = c.list.new.emitter }) c.iterated.new.self c.list.new.emitter c.in-GenFor.names.items es (plain_block c.deref-in-GenFor.result.now) c.args.closing c.args.level line
     c.in_ok-list-in-GenFor.ensures refl refl refl c.in_ok-iterated-in-GenFor.ensures.variables)
