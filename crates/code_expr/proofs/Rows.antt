@@ -1,10 +1,11 @@
--- The line of a body, and of a plain tree; a vector that is not one of one expression.
-use Rattle.std.proofs.Common.{◌≡◌, ℕ, List, [], ◌∷◌, length, None, refl, ap}
+-- The line of a body, and of a plain tree; an expression of two operands; a vector that is not one of one expression.
+use Rattle.std.proofs.Common.{◌≡◌, ℕ, List, [], ◌∷◌, length, None, Box, Global, refl, sym, ap, ap₂, ◌∙◌}
+use Rattle.tree_core.specs.declared.operator.BinOp.{BinOp}
 use Rattle.tree_core.specs.declared.tree.Exp.{Exp}
-use Rattle.tree_core.specs.declared.tree.ExpNode.{ExpNode, Nil}
+use Rattle.tree_core.specs.declared.tree.ExpNode.{ExpNode, Nil, Binary}
 use Rattle.tree_core.specs.declared.tree.Body.{Body, out-Body}
 use Rattle.tree_core.specs.Tree as tree
-use Rattle.tree_core.specs.Plain.{plain_exps, plain_exp_node, plain_body}
+use Rattle.tree_core.specs.Plain.{plain_exp, plain_exps, plain_exp_node, plain_body}
 use Rattle.tree_core.proofs.Rows.{plain-body}
 use Rattle.tree_terms.specs.Bodies.{line_of_body}
 use Rattle.code_of.specs.Operands.{lone_local}
@@ -17,6 +18,10 @@ body_line b = ap line_of_body (plain-body b)
 pub line_is : (node : ExpNode) (line : ℕ) → line_of (plain_exp_node node line) ≡ line
 line_is Nil line = refl
 line_is _ line = refl
+
+-- an operator between operands that are given as others
+pub binary_plain : (x : Exp) (op : BinOp) (left right : Box Exp Global) (e d : Exp) → x.node ≡ Binary op left right → e ≡ left.value → d ≡ right.value → plain_exp x ≡ tree.Binary x.line op (plain_exp e) (plain_exp d)
+binary_plain x op left right e d is first second = ap (λ node. plain_exp_node node x.line) is ∙ ap₂ (λ y z. tree.Binary x.line op (plain_exp y) (plain_exp z)) (sym first) (sym second)
 
 -- a vector of another number of expressions
 pub none_lone : (xs : List Exp) → (length xs ≡ 1 → ⊥) → None ≡ lone_local (tree.exps (plain_exps xs))

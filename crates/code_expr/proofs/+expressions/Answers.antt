@@ -37,7 +37,7 @@ use Rattle.code_expr.specs.Testing.{Tests, either_test, is_valued, is_plain, is_
 use Rattle.code_emitter.proofs.Leading.{opened_at}
 use Rattle.code_expr.proofs.Testing.{paren_tests, and_tests, or_tests, not_tests, by_value_tests, valued_is, operator_is, comparison_tests, other_tests, value_opened, compared_opened, either_here, either_away}
 use Rattle.code_expr.proofs.Kept.{paren_keeps, and_keeps, or_keeps, leaf_keeps, truth_keeps, loaded_keeps, local_keeps, made_keeps, both_keep, one_keeps, either_written}
-use Rattle.code_expr.proofs.Rows.{line_is}
+use Rattle.code_expr.proofs.Rows.{line_is, binary_plain}
 use Rattle.code_expr.proofs.+expressions.Goals as goal
 
 pub expressions::expression-returns-in-Call : goal.expressions::expression-returns-in-Call
@@ -109,23 +109,15 @@ chains::link-returns-clause-count t c = omega (arith, c.in_ok-count.ensures, c.i
 
 pub chains::link_right-returns-then-continues-clause-code : goal.chains::link_right-returns-then-continues-clause-code
 chains::link_right-returns-then-continues-clause-code t c =
-    let own = c.args.exp.now.line in
-    let e = plain_exp c.deref.result.now in
-    let d = plain_exp c.deref-then-continues.result.now in
-    let is : plain_exp c.args.exp.now ≡ tree.Binary own c.in-Binary.op e d =
-    ap (λ node. plain_exp_node node own) c.in-Binary.is ∙ ap₂ (λ x y. tree.Binary own c.in-Binary.op (plain_exp x) (plain_exp y)) (sym c.deref.ensures) (sym c.deref-then-continues.ensures) in
-    let more : (joins c.in-Binary.op && nat_eq own c.args.line) ≡ true = sym c.continues.ensures ∙ c.if-continues.true in
-    on_ok_weaker c.link.result (link_written c.args.line own c.in-Binary.op e d (plain_exp c.args.exp.now) is more c.args.emitter.now c.link.new.emitter c.args.target) c.link.ensures.code
+    let is = binary_plain c.args.exp.now c.in-Binary.op c.in-Binary.left c.in-Binary.right c.deref.result.now c.deref-then-continues.result.now c.in-Binary.is c.deref.ensures c.deref-then-continues.ensures in
+    let more : (joins c.in-Binary.op && nat_eq c.args.exp.now.line c.args.line) ≡ true = sym c.continues.ensures ∙ c.if-continues.true in
+    on_ok_weaker c.link.result (link_written c.args.line c.args.exp.now.line c.in-Binary.op (plain_exp c.deref.result.now) (plain_exp c.deref-then-continues.result.now) (plain_exp c.args.exp.now) is more c.args.emitter.now c.link.new.emitter c.args.target) c.link.ensures.code
 
 pub chains::link_right-returns-then-continues-clause-count : goal.chains::link_right-returns-then-continues-clause-count
 chains::link_right-returns-then-continues-clause-count t c =
-    let own = c.args.exp.now.line in
-    let e = plain_exp c.deref.result.now in
-    let d = plain_exp c.deref-then-continues.result.now in
-    let is : plain_exp c.args.exp.now ≡ tree.Binary own c.in-Binary.op e d =
-    ap (λ node. plain_exp_node node own) c.in-Binary.is ∙ ap₂ (λ x y. tree.Binary own c.in-Binary.op (plain_exp x) (plain_exp y)) (sym c.deref.ensures) (sym c.deref-then-continues.ensures) in
-    let more : (joins c.in-Binary.op && nat_eq own c.args.line) ≡ true = sym c.continues.ensures ∙ c.if-continues.true in
-    IfOk-weaker c.link.result (λ n. n ≡ suc (links c.args.line d)) (λ n. n ≡ links c.args.line (plain_exp c.args.exp.now)) (link_counted c.args.line own c.in-Binary.op e d (plain_exp c.args.exp.now) is more) c.link.ensures.count
+    let is = binary_plain c.args.exp.now c.in-Binary.op c.in-Binary.left c.in-Binary.right c.deref.result.now c.deref-then-continues.result.now c.in-Binary.is c.deref.ensures c.deref-then-continues.ensures in
+    let more : (joins c.in-Binary.op && nat_eq c.args.exp.now.line c.args.line) ≡ true = sym c.continues.ensures ∙ c.if-continues.true in
+    IfOk-weaker c.link.result (λ n. n ≡ suc (links c.args.line (plain_exp c.deref-then-continues.result.now))) (λ n. n ≡ links c.args.line (plain_exp c.args.exp.now)) (link_counted c.args.line c.args.exp.now.line c.in-Binary.op (plain_exp c.deref.result.now) (plain_exp c.deref-then-continues.result.now) (plain_exp c.args.exp.now) is more) c.link.ensures.count
 
 pub chains::link_right-returns-else-continues-clause-code : goal.chains::link_right-returns-else-continues-clause-code
 chains::link_right-returns-else-continues-clause-code t c =
@@ -391,8 +383,7 @@ conditions::condition-returns-in-Some t c =
     let line = c.args.exp.now.line in
     let e = plain_exp c.deref-in-Some.result.now in
     let d = plain_exp c.deref-in-Some-2.result.now in
-    let is : plain_exp c.args.exp.now ≡ tree.Binary line c.in-Binary.op e d =
-    ap (λ node. plain_exp_node node line) c.in-Binary.is ∙ ap₂ (λ x y. tree.Binary line c.in-Binary.op (plain_exp x) (plain_exp y)) (sym c.deref-in-Some.ensures) (sym c.deref-in-Some-2.ensures) in
+    let is = binary_plain c.args.exp.now c.in-Binary.op c.in-Binary.left c.in-Binary.right c.deref-in-Some.result.now c.deref-in-Some-2.result.now c.in-Binary.is c.deref-in-Some.ensures c.deref-in-Some-2.ensures in
     subst (λ x. IfOk c.compare.result (λ places. Tests c.args.emitter.now c.compare.new.emitter x c.args.wanted c.args.free places.items)) (sym is)
     (comparison_tests c.args.emitter.now c.compare.new.emitter c.args.wanted c.args.free c.compare.result c.in-Binary.op c.comparing.result c.in-Some.comparison line e d c.comparing.ensures.code c.in-Some.is (operator_is c.comparing.result c.in-Some.comparison c.in-Binary.op c.in-Some.is c.comparing.ensures.operator) c.compare.ensures)
 
