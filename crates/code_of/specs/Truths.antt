@@ -21,7 +21,7 @@ pick false x y = x
 
 -- How an operator compares: by which opcode, whether with its operands swapped (`a > b` is `b < a`), and which finding of the instruction makes
 -- the operator true (`~=` is true where EQ finds false). For an operator that does not compare it is `other`.
-abbrev pub compared : BinOp → List Coded → (Opcode → (swapped wanted : Bool) → List Coded) → List Coded
+abbrev pub compared : {A : Type 0} → BinOp → A → (Opcode → (swapped wanted : Bool) → A) → A
 compared Equal other by = by Eq false true
 compared Ne other by = by Eq false false
 compared Less other by = by Lt false true
@@ -31,13 +31,7 @@ compared Ge other by = by Le true true
 compared _ other by = other
 
 abbrev pub is_compared : BinOp → Bool
-is_compared Equal = true
-is_compared Ne = true
-is_compared Less = true
-is_compared AtMost = true
-is_compared Gt = true
-is_compared Ge = true
-is_compared _ = false
+is_compared op = compared op false (λ opcode swapped wanted. true)
 
 abbrev pub is_not : UnOp → Bool
 is_not Negation = true
