@@ -206,6 +206,25 @@ grown_under [] hs f gs l p u x = absurd (omega (arith, l))
 grown_under (w ∷ ws) [] f gs l p u x = absurd p
 grown_under (w ∷ ws) (h ∷ hs) f gs l p u x = (([], sym u ∙ append_nil h.upvalues), x)
 
+-- what a loop over variables leaves, in whose scope its block stands
+record Rounds (block : Block) (vs : List Variable) (es gs : List Frame) : Type 0 where
+  closed : Closed (declare_all es vs)
+  inner : Grown (after_open (declare_all es vs) block) (declare_all gs vs)
+  through : Extends es gs
+
+rounds : (block : Block) (vs : List Variable) (n : ℕ) (es gs : List Frame) → Closed es → Grown (kept n (after_open (declare_all es vs) block)) gs → bare gs ≡ bare es → Rounds block vs es gs
+rounds block vs n es gs d g seen =
+    let ds : List Frame = declare_all es vs in
+    let cd : Closed ds = closed_declare es vs d in
+    let last : List Frame = after_open ds block in
+    let open' : Grown last gs = unended n last gs g in
+    let p : OpenEffect ds block = open_of block ds cd in
+    record {
+      closed = cd;
+      inner = grown_through last gs (declare_all gs vs) open' (grown_declare gs vs);
+      through = to_end es gs (grown_through es ds gs (grown_declare es vs) (grown_through ds last gs p.grown open')) seen;
+    }
+
 -- The places agree.
 
 name_settled : (fs gs : List Frame) (name : Name) → Extends (named name.text fs) gs → placed_name (named name.text fs) name ≡ placed_name gs name
@@ -380,67 +399,50 @@ mutual
       let seen : bare gs ≡ bare es = e ∙ sym (bare_extends fs es (arms_grows arms fs c)) in
       ap₂ (IfElse line) (arms_settled arms fs gs c (to_end es gs (grown_through es (after_open es otherwise) gs p.grown open') seen)) (block_settled otherwise es gs d open' seen)
   stat_settled (NumFor line name first limit block) fs gs c g e =
-      let es' : List Frame = after_exp fs first in
-      let d' : Closed es' = exp_closed first fs c in
-      let es : List Frame = after_exp es' limit in
-      let d : Closed es = exp_closed limit es' d' in
+      let es' : List Frame = after_exp fs first in let d' : Closed es' = exp_closed first fs c in
+      let es : List Frame = after_exp es' limit in let d : Closed es = exp_closed limit es' d' in
       let hidden : List Variable = Hidden ∷ Hidden ∷ Hidden ∷ [] in
       let vs : List Variable = Hidden ∷ Hidden ∷ Hidden ∷ plain_variable name ∷ [] in
       let ds : List Frame = declare_all es vs in
-      let cd : Closed ds = closed_declare es vs d in
-      let last : List Frame = after_open ds block in
-      let open' : Grown last gs = unended (length (own_variables fs)) last gs g in
-      let p : OpenEffect ds block = open_of block ds cd in
       let seen : bare gs ≡ bare es = e ∙ sym (bare_extends es' es (exp_grows limit es' d') ∙ bare_extends fs es' (exp_grows first fs c)) in
-      let x : Extends es gs = to_end es gs (grown_through es ds gs (grown_declare es vs) (grown_through ds last gs p.grown open')) seen in
+      let r : Rounds block vs es gs = rounds block vs (length (own_variables fs)) es gs d g seen in
       ap₂ (λ n a. NumFor line n a (settled_exp es' limit) (settled_block ds block))
       (same_first_placed (declare_all es hidden) (declare_all gs hidden) name (declare_all_same es gs hidden seen))
-      (exp_settled first fs gs c (extends_through es' es gs (exp_grows limit es' d') x))
+      (exp_settled first fs gs c (extends_through es' es gs (exp_grows limit es' d') r.through))
       ∙ ap₂ (NumFor line (first_placed (declare_all gs hidden) name) (placed_exp gs first))
-      (exp_settled limit es' gs d' x)
-      (block_settled block ds (declare_all gs vs) cd (grown_through last gs (declare_all gs vs) open' (grown_declare gs vs)) (declare_all_same es gs vs seen))
+      (exp_settled limit es' gs d' r.through)
+      (block_settled block ds (declare_all gs vs) r.closed r.inner (declare_all_same es gs vs seen))
   stat_settled (NumForStep line name first limit step block) fs gs c g e =
-      let es'' : List Frame = after_exp fs first in
-      let d'' : Closed es'' = exp_closed first fs c in
-      let es' : List Frame = after_exp es'' limit in
-      let d' : Closed es' = exp_closed limit es'' d'' in
-      let es : List Frame = after_exp es' step in
-      let d : Closed es = exp_closed step es' d' in
+      let es'' : List Frame = after_exp fs first in let d'' : Closed es'' = exp_closed first fs c in
+      let es' : List Frame = after_exp es'' limit in let d' : Closed es' = exp_closed limit es'' d'' in
+      let es : List Frame = after_exp es' step in let d : Closed es = exp_closed step es' d' in
       let hidden : List Variable = Hidden ∷ Hidden ∷ Hidden ∷ [] in
       let vs : List Variable = Hidden ∷ Hidden ∷ Hidden ∷ plain_variable name ∷ [] in
       let ds : List Frame = declare_all es vs in
-      let cd : Closed ds = closed_declare es vs d in
-      let last : List Frame = after_open ds block in
-      let open' : Grown last gs = unended (length (own_variables fs)) last gs g in
-      let p : OpenEffect ds block = open_of block ds cd in
       let seen : bare gs ≡ bare es = e ∙ sym (bare_extends es' es (exp_grows step es' d') ∙ bare_extends es'' es' (exp_grows limit es'' d'') ∙ bare_extends fs es'' (exp_grows first fs c)) in
-      let x : Extends es gs = to_end es gs (grown_through es ds gs (grown_declare es vs) (grown_through ds last gs p.grown open')) seen in
-      let x' : Extends es' gs = extends_through es' es gs (exp_grows step es' d') x in
+      let r : Rounds block vs es gs = rounds block vs (length (own_variables fs)) es gs d g seen in
+      let x' : Extends es' gs = extends_through es' es gs (exp_grows step es' d') r.through in
       ap₂ (λ n a. NumForStep line n a (settled_exp es'' limit) (settled_exp es' step) (settled_block ds block))
       (same_first_placed (declare_all es hidden) (declare_all gs hidden) name (declare_all_same es gs hidden seen))
       (exp_settled first fs gs c (extends_through es'' es' gs (exp_grows limit es'' d'') x'))
       ∙ ap₂ (λ l s. NumForStep line (first_placed (declare_all gs hidden) name) (placed_exp gs first) l s (settled_block ds block))
       (exp_settled limit es'' gs d'' x')
-      (exp_settled step es' gs d' x)
+      (exp_settled step es' gs d' r.through)
       ∙ ap (NumForStep line (first_placed (declare_all gs hidden) name) (placed_exp gs first) (placed_exp gs limit) (placed_exp gs step))
-      (block_settled block ds (declare_all gs vs) cd (grown_through last gs (declare_all gs vs) open' (grown_declare gs vs)) (declare_all_same es gs vs seen))
+      (block_settled block ds (declare_all gs vs) r.closed r.inner (declare_all_same es gs vs seen))
   stat_settled (GenFor line names values block) fs gs c g e =
       let es : List Frame = after_exps fs values in
       let d : Closed es = exps_closed values fs c in
       let hidden : List Variable = Hidden ∷ Hidden ∷ Hidden ∷ Hidden ∷ [] in
       let vs : List Variable = Hidden ∷ Hidden ∷ Hidden ∷ Hidden ∷ map plain_variable names in
       let ds : List Frame = declare_all es vs in
-      let cd : Closed ds = closed_declare es vs d in
-      let last : List Frame = after_open ds block in
-      let open' : Grown last gs = unended (length (own_variables fs)) last gs g in
-      let p : OpenEffect ds block = open_of block ds cd in
       let seen : bare gs ≡ bare es = e ∙ sym (bare_extends fs es (exps_grows values fs c)) in
-      let x : Extends es gs = to_end es gs (grown_through es ds gs (grown_declare es vs) (grown_through ds last gs p.grown open')) seen in
+      let r : Rounds block vs es gs = rounds block vs (length (own_variables fs)) es gs d g seen in
       ap₂ (λ n a. GenFor line n a (settled_block ds block))
       (same_names_placed (declare_all es hidden) (declare_all gs hidden) names (declare_all_same es gs hidden seen))
-      (exps_settled values fs gs c x)
+      (exps_settled values fs gs c r.through)
       ∙ ap (GenFor line (placed_names (declare_all gs hidden) names) (placed_exps gs values))
-      (block_settled block ds (declare_all gs vs) cd (grown_through last gs (declare_all gs vs) open' (grown_declare gs vs)) (declare_all_same es gs vs seen))
+      (block_settled block ds (declare_all gs vs) r.closed r.inner (declare_all_same es gs vs seen))
   stat_settled _ fs gs c g e = refl
 
   pub arms_settled : (as' : Arms) (fs gs : List Frame) → Closed fs → Extends (after_arms fs as') gs → settled_arms fs as' ≡ placed_arms gs as'
