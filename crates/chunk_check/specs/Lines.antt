@@ -1,14 +1,8 @@
 -- The lines of a function's instructions.
-use Rattle.std.specs.Prelude.{ℕ, ℤ, pos, ◌==◌, Bool, List, Option, Some, None, find, if◌then◌else◌}
-use Rattle.std.specs.Option.{option_map}
+use Rattle.std.specs.Prelude.{ℤ, pos, Bool, Option, Some, None, if◌then◌else◌}
 use Rattle.std.specs.List.{list_all}
-use Rattle.code_core.specs.declared.proto.AbsLine.{AbsLine}
 use Rattle.code_core.specs.Prototype.{Prototype}
 use Rattle.code_core.specs.Check.{is_line, lines_from}
-
--- the first line that is given in full for an instruction
-abbrev pub line_of : List AbsLine → ℕ → Option ℕ
-line_of lines pc = option_map (λ l. l.line) (find (λ l. l.pc == pc) lines)
 
 abbrev pub lines_fit : Prototype → Bool
 lines_fit p = list_all is_line (lines_from p.own.abs_lines 0 (Some (pos p.own.line_defined)) p.own.line_info)

@@ -2,7 +2,7 @@
 ghost use Rattle.std.specs.Prelude.{◌≡◌, ◌^◌, ◌≤ℤ◌, pos, Some, IfSome};
 ghost use Rattle.code_core.specs.Writable.{is_writable};
 ghost use Rattle.code_core.specs.Check.{is_sized, is_described, none_or_one_per, line_at};
-ghost use Rattle.chunk_check.specs.Lines.{lines_fit, line_of, good_line};
+ghost use Rattle.chunk_check.specs.Lines.{lines_fit, good_line};
 
 use code_core::{AbsLine, Proto};
 
@@ -20,18 +20,6 @@ fn none_or_one_per(len: usize, each: usize) -> bool
     len == 0 || len == each
 }
 
-/// The line that is given in full for an instruction.
-fn line_of(lines: &[AbsLine], pc: usize) -> Option<u32>
-    ensures { line_of lines.now pc ≡ result }
-{
-    for line in lines {
-        if line.pc as usize == pc {
-            return Some(line.line);
-        }
-    }
-    None
-}
-
 /// The line of an instruction from that in front of it, if it is a number that a chunk can hold.
 fn next_line(lines: &[AbsLine], pc: usize, line: i64, change: i8) -> Option<i64>
     requires low { pos 0 ≤ℤ line }
@@ -41,7 +29,7 @@ fn next_line(lines: &[AbsLine], pc: usize, line: i64, change: i8) -> Option<i64>
     ensures high { IfSome result (λ next. next ≤ℤ pos (2 ^ 32)) }
 {
     let next = if change == -128 {
-        match line_of(lines, pc) {
+        match code_core::given_line(lines, pc) {
             Some(given) => i64::from(given),
             None => return None,
         }

@@ -164,6 +164,10 @@ abbrev pub is_absolute : ℤ → Bool
 is_absolute (pos n) = false
 is_absolute (negsuc n) = n == 127
 
+-- the line that is given in full for an instruction
+abbrev pub given_line : List AbsLine → ℕ → Option ℕ
+given_line lines pc = option_map (λ l. l.line) (find (λ l. l.pc == pc) lines)
+
 -- the line of the instruction at `pc`, from the line in front of it
 abbrev pub line_at : List AbsLine → ℕ → Option ℤ → ℤ → Option ℤ
 line_at lines pc before change =

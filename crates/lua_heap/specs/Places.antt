@@ -1,8 +1,6 @@
 -- Where the frames of the running coroutine are in the text of their sources, by what is kept.
-use Rattle.std.specs.Prelude.{ℕ, List, Option, Some, None, find, slice_get, reverse, filter_map, ◌==◌}
-use Rattle.std.specs.Option.{option_map}
+use Rattle.std.specs.Prelude.{ℕ, List, Option, Some, None, slice_get, reverse, filter_map}
 use Rattle.int_core.specs.Value.{bind, last}
-use Rattle.code_core.specs.declared.proto.AbsLine.{AbsLine}
 use Rattle.code_core.specs.Prototype.{Prototype}
 use Rattle.machine_core.specs.Moves.{line_of}
 use Rattle.table_core.specs.declared.value.FuncId.{FuncId}
@@ -35,7 +33,3 @@ stack_if_runs (Failed error pending) = None
 -- the stack of the coroutine that runs
 abbrev pub running_stack : Memory → Option KeptStack
 running_stack W = bind (last W.chain.items) (λ co. bind (slice_get W.coros.objects co.0) stack_if_runs)
-
--- the line that is given in full for an instruction
-abbrev pub given_line : List AbsLine → ℕ → Option ℕ
-given_line lines pc = option_map (λ l. l.line) (find (λ l. l.pc == pc) lines)

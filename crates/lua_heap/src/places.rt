@@ -6,7 +6,7 @@ ghost use Rattle.int_core.specs.Value.{bind};
 ghost use Rattle.code_core.specs.Check.{IsChecked, is_line, line_at};
 ghost use Rattle.machine_core.specs.Moves.{line_of, where_text};
 ghost use Rattle.lua_heap.specs.Codes.{functions, prototype_at, AreCodes};
-ghost use Rattle.lua_heap.specs.Places.{given_line, line_in, nth_place, place_in, running_stack};
+ghost use Rattle.lua_heap.specs.Places.{line_in, nth_place, place_in, running_stack};
 ghost use Rattle.lua_heap.specs.Plain.{plain};
 
 use crate::world::{Coro, World};
@@ -140,25 +140,13 @@ fn next_line(lines: &[AbsLine], pc: usize, line: i64, change: i8) -> i64
     ensures { line_at lines.now pc (Some line) change ≡ Some result }
 {
     if change == -128 {
-        match given_line(lines, pc) {
+        match code_core::given_line(lines, pc) {
             Some(given) => i64::from(given),
             None => 0,
         }
     } else {
         line + i64::from(change)
     }
-}
-
-/// The line that is given in full for an instruction.
-fn given_line(lines: &[AbsLine], pc: usize) -> Option<u32>
-    ensures { given_line lines.now pc ≡ result }
-{
-    for line in lines {
-        if line.pc as usize == pc {
-            return Some(line.line);
-        }
-    }
-    None
 }
 
 /// `NAME:LINE: `
