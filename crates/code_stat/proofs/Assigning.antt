@@ -21,17 +21,33 @@ use Rattle.code_emitter.proofs.Joining.{none_made, then_made, then_listed}
 use Rattle.code_emitter.specs.Operands.{made_directly}
 use Rattle.code_expr.specs.Stores.{made_in_field}
 
-pub one_target : (ts : List Exp) (es : tree.Exps) → (length ts ≡ 1 → ⊥) → assigned (tree.exps (plain_exps ts)) es ≡ None
-one_target [] es h = refl
-one_target (x ∷ []) es h = absurd (h refl)
-one_target (x ∷ y ∷ ts) es h = refl
+-- what is found of one target and one value; of other lists it finds nothing
+pub record OfOne (A : Type 0) (finds : tree.Exps → tree.Exps → A) (nothing : A) : Type 0 where
+  pub no_target : (es : tree.Exps) → finds tree.EndExps es ≡ nothing
+  pub targets : (x y : tree.Exp) (ts es : tree.Exps) → finds (tree.MoreExps x (tree.MoreExps y ts)) es ≡ nothing
+  pub no_value : (x : tree.Exp) → finds (tree.MoreExps x tree.EndExps) tree.EndExps ≡ nothing
+  pub values : (x e d : tree.Exp) (es : tree.Exps) → finds (tree.MoreExps x tree.EndExps) (tree.MoreExps e (tree.MoreExps d es)) ≡ nothing
 
-pub one_value : (ts : tree.Exps) (es : List Exp) → (length es ≡ 1 → ⊥) → assigned ts (tree.exps (plain_exps es)) ≡ None
-one_value tree.EndExps es h = refl
-one_value (tree.MoreExps x (tree.MoreExps y ts)) es h = refl
-one_value (tree.MoreExps x tree.EndExps) [] h = refl
-one_value (tree.MoreExps x tree.EndExps) (e ∷ []) h = absurd (h refl)
-one_value (tree.MoreExps x tree.EndExps) (e ∷ d ∷ es) h = refl
+pub not_one_target : {A : Type 0} {finds : tree.Exps → tree.Exps → A} {nothing : A} → OfOne A finds nothing → (ts : List Exp) (es : tree.Exps) → (length ts ≡ 1 → ⊥) → finds (tree.exps (plain_exps ts)) es ≡ nothing
+not_one_target o [] es h = o.no_target es
+not_one_target o (x ∷ []) es h = absurd (h refl)
+not_one_target o (x ∷ y ∷ ts) es h = o.targets (plain_exp x) (plain_exp y) (tree.exps (plain_exps ts)) es
+
+pub not_one_value : {A : Type 0} {finds : tree.Exps → tree.Exps → A} {nothing : A} → OfOne A finds nothing → (ts : tree.Exps) (es : List Exp) → (length es ≡ 1 → ⊥) → finds ts (tree.exps (plain_exps es)) ≡ nothing
+not_one_value o tree.EndExps es h = o.no_target (tree.exps (plain_exps es))
+not_one_value o (tree.MoreExps x (tree.MoreExps y ts)) es h = o.targets x y ts (tree.exps (plain_exps es))
+not_one_value o (tree.MoreExps x tree.EndExps) [] h = o.no_value x
+not_one_value o (tree.MoreExps x tree.EndExps) (e ∷ []) h = absurd (h refl)
+not_one_value o (tree.MoreExps x tree.EndExps) (e ∷ d ∷ es) h = o.values x (plain_exp e) (plain_exp d) (tree.exps (plain_exps es))
+
+pub assigned_one : OfOne (Option ℕ) assigned None
+assigned_one = record { no_target = λ es. refl; targets = λ x y ts es. refl; no_value = λ x. refl; values = λ x e d es. refl }
+
+pub field_one : OfOne Bool stores_field false
+field_one = record { no_target = λ es. refl; targets = λ x y ts es. refl; no_value = λ x. refl; values = λ x e d es. refl }
+
+pub store_one : (constants : List Const) → OfOne (Option Coded) (single_store constants) None
+store_one constants = record { no_target = λ es. refl; targets = λ x y ts es. refl; no_value = λ x. refl; values = λ x e d es. refl }
 
 pub none_by : {ts es : tree.Exps} {x e : tree.Exp} {o : Option ℕ} → ts ≡ tree.MoreExps x tree.EndExps → es ≡ tree.MoreExps e tree.EndExps → cond (is_direct e) (target_local x) None ≡ o → assigned ts es ≡ o
 none_by t v h = ap₂ assigned t v ∙ h
@@ -135,32 +151,8 @@ double (a ∷ b ∷ c ∷ xs) x y h e f = absurd (omega (arith, h))
 
 -- a value that goes to a field, and others
 
-pub one_field : (ts : List Exp) (es : tree.Exps) → (length ts ≡ 1 → ⊥) → stores_field (tree.exps (plain_exps ts)) es ≡ false
-one_field [] es h = refl
-one_field (x ∷ []) es h = absurd (h refl)
-one_field (x ∷ y ∷ ts) es h = refl
-
-pub one_stored : (ts : tree.Exps) (es : List Exp) → (length es ≡ 1 → ⊥) → stores_field ts (tree.exps (plain_exps es)) ≡ false
-one_stored tree.EndExps es h = refl
-one_stored (tree.MoreExps x (tree.MoreExps y ts)) es h = refl
-one_stored (tree.MoreExps x tree.EndExps) [] h = refl
-one_stored (tree.MoreExps x tree.EndExps) (e ∷ []) h = absurd (h refl)
-one_stored (tree.MoreExps x tree.EndExps) (e ∷ d ∷ es) h = refl
-
 pub kept_by : {ts es : tree.Exps} {x e : tree.Exp} {b : Bool} → ts ≡ tree.MoreExps x tree.EndExps → es ≡ tree.MoreExps e tree.EndExps → is_field x ≡ b → stores_field ts es ≡ b
 kept_by t v h = ap₂ stores_field t v ∙ h
-
-pub one_name : (constants : List Const) (ts : List Exp) (es : tree.Exps) → (length ts ≡ 1 → ⊥) → single_store constants (tree.exps (plain_exps ts)) es ≡ None
-one_name constants [] es h = refl
-one_name constants (x ∷ []) es h = absurd (h refl)
-one_name constants (x ∷ y ∷ ts) es h = refl
-
-pub one_local : (constants : List Const) (ts : tree.Exps) (es : List Exp) → (length es ≡ 1 → ⊥) → single_store constants ts (tree.exps (plain_exps es)) ≡ None
-one_local constants tree.EndExps es h = refl
-one_local constants (tree.MoreExps x (tree.MoreExps y ts)) es h = refl
-one_local constants (tree.MoreExps x tree.EndExps) [] h = refl
-one_local constants (tree.MoreExps x tree.EndExps) (e ∷ []) h = absurd (h refl)
-one_local constants (tree.MoreExps x tree.EndExps) (e ∷ d ∷ es) h = refl
 
 pub kept_follows : (s q : Listing) (ts es : tree.Exps) (t line : ℕ) → stores_field ts es ≡ false → single_store s.constants ts es ≡ None → q ≡ followed s (stored_code s.constants ts es t s.made line) (made_in ts + made_in es)
     → q ≡ followed s (store_by s.constants (stores_field ts es) ts es t s.made line) (made_in ts + made_in es)

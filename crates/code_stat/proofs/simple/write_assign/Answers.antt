@@ -3,7 +3,7 @@ use Rattle.std.proofs.lemmas.Result.{on_ok_weaker}
 use Rattle.tree_core.specs.Tree as tree
 use Rattle.tree_core.specs.Plain.{plain_exp, plain_exps}
 use Rattle.code_constants.proofs.Rows.{single}
-use Rattle.code_stat.proofs.Assigning.{one_target, one_value, none_by, direct_follows, stored_follows}
+use Rattle.code_stat.proofs.Assigning.{not_one_target, not_one_value, assigned_one, none_by, direct_follows, stored_follows}
 use Rattle.code_stat.proofs.simple.write_assign.Goals as goal
 
 pub returns-then-len-ne1 : goal.returns-then-len-ne1
@@ -12,7 +12,7 @@ returns-then-len-ne1 c =
     let es = tree.exps (plain_exps c.args.values.now.items) in
     let size : c.len.result ≡ length ts = search rules in
     on_ok_weaker c.write_several.result
-    (stored_follows c.args.emitter.now c.write_several.new.emitter (tree.exps (plain_exps ts)) es c.args.register c.args.line (one_target ts es (λ h. c.if-len-ne1.true (size ∙ h)))) c.write_several.ensures
+    (stored_follows c.args.emitter.now c.write_several.new.emitter (tree.exps (plain_exps ts)) es c.args.register c.args.line (not_one_target assigned_one ts es (λ h. c.if-len-ne1.true (size ∙ h)))) c.write_several.ensures
 
 pub returns-then-len-ne1-2 : goal.returns-then-len-ne1-2
 returns-then-len-ne1-2 c =
@@ -20,7 +20,7 @@ returns-then-len-ne1-2 c =
     let ts = tree.exps (plain_exps c.args.targets.now.items) in
     let size : c.len-2.result ≡ length es = search rules in
     on_ok_weaker c.write_several-then-len-ne1-2.result
-    (stored_follows c.args.emitter.now c.write_several-then-len-ne1-2.new.emitter ts (tree.exps (plain_exps es)) c.args.register c.args.line (one_value ts es (λ h. c.if-len-ne1-2.true (size ∙ h)))) c.write_several-then-len-ne1-2.ensures
+    (stored_follows c.args.emitter.now c.write_several-then-len-ne1-2.new.emitter ts (tree.exps (plain_exps es)) c.args.register c.args.line (not_one_value assigned_one ts es (λ h. c.if-len-ne1-2.true (size ∙ h)))) c.write_several-then-len-ne1-2.ensures
 
 pub returns-in-Some : goal.returns-in-Some
 returns-in-Some c =

@@ -3,7 +3,7 @@ use Rattle.std.proofs.lemmas.Result.{on_ok_weaker}
 use Rattle.tree_core.specs.Tree as tree
 use Rattle.tree_core.specs.Plain.{plain_exp, plain_exps}
 use Rattle.code_constants.proofs.Rows.{single}
-use Rattle.code_stat.proofs.Assigning.{one_field, one_stored, one_name, one_local, no_store_by, kept_by, kept_follows, local_follows, field_follows}
+use Rattle.code_stat.proofs.Assigning.{not_one_target, not_one_value, field_one, store_one, no_store_by, kept_by, kept_follows, local_follows, field_follows}
 use Rattle.code_stat.proofs.simple.write_single.Goals as goal
 
 pub returns-then-len-ne1 : goal.returns-then-len-ne1
@@ -11,14 +11,14 @@ returns-then-len-ne1 c =
     let ts = c.args.targets.now.items in let es = tree.exps (plain_exps c.args.values.now.items) in
     let size : c.len.result ≡ length ts = search rules in
     on_ok_weaker c.write_stored.result
-    (kept_follows c.args.emitter.now c.write_stored.new.emitter (tree.exps (plain_exps ts)) es c.args.register c.args.line (one_field ts es (λ h. c.if-len-ne1.true (size ∙ h))) (one_name c.args.emitter.now.constants ts es (λ h. c.if-len-ne1.true (size ∙ h)))) c.write_stored.ensures
+    (kept_follows c.args.emitter.now c.write_stored.new.emitter (tree.exps (plain_exps ts)) es c.args.register c.args.line (not_one_target field_one ts es (λ h. c.if-len-ne1.true (size ∙ h))) (not_one_target (store_one c.args.emitter.now.constants) ts es (λ h. c.if-len-ne1.true (size ∙ h)))) c.write_stored.ensures
 
 pub returns-then-len-ne1-2 : goal.returns-then-len-ne1-2
 returns-then-len-ne1-2 c =
     let es = c.args.values.now.items in let ts = tree.exps (plain_exps c.args.targets.now.items) in
     let size : c.len-2.result ≡ length es = search rules in
     on_ok_weaker c.write_stored-then-len-ne1-2.result
-    (kept_follows c.args.emitter.now c.write_stored-then-len-ne1-2.new.emitter ts (tree.exps (plain_exps es)) c.args.register c.args.line (one_stored ts es (λ h. c.if-len-ne1-2.true (size ∙ h))) (one_local c.args.emitter.now.constants ts es (λ h. c.if-len-ne1-2.true (size ∙ h)))) c.write_stored-then-len-ne1-2.ensures
+    (kept_follows c.args.emitter.now c.write_stored-then-len-ne1-2.new.emitter ts (tree.exps (plain_exps es)) c.args.register c.args.line (not_one_value field_one ts es (λ h. c.if-len-ne1-2.true (size ∙ h))) (not_one_value (store_one c.args.emitter.now.constants) ts es (λ h. c.if-len-ne1-2.true (size ∙ h)))) c.write_stored-then-len-ne1-2.ensures
 
 pub returns-then-is_field : goal.returns-then-is_field
 returns-then-is_field c =
