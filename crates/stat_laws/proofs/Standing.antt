@@ -2,7 +2,6 @@
 use Rattle.std.proofs.Common.{◌≡◌, ℕ, zero, suc, ◌+◌, ◌-◌, ◌<◌, ◌≤◌, pos, negsuc, ◌+ℤ◌, ◌-ℤ◌, Bool, true, false, cond, List, [], ◌∷◌, ◌++◌, length, map, Option, Some, None, refl, sym, ap, ap₂, subst, ◌∙◌, arith, length-append, append_assoc}
 use borrow.Author.Tests.{le-leb}
 use Rattle.std.proofs.lemmas.Bool.{lt-leb}
-use Rattle.std.specs.Prelude.{nat_le}
 use Rattle.int_core.specs.Value.{Value, known, nil, bind}
 use Rattle.int_core.specs.Ask.{pays, values_in, Captured, Next, goes_on, stuck, brought}
 use Rattle.tree_activation.specs.Work.{Control, pay, leave_scope, Work, Pending}
