@@ -36,17 +36,21 @@ wide width front rest is =
     let long : nat_lt (length (front ++ rest)) width ≡ false = grind (arith, nat_tests) in
     record { enough = omega (arith, is); long = long; behind = rw (← is) (drop-append_seam front rest) }
 
+-- the bytes of a number of a width that is not cut short
+record Cut (width : ℕ) (bytes : List ℕ) : Type 0 where
+  size : length (take width bytes) ≡ width
+  same : little_number width bytes ≡ little_number width (take width bytes)
+
+cut : (width : ℕ) (bytes : List ℕ) → nat_lt (length bytes) width ≡ false → Cut width bytes
+cut width bytes long =
+    let enough : width ≤ length bytes = grind (arith, nat_tests) in
+    record { size = omega (arith, enough, length-take width bytes); same = little_number-take width bytes enough }
+
 sound_word : (bytes rest : List ℕ) (x : ℕ) → read_word bytes ≡ read x rest → Spelled WordOf x bytes rest
 sound_word bytes rest x e =
     let h = width_read (nat_lt (length bytes) 4) (little_number 4 bytes) x (drop 4 bytes) rest e in
-    let long : nat_lt (length bytes) 4 ≡ false = h.0 in
-    let enough : 4 ≤ length bytes = grind (arith, nat_tests) in
-    let four : length (take 4 bytes) ≡ 4 = omega (arith, length-take 4 bytes) in
-    record {
-      front = take 4 bytes;
-      whole = sym (take-append-drop 4 bytes) ∙ ap (λ s. take 4 bytes ++ s) h.2;
-      spells = (four, sym h.1 ∙ little_number-take 4 bytes enough);
-    }
+    let c = cut 4 bytes h.0 in
+    record { front = take 4 bytes; whole = sym (take-append-drop 4 bytes) ∙ ap (λ s. take 4 bytes ++ s) h.2; spells = (c.size, sym h.1 ∙ c.same) }
 
 complete_word : (x : ℕ) (front rest : List ℕ) → WordOf x front → read_word (front ++ rest) ≡ read x rest
 complete_word x front rest h = let w = wide 4 front rest h.0 in rw (w.long, little_from-append 4 front rest w.enough, w.behind, sym h.1) refl
@@ -57,14 +61,8 @@ exact_word = record { sound = sound_word; complete = complete_word }
 sound_integer : (bytes rest : List ℕ) (x : ℤ) → read_integer bytes ≡ read x rest → Spelled IntegerOf x bytes rest
 sound_integer bytes rest x e =
     let h = width_read (nat_lt (length bytes) 8) (cast_signed w64 (little_number 8 bytes)) x (drop 8 bytes) rest e in
-    let long : nat_lt (length bytes) 8 ≡ false = h.0 in
-    let enough : 8 ≤ length bytes = grind (arith, nat_tests) in
-    let eight : length (take 8 bytes) ≡ 8 = omega (arith, length-take 8 bytes) in
-    record {
-      front = take 8 bytes;
-      whole = sym (take-append-drop 8 bytes) ∙ ap (λ s. take 8 bytes ++ s) h.2;
-      spells = (eight, sym h.1 ∙ ap (cast_signed w64) (little_number-take 8 bytes enough));
-    }
+    let c = cut 8 bytes h.0 in
+    record { front = take 8 bytes; whole = sym (take-append-drop 8 bytes) ∙ ap (λ s. take 8 bytes ++ s) h.2; spells = (c.size, sym h.1 ∙ ap (cast_signed w64) c.same) }
 
 complete_integer : (x : ℤ) (front rest : List ℕ) → IntegerOf x front → read_integer (front ++ rest) ≡ read x rest
 complete_integer x front rest h = let w = wide 8 front rest h.0 in rw (w.long, little_from-append 8 front rest w.enough, w.behind, sym h.1) refl
