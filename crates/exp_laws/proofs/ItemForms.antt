@@ -7,6 +7,7 @@ use Rattle.tree_activation.specs.Work.{evaluate, give, construct, item_of, keyed
 use Rattle.tree_activation.specs.Work as tree
 use Rattle.tree_activation.specs.Activation.{step}
 use Rattle.tree_activation.specs.Asking.{first}
+use Rattle.code_core.specs.declared.proto.Const.{Const}
 use Rattle.code_core.specs.Check.{fixed, open_from}
 use Rattle.machine_core.specs.Talk.{before}
 use Rattle.code_of.specs.Expressions.{made_by, is_open, is_last_item, exp_code, fields_code, set_list, waiting_code, item_code}
@@ -31,6 +32,18 @@ use Rattle.exp_laws.proofs.TableForms.{fill_goes}
 use Rattle.exp_laws.proofs.Storing.{key_goes}
 use Rattle.exp_laws.proofs.Waiting.{worth, worths, worths_held, AllWait, wait_more, ahead, ahead_more, held_same}
 use Rattle.exp_laws.proofs.Batches.{next_item, stored_all, stored_first}
+
+-- an item that waits: one value is wanted of it, be it the last one or not
+record WantsOne (cs : List Const) (e : Exp) (t j field : ℕ) : Type 0 where
+  same : exp_code cs e t j field ≡ exp_code cs e t j 2
+  size : length (exp_code cs e t j field) ≡ length (exp_code cs e t j 2)
+  least : room_of cs e field ≡ room_of cs e 2
+
+wants_one : (cs : List Const) (e : Exp) (fs : Fields) (t j : ℕ) → waits e ≡ true → WantsOne cs e t j (cond (is_last_item e fs) 0 2)
+wants_one cs e fs t j w =
+    let two : cond (is_last_item e fs) 0 2 ≡ 2 = ap (λ b. cond b 0 2) (last_waits e fs w) in
+    let same : exp_code cs e t j (cond (is_last_item e fs) 0 2) ≡ exp_code cs e t j 2 = ap (exp_code cs e t j) two in
+    record { same = same; size = ap length same; least = ap (room_of cs e) two }
 
 module _ (S : Setting) (pending : List Pending) where
   -- what the code of a call or of `...` does, of which all values are wanted
@@ -168,18 +181,15 @@ module _ (S : Setting) (pending : List Pending) where
       let code = exp_code cs e (t + 1 + waiting) j field in
       let rest_code = fields_code cs fs stored (waiting + 1) t (j + made_by e) line in
       let whole = length-append code rest_code in
-      let two : field ≡ 2 = ap (λ b. cond b 0 2) (last_waits e fs w) in
-      let same : code ≡ exp_code cs e (t + 1 + waiting) j 2 = ap (exp_code cs e (t + 1 + waiting) j) two in
-      let size = ap length same in
-      let least : room_of cs e field ≡ room_of cs e 2 = ap (room_of cs e) two in
+      let one = wants_one cs e fs (t + 1 + waiting) j w in
       let some = room_some cs e in
       let more : waiting + 1 ≡ length (es ++ e ∷ []) = (let l = length-append es (e ∷ []) in omega (arith, l, count)) in
       let low = ok.1.0 in
-      held_same S pending e w (t + 1 + waiting) j n pc opened _ env regs c (subst (HasAt S pc) same (has_front S pc code rest_code has)) ok.0 (omega (arith, inside, whole, size)) (omega (arith, le)) (omega (arith, room, least, some)) rel
-      (λ regs1 af eq. at_place S pending n (pc + length (exp_code cs e (t + 1 + waiting) j 2)) (pc + length code) opened _ regs1 c (omega (arith, size))
+      held_same S pending e w (t + 1 + waiting) j n pc opened _ env regs c (subst (HasAt S pc) one.same (has_front S pc code rest_code has)) ok.0 (omega (arith, inside, whole, one.size)) (omega (arith, le)) (omega (arith, room, one.least, some)) rel
+      (λ regs1 af eq. at_place S pending n (pc + length (exp_code cs e (t + 1 + waiting) j 2)) (pc + length code) opened _ regs1 c (omega (arith, one.size))
       (subst (λ F. Agree S n (tree.at (construct line (reference a_table m) stored F) (of_tree S pending env c) k) (before (of_code S pending (pc + length code) regs1 opened) c)) (ahead_more es e fs)
       (rest (waiting + 1) (es ++ e ∷ []) line stored (items + 1) m t (j + made_by e) n (pc + length code) opened env regs1 c k (wait_more es e ws w) more bound (has_back S pc code rest_code has) ok.1.1 (omega (arith, sum)) (omega (arith, sum, low))
-      (omega (arith, inside, whole)) le rooms (omega (arith, room, least, some)) af.rel (af.keeps t le (omega arith) ∙ is) (still_held t waiting es e env regs regs1 c count le held af eq)
+      (omega (arith, inside, whole)) le rooms (omega (arith, room, one.least, some)) af.rel (af.keeps t le (omega arith) ∙ is) (still_held t waiting es e env regs regs1 c count le held af eq)
       (goes_at S pending n false t (pc + length code + length rest_code) (pc + length (code ++ rest_code)) env regs1 k (omega (arith, whole))
       (goes_after S pending n false t _ env regs env regs1 c k (lower S.hidden S.code.own.stack pending env regs env regs1 c (t + 1 + waiting) t (omega arith) af) goes)))))
   -- it is the last of so many
@@ -191,20 +201,17 @@ module _ (S : Setting) (pending : List Pending) where
       let rest_code = fields_code cs fs (stored + waiting + 1) 0 t (j + made_by e) line in
       let front = length-append code store in
       let whole = length-append (code ++ store) rest_code in
-      let two : field ≡ 2 = ap (λ b. cond b 0 2) (last_waits e fs w) in
-      let same : code ≡ exp_code cs e (t + 1 + waiting) j 2 = ap (exp_code cs e (t + 1 + waiting) j) two in
-      let size = ap length same in
-      let least : room_of cs e field ≡ room_of cs e 2 = ap (room_of cs e) two in
+      let one = wants_one cs e fs (t + 1 + waiting) j w in
       let some = room_some cs e in
       let more : waiting + 1 ≡ length (es ++ e ∷ []) = (let l = length-append es (e ∷ []) in omega (arith, l, count)) in
       let low = ok.1.0 in
       let has_both = has_front S pc (code ++ store) rest_code has in
       let place : pc + length (code ++ store) ≡ pc + length code + length store = omega (arith, front) in
-      held_same S pending e w (t + 1 + waiting) j n pc opened _ env regs c (subst (HasAt S pc) same (has_front S pc code store has_both)) ok.0 (omega (arith, inside, whole, front, size)) (omega (arith, le)) (omega (arith, room, least, some)) rel
-      (λ regs1 af eq. at_place S pending n (pc + length (exp_code cs e (t + 1 + waiting) j 2)) (pc + length code) opened _ regs1 c (omega (arith, size))
+      held_same S pending e w (t + 1 + waiting) j n pc opened _ env regs c (subst (HasAt S pc) one.same (has_front S pc code store has_both)) ok.0 (omega (arith, inside, whole, front, one.size)) (omega (arith, le)) (omega (arith, room, one.least, some)) rel
+      (λ regs1 af eq. at_place S pending n (pc + length (exp_code cs e (t + 1 + waiting) j 2)) (pc + length code) opened _ regs1 c (omega (arith, one.size))
       (subst (λ F. Agree S n (tree.at (construct line (reference a_table m) stored F) (of_tree S pending env c) k) (before (of_code S pending (pc + length code) regs1 opened) c)) (ahead_more es e fs)
       (stored_all S pending (es ++ e ∷ []) fs (waiting + 1) line stored (items + 1) m t n (pc + length code) opened env regs1 c k (wait_more es e ws w) (omega (arith, more)) more (omega (arith, sum)) (omega (arith, sum, low)) (has_back S pc code store has_both)
-      (omega (arith, inside, whole, front)) le (omega (arith, room, least, some)) af.rel (af.keeps t le (omega arith) ∙ is) (still_held t waiting es e env regs regs1 c count le held af eq)
+      (omega (arith, inside, whole, front)) le (omega (arith, room, one.least, some)) af.rel (af.keeps t le (omega arith) ∙ is) (still_held t waiting es e env regs regs1 c count le held af eq)
       (λ env2 regs2 c2 af2. next_goes fs rest line (stored + waiting + 1) (items + 1) m t (j + made_by e) n (pc + length code + length store) 0 env2 regs2 c2 k bound
       (subst (λ q. HasAt S q rest_code) place (has_back S pc (code ++ store) rest_code has)) (subst (λ z. FieldsArePlaced S fs (items + 1) z (j + made_by e)) (sym af2.size) ok.1.1) (omega (arith, sum)) (omega (arith, sum, low))
       (omega (arith, inside, whole, front)) (omega (arith, le, af2.size)) rooms af2.rel (af2.keeps t le (omega arith) ∙ (af.keeps t le (omega arith) ∙ is))
