@@ -271,29 +271,28 @@ fn right(exp: &Exp) -> Option<&Exp> {
     }
 }
 
-// The letters of an expression and of those that are met from it to the left.
-fn to_the_left(alloc: Global, exp: &Exp) -> Result<Vec<u8>, Fail> {
-    let mut letters = Vec::new(alloc);
-    letters.push(letter(exp))?;
-    let mut at = left(exp);
-    for _ in 0..8u32 {
-        if let Some(next) = at {
-            letters.push(letter(next))?;
-            at = left(next);
-        }
-    }
-    Ok(letters)
+#[derive(Clone, Copy)]
+enum Side {
+    Left,
+    Right,
 }
 
-// The same to the right.
-fn to_the_right(alloc: Global, exp: &Exp) -> Result<Vec<u8>, Fail> {
+fn operand(exp: &Exp, side: Side) -> Option<&Exp> {
+    match side {
+        Side::Left => left(exp),
+        Side::Right => right(exp),
+    }
+}
+
+// The letters of an expression and of those that are met from it to one side.
+fn letters_to(alloc: Global, exp: &Exp, side: Side) -> Result<Vec<u8>, Fail> {
     let mut letters = Vec::new(alloc);
     letters.push(letter(exp))?;
-    let mut at = right(exp);
+    let mut at = operand(exp, side);
     for _ in 0..8u32 {
         if let Some(next) = at {
             letters.push(letter(next))?;
-            at = right(next);
+            at = operand(next, side);
         }
     }
     Ok(letters)
@@ -335,8 +334,14 @@ fn operators_and_suffixes_have_their_operands(rt: HostRuntime) -> Result<(), Fai
         let block = tree(rt.alloc(), &whole)?;
         let values = block.result.as_ref().ok_or("no value")?;
         let exp = values.first().ok_or("no value")?;
-        assert_eq!(rt; to_the_left(rt.alloc(), exp)?.as_slice(), *before);
-        assert_eq!(rt; to_the_right(rt.alloc(), exp)?.as_slice(), *behind);
+        assert_eq!(rt;
+            letters_to(rt.alloc(), exp, Side::Left)?.as_slice(),
+            *before
+        );
+        assert_eq!(rt;
+            letters_to(rt.alloc(), exp, Side::Right)?.as_slice(),
+            *behind
+        );
     }
     Ok(())
 }
