@@ -46,27 +46,19 @@ no_key (e ∷ es) v h = no_key es v h ∙ sym (ap (λ b. cond b (Some (key_read 
 
 not_nil : (s : PermanentSort) (n : ℕ) → same (value_of s n) (known nil) ≡ false
 not_nil Primitive n = refl
-not_nil Table n = refl
-not_nil Func n = refl
-not_nil Coro n = refl
+not_nil _ n = refl
 
 not_truth : (b : Bool) (s : PermanentSort) (n : ℕ) → same (value_of s n) (known (boolean b)) ≡ false
 not_truth b Primitive n = refl
-not_truth b Table n = refl
-not_truth b Func n = refl
-not_truth b Coro n = refl
+not_truth b _ n = refl
 
 not_integer : (k : ℤ) (s : PermanentSort) (n : ℕ) → same (value_of s n) (known (integer k)) ≡ false
 not_integer k Primitive n = refl
-not_integer k Table n = refl
-not_integer k Func n = refl
-not_integer k Coro n = refl
+not_integer k _ n = refl
 
 not_text : (t : List ℕ) (s : PermanentSort) (n : ℕ) → same (value_of s n) (known (string t)) ≡ false
 not_text t Primitive n = refl
-not_text t Table n = refl
-not_text t Func n = refl
-not_text t Coro n = refl
+not_text t _ n = refl
 
 -- the key of what a value stands for
 abbrev pub key_at : List (Permanent × PermanentKey) → Option Permanent → Option PermKey

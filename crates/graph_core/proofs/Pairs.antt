@@ -54,9 +54,7 @@ same_key (Text s) (Number n) h = absurd (cc)
 
 read_itself : (s : PermanentSort) (n : ℕ) → same (value_of s n) (value_of s n) ≡ true
 read_itself Primitive n = eq_refl n
-read_itself Table n = eq_refl n
-read_itself Func n = eq_refl n
-read_itself Coro n = eq_refl n
+read_itself _ n = eq_refl n
 
 object_same : (o p : Permanent) → object_read o ≡ object_read p → permanent_eq o p ≡ true
 object_same o p e = read_same o p ∙ (ap (same (object_read p)) e ∙ read_itself p.sort p.number)

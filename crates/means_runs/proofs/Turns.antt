@@ -3,7 +3,7 @@ use Rattle.code_core.specs.Prototype.{Prototype}
 use Rattle.std.proofs.Common.{ℕ, zero, suc, ◌+◌, ◌<◌, ◌≤◌, ◌≡◌, ◌⊎◌, inl, inr, List, [], ◌++◌, length, Option, Some, None, refl, sym, ap, subst, ◌∙◌, arith, Bool, true, false}
 use Rattle.int_core.specs.Value.{Value}
 use Rattle.machine_core.specs.World.{World}
-use Rattle.machine_core.specs.Moves.{Made, Told, move, TopShape, lua_top, CallShape, is_entered, is_primitive, not_paid, not_entered, Ending, go, returned, asks, calls_primitive, raised, unwinding, spent, main_yielded, main_returned, main_failed, Row, traps, stop, only, act, Outcome, trapped, ends, run}
+use Rattle.machine_core.specs.Moves.{Made, Told, move, TopShape, lua_top, CallShape, not_entered, Ending, go, returned, asks, calls_primitive, raised, unwinding, spent, main_yielded, main_returned, main_failed, Row, traps, stop, only, act, Outcome, trapped, ends, run}
 use Rattle.std.specs.Prelude.{drop}
 use Rattle.machine_core.specs.FrameRows.{asked_row, after_asked, refused_under}
 use Rattle.machine_core.specs.MachineStep.{step_by, step, steps, from_world, and_then}
@@ -66,10 +66,8 @@ refusals text lua_top = λ _ _. tt
 refusals text _ = λ _ _. tt
 
 after : (s : CallShape) → NoAsks (after_asked s)
-after is_entered = tt
-after (is_primitive n) = tt
-after not_paid = tt
 after (not_entered text) = λ _ top. refusals text top
+after _ = tt
 
 asked_no_ask : (W : World) → ending_in (run asked_row [] W) ≡ Some asks → ⊥
 asked_no_ask W e = never_asks asked_row (λ _ _ _ s. after s) [] W e

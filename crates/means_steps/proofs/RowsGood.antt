@@ -1,7 +1,7 @@
 -- Each instruction's row, and what is left of it by each wait, is a text that leads to the same on both sides.
 use Rattle.std.proofs.Common.{◌≡◌, ℕ, zero, suc, ◌+◌, ◌*◌, ◌<◌, ◌==◌, Bool, true, false, cond, List, [], ◌∷◌, Option, Some, None, refl, sym, ap, ◌∙◌, arith}
 use Rattle.std.specs.Prelude.{ℤ, pos, negsuc, filter, slice_get, codes}
-use Rattle.int_core.specs.Value.{Value, nil, integer, a_table, a_function, a_coroutine, Shape, is_known, is_object, holds, same_truth, same_plain, same_integer}
+use Rattle.int_core.specs.Value.{Value, nil, integer, a_table, Shape, is_known, is_object, holds, same_truth, same_plain, same_integer}
 use Rattle.code_core.specs.declared.opcode.Opcode.{Opcode}
 use Rattle.code_core.specs.declared.opcode.Opcode.TheVariants.{Move, LoadF, LoadK, LoadKx, GetUpval, SetUpval, GetTabUp, GetTable, GetI, GetField, SetTabUp, SetTable, SetI, SetField, NewTable, OpSelf, AddI, AddK, SubK, MulK, ModK, PowK, DivK, IDivK, BAndK, BOrK, BXorK, ShrI, ShlI, Add, Sub, Mul, Mod, Pow, Div, IDiv, BAnd, BOr, BXor, Shl, Shr, MmBin, MmBinI, MmBinK, Unm, BNot, Not, Len, Concat, Close, Tbc, Jmp, Eq, Lt, Le, EqK, EqI, LtI, LeI, GtI, GeI, TestSet, Call, TailCall, Return, Return0, Return1, ForLoop, ForPrep, TForPrep, TForCall, TForLoop, SetList, Closure, VarArg, VarArgPrep, ExtraArg}
 use Rattle.code_core.specs.declared.instruction.Instruction.{Instruction}
@@ -121,10 +121,8 @@ module _ (p : Prototype) (pc : ℕ) (op : Opcode) (w : Instruction) (E : (wait :
   from_good len (suc n) t r last z = each_good len (suc n) t r last z
 
   fills_good : (len : ℕ) (s : Shape) (t : ℕ) (last : ℕ) (z : ℤ) → G len (fills_by s t w last z)
-  fills_good len (is_known k) t last z = tt
-  fills_good len (is_object a_function) t last z = tt
-  fills_good len (is_object a_coroutine) t last z = tt
   fills_good len (is_object a_table) t last z = from_good len (b_of w) t (a_of w + 1) last z
+  fills_good len _ t last z = tt
 
   handled_good : (len : ℕ) (e : Option Event) (xs : List Arg) → to_register_before p pc ≡ rest {V = Arg} for_value p pc op w → G len (handled p pc w e xs)
   handled_good len None xs h = tt

@@ -3,7 +3,7 @@ use Rattle.code_core.specs.Prototype.{Prototype}
 use Rattle.lua_meaning.specs.Step.{Primitives}
 use Rattle.std.proofs.Common.{ℕ, ◌≡◌, List, [], ◌++◌, length, Option, Some, None, refl, sym, subst, Bool, true, false}
 use Rattle.std.specs.Prelude.{drop, cond}
-use Rattle.int_core.specs.Value.{Value, a_table, a_function, a_coroutine, Shape, is_known, is_object}
+use Rattle.int_core.specs.Value.{Value, a_coroutine, Shape, is_object}
 use Rattle.machine_core.specs.World.{World}
 use Rattle.machine_core.specs.Moves.{Made, Told, move, CallShape, is_entered, is_primitive, not_paid, not_entered, TopShape, lua_top, pcall_top, xpcall_top, handler_top, closing_top, no_top, ClosingShape, one_left, all_closed, closed_with_error, ResumeShape, resumed, refused, Row, traps, stop, only, act, Ending, spent, main_yielded, main_returned, main_failed, Outcome, trapped, ends, run}
 use Rattle.machine_core.specs.FrameRows.{hand_over, handed, closing_by, handed_to, unwound, raised_row, raised_to, coroutine_fails}
@@ -63,12 +63,10 @@ closing_free closed_with_error v = λ _ _ _ _ _ _. hand_free
 
 pub handed_to_free : (top : TopShape) → (top ≡ no_top true → ⊥) → EndsNoTurn (handed_to top)
 handed_to_free lua_top n = tt
-handed_to_free pcall_top n = λ _ _ _ _ _ _ _ _ _. hand_free
-handed_to_free xpcall_top n = λ _ _ _ _ _ _ _ _ _. hand_free
 handed_to_free handler_top n = λ _ _ _ _ _ _ _ _ _. tt
 handed_to_free closing_top n = λ _ _ _ v s _. closing_free s v
-handed_to_free (no_top false) n = λ _ _ _ _ _ _ _ _ _. hand_free
 handed_to_free (no_top true) n = absurd (n refl)
+handed_to_free _ n = λ _ _ _ _ _ _ _ _ _. hand_free
 
 pub either : (b : Bool) (x y : Row) → EndsNoTurn x → EndsNoTurn y → EndsNoTurn (cond b x y)
 either true x y k l = k
@@ -123,18 +121,14 @@ after_closing_free (refused text) k = λ _ _ _. tt
 
 resumes_free : (s : Shape) (co : ℕ) → EndsNoTurn (row_resumes s co)
 resumes_free (is_object a_coroutine) co = λ _ told k. after_resume_free told k
-resumes_free (is_object a_table) co = λ _ _ _. tt
-resumes_free (is_object a_function) co = λ _ _ _. tt
-resumes_free (is_known p) co = λ _ _ _. tt
+resumes_free _ co = λ _ _ _. tt
 
 pub resume_free : EndsNoTurn resume_row
 resume_free = λ co _ _ _ s _. resumes_free s co
 
 closes_free : (s : Shape) (co : ℕ) → EndsNoTurn (row_closes s co)
 closes_free (is_object a_coroutine) co = λ _ told k. after_closing_free told k
-closes_free (is_object a_table) co = λ _ _ _. tt
-closes_free (is_object a_function) co = λ _ _ _. tt
-closes_free (is_known p) co = λ _ _ _. tt
+closes_free _ co = λ _ _ _. tt
 
 pub close_free : EndsNoTurn close_row
 close_free = λ co _ _ _ s _. closes_free s co

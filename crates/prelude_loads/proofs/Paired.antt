@@ -4,7 +4,7 @@ use Rattle.std.specs.Prelude.{slice_get}
 use Rattle.int_core.specs.Value.{nil, a_table, a_function, a_coroutine, Value, known, object, nth, bind}
 use Rattle.int_core.specs.Heap.{Table}
 use Rattle.machine_core.specs.World.{Function, Cell, closed, Wait, LuaFrame, Frame, lua, Coroutine, World, frames_of, lua_frame, register_at}
-use Rattle.machine_alike.specs.Agree.{Pairs, SameNumber, SameCellNumber, Each as EachOf, SameValue, same_known, same_object, SameValues, SameRow, SameTable, SameFunction, SameWait, same_leaving, SameLuaFrame, SameFrame, same_lua, same_pcall, same_xpcall, same_handler, same_closing, SameFrames, SameCoroutine, same_fresh, same_suspended, same_in_progress, same_normal, same_dead, same_failed, IsFirst, IsSecond, Loose, kept_closed, kept_apart, SameCell, same_place, same_content, objects_of, SameObjects, roots_of, SameRoots}
+use Rattle.machine_alike.specs.Agree.{Pairs, SameNumber, SameCellNumber, Each as EachOf, SameValue, same_object, SameValues, SameRow, SameTable, SameFunction, SameWait, same_leaving, SameLuaFrame, SameFrame, same_lua, same_pcall, same_xpcall, same_handler, same_closing, SameFrames, SameCoroutine, same_fresh, same_suspended, same_in_progress, same_normal, same_dead, same_failed, IsFirst, IsSecond, Loose, kept_closed, kept_apart, SameCell, same_place, same_content, objects_of, SameObjects, roots_of, SameRoots}
 use Rattle.machine_alike.proofs.Pairwise.{each_bind, both_each, zip_get, bind_some}
 use Rattle.machine_alike.proofs.Same.{nth_same, frames_same, lua_frame_same}
 use Rattle.machine_sound.specs.Sound.{Each}
@@ -36,10 +36,8 @@ module _ (p : Pairs) (W X : World) (same : SameObjects p (objects_of W) (objects
   table_apart n m s h q = h (same.one_to_one.objects a_table n y.table y.table (subst (λ j. SameNumber p a_table n j) q s) env)
 
   apart_so : (v w : Value) → SameValue p v w → Apart y.table v → Apart y.table w
-  apart_so v w (same_known k) h = tt
   apart_so v w (same_object a_table i j s) h = table_apart i j s h
-  apart_so v w (same_object a_function i j s) h = tt
-  apart_so v w (same_object a_coroutine i j s) h = tt
+  apart_so v w _ h = tt
 
   values_so : (vs ws : List Value) → SameValues p vs ws → Each (Apart y.table) vs → Each (Apart y.table) ws
   values_so = each_so (SameValue p) (Apart y.table) (Apart y.table) apart_so

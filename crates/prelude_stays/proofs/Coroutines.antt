@@ -39,9 +39,7 @@ pub frames_held : (e : ℕ) (gs : List Guard) (c : Coroutine) (fs : List Frame) 
 frames_held e gs (suspended hs) fs q h = let k : hs ≡ fs = cc in subst (Each (FrameOk e gs)) k h
 frames_held e gs (in_progress hs) fs q h = let k : hs ≡ fs = cc in subst (Each (FrameOk e gs)) k h
 frames_held e gs (normal hs) fs q h = let k : hs ≡ fs = cc in subst (Each (FrameOk e gs)) k h
-frames_held e gs (fresh v) fs q h = absurd (cc)
-frames_held e gs dead fs q h = absurd (cc)
-frames_held e gs (failed v vs) fs q h = absurd (cc)
+frames_held e gs _ fs q h = absurd (cc)
 
 module _ (y : Home) (gs : List Guard) where
   pub chain_keeps : (W : World) (chain : List ℕ) → Keeps y gs W → Keeps y gs (record W { chain = chain })

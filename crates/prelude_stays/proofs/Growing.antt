@@ -4,7 +4,7 @@ use Rattle.std.specs.Prelude.{slice_get}
 use Rattle.int_core.specs.Value.{a_table, Value, object}
 use Rattle.code_core.specs.declared.proto.UpDesc.{UpDesc}
 use Rattle.code_core.specs.Prototype.{Prototype, list_of}
-use Rattle.machine_core.specs.World.{Function, Cell, closed, open_at, LuaFrame, Frame, lua, Coroutine, fresh, suspended, in_progress, normal, dead, failed, World, Place, find_open}
+use Rattle.machine_core.specs.World.{Function, Cell, closed, open_at, LuaFrame, Frame, lua, Coroutine, suspended, in_progress, normal, World, Place, find_open}
 use Rattle.machine_core.specs.Moves.{captured, add_loaded}
 use Rattle.machine_sound.proofs.Lists.{each_on, get_push_old, get_push_new, push_cases, get_within, some_is}
 use Rattle.list_laws.proofs.Items.{length_more}
@@ -28,12 +28,10 @@ module _ (e : ℕ) (gs more : List Guard) where
   frame_more _ h = h
 
   pub coroutine_more : (c : Coroutine) → CoroutineOk e gs c → CoroutineOk e (gs ++ more) c
-  coroutine_more (fresh v) h = h
   coroutine_more (suspended fs) h = each_on (FrameOk e gs) (FrameOk e (gs ++ more)) frame_more fs h
   coroutine_more (in_progress fs) h = each_on (FrameOk e gs) (FrameOk e (gs ++ more)) frame_more fs h
   coroutine_more (normal fs) h = each_on (FrameOk e gs) (FrameOk e (gs ++ more)) frame_more fs h
-  coroutine_more dead h = h
-  coroutine_more (failed v vs) h = h
+  coroutine_more _ h = h
 
   pub cell_more : (cos : List Coroutine) (c : Cell) → CellOk e gs cos c → CellOk e (gs ++ more) cos c
   cell_more cos (closed v) h = h

@@ -36,9 +36,7 @@ module _ (y : Home) (H : Heap) (h : HeapOk y H) where
       from : (o : Option Table) → slice_get H.tables m ≡ o → OptionOk (Apart y.table) (bind o (λ t. Some (get table_values t.rows key)))
       from None e = tt
       from (Some t) e = get_apart y.table t.rows key (h.tables m t e).rows
-  raw_get_ok (object a_function m) key = tt
-  raw_get_ok (object a_coroutine m) key = tt
-  raw_get_ok (known p) key = tt
+  raw_get_ok _ key = tt
 
   or_nil : (o : Option Value) → OptionOk (Apart y.table) o → Apart y.table (elim o [ None ↦ known nil | Some h ↦ h ])
   or_nil None k = tt
@@ -174,9 +172,7 @@ module _ (y : Home) (H : Heap) (h : HeapOk y H) where
       from : (o : Option Table) → SettledOk (elim o [ None ↦ cannot_arise | Some t ↦ found H (known (integer (pos (border table_values t.rows))) ∷ []) ])
       from None = tt
       from (Some t) = found_one (known (integer (pos (border table_values t.rows)))) tt
-  raw_length_ok (object a_function m) = tt
-  raw_length_ok (object a_coroutine m) = tt
-  raw_length_ok (known p) = tt
+  raw_length_ok _ = tt
 
   length_ok : (v : Value) → Apart y.table v → SettledOk (length_on H v)
   length_ok (known (string s)) a = found_one (known (integer (pos (length s)))) tt

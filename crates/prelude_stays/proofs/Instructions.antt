@@ -2,7 +2,7 @@
 use Rattle.std.proofs.Common.{ℕ, suc, ◌≡◌, ◌⊎◌, inl, inr, ⊎_elim, List, [], ◌∷◌, ◌++◌, Option, Some, None, refl, subst, sym, ap, ◌∙◌, length, drop, Bool, true, false, cond}
 use Rattle.std.specs.Prelude.{pos, slice_get}
 use Rattle.std.proofs.lemmas.Bool.{cases_eq}
-use Rattle.int_core.specs.Value.{nil, a_table, a_function, a_coroutine, Value, known, object, Shape, bind, nth, write}
+use Rattle.int_core.specs.Value.{nil, a_table, Value, known, object, Shape, bind, nth, write}
 use Rattle.int_core.specs.Operations.{index, Settled, found, ask, fault, cannot_arise, does}
 use Rattle.list_laws.proofs.Values.{drop_front, nth_mid, drop_mid}
 use Rattle.code_core.specs.declared.proto.Const.{Const}
@@ -26,10 +26,8 @@ use Rattle.prelude_stays.proofs.Texts.{raises_blind, jump_blind, enter_goes, tol
 
 -- a value is apart from the environment, or is it
 value_is : (e : ℕ) (v : Value) → Apart e v ⊎ (v ≡ object a_table e)
-value_is e (known p) = inl tt
-value_is e (object a_function n) = inl tt
-value_is e (object a_coroutine n) = inl tt
 value_is e (object a_table n) = ⊎_elim (λ q. inr (ap (object a_table) q)) (λ q. inl q) (cases_eq n e)
+value_is e _ = inl tt
 
 -- a move that only reads from the activation leaves the frame as it was
 abbrev pub Idle : Own → Type 0

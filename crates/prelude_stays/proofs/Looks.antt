@@ -2,9 +2,9 @@
 use Rattle.std.proofs.Common.{ℕ, ◌+◌, ◌≡◌, List, [], ◌∷◌, ◌++◌, Option, Some, None, refl, length, drop, arith}
 use Rattle.std.specs.Prelude.{slice_get, slice_set}
 use Rattle.int_core.specs.Rows.{next}
-use Rattle.int_core.specs.Value.{string, a_table, a_function, a_coroutine, Value, known, object, table_values, nth, bind}
+use Rattle.int_core.specs.Value.{string, a_table, Value, known, object, table_values, nth, bind}
 use Rattle.int_core.specs.Heap.{Table, Heap, raw_get, metatable_of, add_table}
-use Rattle.library_rows.specs.Look.{args_of, HeapOp, look, compare, read_field, write_field, read_metatable, write_metatable, border_of, row_after, make_table, or_nil, table_or_nil, put_field, put_metatable, put_meta, row_step, row_in, does_op, Look, gives, gives_all, refuses, raises, count, does, Done, done, refused, raised, looked}
+use Rattle.library_rows.specs.Look.{args_of, HeapOp, read_field, write_field, read_metatable, write_metatable, row_after, make_table, or_nil, table_or_nil, put_field, put_metatable, put_meta, row_step, row_in, does_op, Look, gives, gives_all, refuses, raises, count, does, Done, done, refused, raised, looked}
 use Rattle.machine_sound.specs.Sound.{Each, OptionOk}
 use Rattle.machine_sound.proofs.Lists.{each_none, each_cons, each_one, each_append, each_push, each_drop, get_push_old, get_within}
 use Rattle.machine_sound.proofs.Values.{nth_ok}
@@ -47,9 +47,7 @@ module _ (y : Home) (H : Heap) (h : HeapOk y H) where
 
   write_ok : (o k v : Value) → Apart y.table o → Apart y.table k → Apart y.table v → HeapOk y (put_field H o k v)
   write_ok (object a_table n) k v d a b = raw_set_ok y H h n k v d a b
-  write_ok (object a_function n) k v d a b = h
-  write_ok (object a_coroutine n) k v d a b = h
-  write_ok (known p) k v d a b = h
+  write_ok _ k v d a b = h
 
   put_ok : (o : Value) (m : Option ℕ) → Apart y.table o → MetaOk y.table m → HeapOk y (put_metatable H o m)
   unfolding put_metatable
@@ -58,15 +56,11 @@ module _ (y : Home) (H : Heap) (h : HeapOk y H) where
       from : (o : Option Table) → slice_get H.tables n ≡ o → HeapOk y (elim o [ None ↦ H | Some t ↦ record H { tables = slice_set H.tables n (record t { metatable = m }) } ])
       from None e = h
       from (Some t) e = put_table y H h n t (record t { metatable = m }) d (record { rows = (h.tables n t e).rows; metatable = k })
-  put_ok (object a_function n) m d k = h
-  put_ok (object a_coroutine n) m d k = h
-  put_ok (known p) m d k = h
+  put_ok _ m d k = h
 
   put_meta_ok : (o m : Value) → Apart y.table o → Apart y.table m → HeapOk y (put_meta H o m)
   put_meta_ok o (object a_table m) d k = put_ok o (Some m) d k
-  put_meta_ok o (object a_function m) d k = put_ok o None d tt
-  put_meta_ok o (object a_coroutine m) d k = put_ok o None d tt
-  put_meta_ok o (known p) d k = put_ok o None d tt
+  put_meta_ok o _ d k = put_ok o None d tt
 
   row_ok : (o key : Value) (row : Value × Value) → row_in H o key ≡ Some (Some row) → RowOk y.table row
   row_ok (object a_table n) key row e = from (slice_get H.tables n) refl e
@@ -74,9 +68,7 @@ module _ (y : Home) (H : Heap) (h : HeapOk y H) where
       from : (o : Option Table) → slice_get H.tables n ≡ o → bind o (λ t. next table_values t.rows key) ≡ Some (Some row) → RowOk y.table row
       from None d e = absurd (cc)
       from (Some t) d e = next_ok (RowOk y.table) t.rows key row (h.tables n t d).rows e
-  row_ok (object a_function n) key row e = absurd (cc)
-  row_ok (object a_coroutine n) key row e = absurd (cc)
-  row_ok (known p) key row e = absurd (cc)
+  row_ok _ key row e = absurd (cc)
 
   rows_ok : (x : Option (Option (Value × Value))) → ((row : Value × Value) → x ≡ Some (Some row) → RowOk y.table row) → HeapOk y (row_step H x).heap × Each (Apart y.table) (row_step H x).values
   rows_ok None k = (h, each_none (Apart y.table))
@@ -85,15 +77,13 @@ module _ (y : Home) (H : Heap) (h : HeapOk y H) where
 
   -- one lemma an operation
   op_ok : (op : HeapOp) (vs : List Value) → Each (Apart y.table) vs → HeapOk y (does_op op H vs).heap × Each (Apart y.table) (does_op op H vs).values
-  op_ok look vs v = (h, each_none (Apart y.table))
-  op_ok compare vs v = (h, each_none (Apart y.table))
   op_ok read_field vs v = (h, each_one (Apart y.table) (or_nil (raw_get H (nth vs 0) (nth vs 1))) (or_nil_ok y.table (raw_get H (nth vs 0) (nth vs 1)) (raw_get_ok y H h (nth vs 0) (nth vs 1))))
   op_ok write_field vs v = (write_ok (nth vs 0) (nth vs 1) (nth vs 2) (nth_ok (Apart y.table) tt vs 0 v) (nth_ok (Apart y.table) tt vs 1 v) (nth_ok (Apart y.table) tt vs 2 v), each_none (Apart y.table))
   op_ok read_metatable vs v = (h, each_one (Apart y.table) (table_or_nil (metatable_of H (nth vs 0))) (meta_value_ok y.table (metatable_of H (nth vs 0)) (metatable_ok (nth vs 0))))
   op_ok write_metatable vs v = (put_meta_ok (nth vs 0) (nth vs 1) (nth_ok (Apart y.table) tt vs 0 v) (nth_ok (Apart y.table) tt vs 1 v), each_none (Apart y.table))
-  op_ok border_of vs v = (h, each_none (Apart y.table))
   op_ok row_after vs v = rows_ok (row_in H (nth vs 0) (nth vs 1)) (λ row e. row_ok (nth vs 0) (nth vs 1) row e)
   op_ok make_table vs v = (new_table_ok y H h, each_one (Apart y.table) (object a_table (length H.tables)) (new_apart y H h))
+  op_ok _ vs v = (h, each_none (Apart y.table))
 
 abbrev pub DoneOk : Home → Done → Type 0
 DoneOk y (done K vs) = HeapOk y K × Each (Apart y.table) vs

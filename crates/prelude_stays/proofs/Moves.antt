@@ -96,10 +96,7 @@ module _ (y : Home) (gs : List Guard) (W : World) (k : Keeps y gs W) where
         other_top y gs W k s (closing x (v ∷ left)) (closing x (without_last (v ∷ left))) o e refl (ok.0, each_take (Apart y.table) _ (v ∷ left) ok.1),
         each_cons (Apart y.table) w (error_or_nil x ∷ []) (last_held (Apart y.table) (v ∷ left) w ok.1 q) (each_one (Apart y.table) (error_or_nil x) (error_ok x ok.0)),
       )
-  next_keeps s (lua f) o e = tt
-  next_keeps s pcall o e = tt
-  next_keeps s (xpcall h) o e = tt
-  next_keeps s handler o e = tt
+  next_keeps s _ o e = tt
 
   error_keeps : (s : Stack) (f : Frame) (v : Value) → OnStack W s → last s.frames ≡ Some f → Apart y.table v → MadeKeeps y (with_error W s f v)
   error_keeps s (closing x left) v o e a =

@@ -11,7 +11,7 @@ use Rattle.code_core.specs.Prototype.{Prototype}
 use Rattle.code_core.specs.Instruction.{opcode_of, a_of, b_of, c_of, sc_of, k_of, bx_of, sj_of}
 use Rattle.code_core.specs.Check.{in_front, extra_at}
 use Rattle.code_core.specs.Fields.{registers}
-use Rattle.int_core.specs.Value.{a_table, a_function, a_coroutine, Value, Shape, is_known, is_object, holds, same_truth, same_plain, same_integer, nil, integer}
+use Rattle.int_core.specs.Value.{a_table, Value, Shape, is_known, is_object, holds, same_truth, same_plain, same_integer, nil, integer}
 use Rattle.int_core.specs.Operations.{Event, of_add, of_sub, of_mul, of_mod, of_idiv, of_band, of_bor, of_bxor, of_shl, of_shr, computed, by_zero}
 use Rattle.machine_core.specs.World.{Wait, running, for_call, for_iterator, for_value, for_truth, dropped, for_concat, for_close, returning, leaving}
 use Rattle.machine_core.specs.Text.{Arg, read, written, Text, write_register, read_register, read_constant, trap, raise, own, quick, pay, go_by}
@@ -151,10 +151,8 @@ module _ (held : ℕ → Bool) (code : List Instruction) where
   from_reads (suc n) t r last z a = each_reads (suc n) t r last z a
 
   fills_reads : (s : Shape) (t : ℕ) (w : Instruction) (last : ℕ) (z : ℤ) → Above (a_of w) → Reads G (fills_by s t w last z)
-  fills_reads (is_known k) t w last z a = tt
-  fills_reads (is_object a_function) t w last z a = tt
-  fills_reads (is_object a_coroutine) t w last z a = tt
   fills_reads (is_object a_table) t w last z a = from_reads (b_of w) t (a_of w + 1) last z (λ r l. a r (omega arith))
+  fills_reads _ t w last z a = tt
 
   joins_reads : (r i : ℕ) (x : Arg) → Above r → Reads G (joins r i x)
   joins_reads r zero x a = (tt, λ _ _. tt)

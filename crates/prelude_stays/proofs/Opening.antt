@@ -3,7 +3,7 @@ use Rattle.std.proofs.Common.{ℕ, zero, suc, ◌+◌, ◌<◌, ◌≡◌, ⊎_e
 use Rattle.std.specs.Prelude.{slice_get, nat_eq, not, IsTrue, codes}
 use Rattle.std.specs.List.{list_all, list_any}
 use Rattle.std.proofs.lemmas.Bool.Decides.{nat_tests}
-use Rattle.int_core.specs.Value.{Plain, nil, string, a_table, a_function, a_coroutine, Value, known, object}
+use Rattle.int_core.specs.Value.{Plain, nil, string, a_table, a_function, Value, known, object}
 use Rattle.int_core.specs.Operations.{before}
 use Rattle.code_core.specs.Prototype.{Prototype}
 use Rattle.library_rows.specs.Library.{Library, of_globals, of_coroutine, of_string, of_table, of_math, of_utf8, Primitive, Entry, all_entries, constants}
@@ -74,14 +74,12 @@ is_other (object a_table n) = not (nat_eq n environment_table)
 is_other v = true
 
 other_apart : (v : Value) → IsTrue (is_other v) → Apart environment_table v
-other_apart (known p) h = tt
-other_apart (object a_function n) h = tt
-other_apart (object a_coroutine n) h = tt
 other_apart (object a_table n) h = λ q. by (nat_eq n environment_table) refl h q
   where
     by : (b : Bool) → nat_eq n environment_table ≡ b → IsTrue (not b) → n ≡ environment_table → ⊥
     by true e h q = cc
     by false e h q = grind (arith, nat_tests)
+other_apart _ h = tt
 
 others_ok : (es : List (Entry Value)) → IsTrue (list_all (λ (e : Entry Value). is_other e.entry) es) → Each EntryOk es
 others_ok [] h = each_none EntryOk

@@ -2,7 +2,7 @@
 use Rattle.std.proofs.Common.{ℕ, zero, suc, List, Option, Some, None, false}
 use Rattle.std.specs.Prelude.{ℤ, pos, negsuc}
 use Rattle.int_core.specs.Limits.{stack_overflow}
-use Rattle.int_core.specs.Value.{a_table, a_function, a_coroutine, Shape, is_known, is_object}
+use Rattle.int_core.specs.Value.{a_coroutine, Shape, is_object}
 use Rattle.code_core.specs.Prototype.{Prototype}
 use Rattle.library_rows.specs.Look.{Look}
 use Rattle.library_rows.specs.Library.{Primitive, primitive_at, row_of as look_of}
@@ -43,10 +43,8 @@ module _ {y : Home} where
   refused_keeps _ text = blames_keep text
 
   after_asked_keeps : (s : CallShape) → RowKeeps y (after_asked s)
-  after_asked_keeps is_entered = stop_keeps
-  after_asked_keeps (is_primitive n) = stop_keeps
-  after_asked_keeps not_paid = stop_keeps
   after_asked_keeps (not_entered text) = act_keeps tt (λ n top. refused_keeps top text)
+  after_asked_keeps _ = stop_keeps
 
   pub asked_keeps : RowKeeps y asked_row
   asked_keeps = act_keeps tt (λ f t. act_keeps tt (λ n s. after_asked_keeps s))
@@ -72,10 +70,8 @@ module _ {y : Home} where
   error_keeps = act_keeps tt (λ e t. act_keeps tt (λ n s. errs_keep e s (level_in s)))
 
   entry_keeps : (s : CallShape) → RowKeeps y (after_entry s)
-  entry_keeps is_entered = stop_keeps
-  entry_keeps (is_primitive n) = stop_keeps
-  entry_keeps not_paid = stop_keeps
   entry_keeps (not_entered text) = blames_keep text
+  entry_keeps _ = stop_keeps
 
   pub after_resume_keeps : (s : ResumeShape) → RowKeeps y (after_resume s)
   after_resume_keeps (resumed is_entered) = hand_over_keeps
@@ -86,9 +82,7 @@ module _ {y : Home} where
 
   resumes_keep : (s : Shape) (co : ℕ) → RowKeeps y (resumes s co)
   resumes_keep (is_object a_coroutine) co = act_keeps tt (λ n s. after_resume_keeps s)
-  resumes_keep (is_object a_table) co = blames_keep _
-  resumes_keep (is_object a_function) co = blames_keep _
-  resumes_keep (is_known p) co = blames_keep _
+  resumes_keep _ co = blames_keep _
 
   resume_keeps : RowKeeps y resume_row
   resume_keeps = act_keeps tt (λ co t. act_keeps tt (λ n s. resumes_keep s co))
@@ -105,9 +99,7 @@ module _ {y : Home} where
 
   closes_keep : (s : Shape) (co : ℕ) → RowKeeps y (closes_coroutine s co)
   closes_keep (is_object a_coroutine) co = act_keeps tt (λ n s. after_closing_keeps s)
-  closes_keep (is_object a_table) co = blames_keep _
-  closes_keep (is_object a_function) co = blames_keep _
-  closes_keep (is_known p) co = blames_keep _
+  closes_keep _ co = blames_keep _
 
   close_keeps : RowKeeps y close_row
   close_keeps = act_keeps tt (λ co t. act_keeps tt (λ n s. closes_keep s co))
@@ -128,9 +120,7 @@ module _ {y : Home} where
 
   status_keeps : (s : Shape) (co : ℕ) → RowKeeps y (sees_status s co)
   status_keeps (is_object a_coroutine) co = act_keeps tt (λ n s. gives_back_keeps _)
-  status_keeps (is_object a_table) co = blames_keep _
-  status_keeps (is_object a_function) co = blames_keep _
-  status_keeps (is_known p) co = blames_keep _
+  status_keeps _ co = blames_keep _
 
   status_row_keeps : RowKeeps y status_row
   status_row_keeps = act_keeps tt (λ co t. act_keeps tt (λ n s. status_keeps s co))

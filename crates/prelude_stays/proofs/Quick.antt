@@ -1,7 +1,7 @@
 -- Moves of a text whose frame stays on top: on its activation, on cells, and outside.
 use Rattle.std.proofs.Common.{ℕ, zero, suc, ◌≡◌, List, [], ◌∷◌, ◌++◌, Option, Some, None, refl, subst, sym, ap, ◌∙◌, length, drop, Bool, true, false, cond}
 use Rattle.std.specs.Prelude.{slice_get, slice_set, nat_lt}
-use Rattle.int_core.specs.Value.{a_table, a_function, a_coroutine, Value, known, object, bind}
+use Rattle.int_core.specs.Value.{a_table, a_function, Value, object, bind}
 use Rattle.int_core.specs.Heap.{Table, Heap, add_table, filled, filled_table}
 use Rattle.int_core.specs.Operations.{Operation, Settled, found, ask, fault, cannot_arise, does}
 use Rattle.code_core.specs.Prototype.{list_of}
@@ -81,9 +81,7 @@ module _ (y : Home) (gs : List Guard) (W : World) (k : Keeps y gs W) (g : Guard)
       by (Some u) q e =
           subst (HeapOk y) (some_is refl e)
           (put_table y W.heap k.heap n u (record u { rows = filled last vs u.rows }) a (record { rows = filled_ok y.table last vs u.rows b (k.heap.tables n u q).rows; metatable = (k.heap.tables n u q).metatable }))
-  fill_ok (object a_function n) last vs H a b e = absurd (cc)
-  fill_ok (object a_coroutine n) last vs H a b e = absurd (cc)
-  fill_ok (known p) last vs H a b e = absurd (cc)
+  fill_ok _ last vs H a b e = absurd (cc)
 
   outside_goes : (q : Quick) (env : List Value) → QuickReads g q → Each (Apart y.table) env → (p : Place) → OnPlace W p → MadeOn y g (do_outside q env W p)
   outside_goes (read_upvalue u) env r v p o =

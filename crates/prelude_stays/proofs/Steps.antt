@@ -8,7 +8,7 @@ use Rattle.code_core.specs.Instruction.{opcode_of}
 use Rattle.code_core.specs.Prototype.{Prototype}
 use Rattle.code_core.specs.Check.{at}
 use Rattle.machine_core.specs.World.{Function, Wait, running, for_call, for_iterator, for_value, for_truth, dropped, for_concat, for_close, returning, leaving, LuaFrame, Frame, lua, pcall, xpcall, handler, closing, World, Stack, stack_of, lua_frame, Place, put_top, put_frames, in_progress}
-use Rattle.machine_core.specs.Text.{read, written, thrown, Own, read_register, read_registers, read_list, mark_pending, Quick, read_upvalue, write_upvalue, make_table, make_function, fill_table, pay, Text, own, open_cell, quick, operate, call, close, closable, leave, trap}
+use Rattle.machine_core.specs.Text.{read, written, thrown, Own, read_register, read_registers, read_list, mark_pending, Quick, read_upvalue, write_upvalue, Text, own, open_cell, quick, operate, call, close, closable, leave, trap}
 use Rattle.machine_core.specs.InstructionRows.{text_at, rest, rest_by, rest_at, arrived, fails, is_true, left_so}
 use Rattle.machine_core.specs.Moves.{give, give_with, see_top, made, TopShape, lua_top, pcall_top, xpcall_top, handler_top, closing_top, no_top, top_now, Ending, go, returned, asks, calls_primitive, raised, unwinding, spent, Row, traps, stop, act, Outcome, trapped, ends, run}
 use Rattle.machine_core.specs.FrameRows.{then, hand_over, gives_up, by_asking, goes_on_by, handed_to, unwound}
@@ -43,10 +43,7 @@ all_free (m ∷ ms) = (own_free m, all_free ms)
 quick_free : (q : Quick) → QuickReads unguarded q
 quick_free (read_upvalue u) = refl
 quick_free (write_upvalue u x) = refl
-quick_free make_table = tt
-quick_free (make_function n) = tt
-quick_free (fill_table x last slot) = tt
-quick_free pay = tt
+quick_free _ = tt
 
 pub text_free : (t : Text) → Reads unguarded t
 text_free (own m k) = (own_free m, λ n s. text_free (k n s))

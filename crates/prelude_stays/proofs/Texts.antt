@@ -4,7 +4,7 @@ use Rattle.std.specs.Prelude.{ℤ, codes}
 use Rattle.int_core.specs.Value.{Value}
 use Rattle.machine_core.specs.World.{Wait, leaving, World, Place, place_of}
 use Rattle.machine_core.specs.Text.{Arg, read, arg, args_of, Own, Quick, read_upvalue, write_upvalue, make_table, make_function, fill_table, pay, Text, go_by, own, open_cell, quick, operate, call, tail_call, close, closable, raise, leave, trap, Given, results, thrown}
-use Rattle.machine_core.specs.Moves.{on_own, open_register, outside, settle, enter, await, enter_tail, find_close, is_closable, begin_leaving, leave_frame, move_pc, Made, named, CallShape, is_entered, is_primitive, not_paid, not_entered, SettledShape, is_found, is_asked, is_fault, TopShape, go, asks, raised, spent, Row, stop, only, act, Outcome, trapped, ends, with_own, move, run}
+use Rattle.machine_core.specs.Moves.{on_own, open_register, outside, settle, enter, await, enter_tail, find_close, is_closable, begin_leaving, leave_frame, move_pc, Made, named, CallShape, not_entered, SettledShape, is_found, is_asked, is_fault, TopShape, go, asks, raised, spent, Row, stop, only, act, Outcome, trapped, ends, with_own, move, run}
 use Rattle.machine_core.specs.FrameRows.{then, raises, after_call, When, at_once, by_asking, calls_row, prepares, after_leaving, expand_by}
 use Rattle.machine_sound.specs.Sound.{Each}
 use Rattle.machine_sound.proofs.Lists.{each_none, each_cons, each_append, each_drop}
@@ -25,10 +25,8 @@ pub raises_keep : {y : Home} (text : List ℕ) → RowKeeps y (raises text)
 raises_keep text = act_keeps tt (λ n t. stop_keeps)
 
 pub after_call_keeps : {y : Home} (s : CallShape) → RowKeeps y (after_call s)
-after_call_keeps is_entered = stop_keeps
-after_call_keeps (is_primitive n) = stop_keeps
-after_call_keeps not_paid = stop_keeps
 after_call_keeps (not_entered text) = raises_keep text
+after_call_keeps _ = stop_keeps
 
 leaving_keeps : {y : Home} (given : Given) (top : TopShape) → RowKeeps y (after_leaving given top)
 leaving_keeps (results slot) top = handed_keeps top
@@ -67,10 +65,8 @@ pub jump_blind : (y : Home) (z : ℤ) (gs : List Guard) (env : List Value) (W : 
 jump_blind y z gs env W k = blind y (move (move_pc z) [] W) go (free_keeps y gs W k (move_pc z) [] tt (each_none (Apart y.table)))
 
 call_blind : (y : Home) (s : CallShape) (gs : List Guard) (env : List Value) (W : World) → Keeps y gs W → EndKeeps y (run (after_call s) env W)
-call_blind y is_entered gs env W k = (gs, k)
-call_blind y (is_primitive n) gs env W k = (gs, k)
-call_blind y not_paid gs env W k = (gs, k)
 call_blind y (not_entered text) gs env W k = raises_blind y text gs env W k
+call_blind y _ gs env W k = (gs, k)
 
 -- a call of what was read, where the frame waits
 pub enter_goes : (y : Home) (when : When) (f : Arg) (slot : ℕ) (wait : Wait Arg) (prepared : List Own) (gs : List Guard) (env : List Value) (W : World) → Keeps y gs W

@@ -9,7 +9,7 @@ use Rattle.code_core.specs.Instruction.{opcode_of}
 use Rattle.code_core.specs.declared.instruction.Instruction.{Instruction}
 use Rattle.code_core.specs.declared.opcode.Opcode.{Opcode}
 use Rattle.machine_core.specs.World.{Wait, running, leaving, Activation}
-use Rattle.machine_core.specs.Text.{last_pending, value_if, is_there, fits, done, Quick, make_function, Text, go_by, own, open_cell, quick, operate, call, tail_call, close, closable, raise, leave, trap, read, thrown}
+use Rattle.machine_core.specs.Text.{last_pending, value_if, is_there, fits, done, Quick, make_function, Text, go_by, own, open_cell, quick, operate, call, close, raise, leave, trap, read, thrown}
 use Rattle.machine_core.specs.InstructionRows.{text_at, told_values, left_so, fails, rest_at, rest_by}
 use Rattle.machine_core.specs.Moves.{place_from, named}
 use Rattle.machine_core.specs.Talk.{State, before, amid, names_of, captured_done, says_so, heard, talk, talk_step}
@@ -75,12 +75,10 @@ talk_left p (open_cell r t) env a c = by (cell_held r c.held) (talk_left p t env
 talk_left p (quick q k) env a c = quick_left q p k env a c
 talk_left p (operate op xs wait prepared t) env a c = λ e vs cell fits. heard_left (named env wait) p e vs cell _ _
 talk_left p (call f slot wait prepared) env a c = λ e vs cell fits. heard_left (named env wait) p e vs cell _ _
-talk_left p (tail_call f slot) env a c = λ e vs cell fits. absurd fits
 talk_left p (close v x wait prepared) env a c = λ e vs cell fits. heard_left (named env wait) p e vs cell _ _
-talk_left p (closable v name t) env a c = λ e vs cell fits. absurd fits
 talk_left p (raise text) env a c = λ e vs cell fits. heard_left (leaving (Rattle.int_core.specs.Value.known Rattle.int_core.specs.Value.nil)) p e vs cell _ _
-talk_left p (leave given) env a c = λ e vs cell fits. absurd fits
 talk_left p trap env a c = tt
+talk_left p _ env a c = λ e vs cell fits. absurd fits
 
 pub code_left : (p : Prototype) (t : State) → LeavesSo (talk_step p t)
 code_left p (before a c) = talk_left p (text_at p a.pc) [] a c

@@ -1,7 +1,7 @@
 -- A step of a world is some steps of the world that is dressed anew.
 use Rattle.std.proofs.Common.{◌≡◌, ℕ, zero, suc, Bool, true, false, List, [], ◌∷◌, ◌++◌, length, Option, Some, None, refl, sym, ◌∙◌, ap, subst, arith}
 use Rattle.std.specs.Prelude.{ℤ, slice_get, drop, codes}
-use Rattle.int_core.specs.Value.{Value, known, string, object, a_table, a_function, a_coroutine, shape, nth}
+use Rattle.int_core.specs.Value.{Value, known, string, object, a_function, a_coroutine, shape, nth}
 use Rattle.int_core.specs.Limits.{limited}
 use Rattle.int_core.specs.Operations.{is_function}
 use Rattle.int_core.specs.Ask.{Answer, IsLeft, FitsAsk, Next, goes_on, says, stuck, on_from, runs, NextLike}
@@ -177,9 +177,7 @@ module _ {A B S T : Type 0} (Sa : System A S) (Sb : System B T) (R : Bool → A 
     by (got_some c ys e d one) =
         subst (λ o. Both (elim o as (λ _. World A S) [ None ↦ breaks W | Some c ↦ ga co c ]) (elim (slice_get (dress_coroutines W.coroutines xss) co) as (λ _. World B T) [ None ↦ breaks (dress_world W bs xss xs) | Some c ↦ gb co c ])) (sym e)
         (subst (λ o. Both (ga co c) (elim o as (λ _. World B T) [ None ↦ breaks (dress_world W bs xss xs) | Some c ↦ gb co c ])) (sym d) (more co c ys one))
-  with_out W bs xss xs f (known p) ga gb like more = raises_out Sa Sb R Q _ W bs xss xs like
-  with_out W bs xss xs f (object a_table m) ga gb like more = raises_out Sa Sb R Q _ W bs xss xs like
-  with_out W bs xss xs f (object a_function m) ga gb like more = raises_out Sa Sb R Q _ W bs xss xs like
+  with_out W bs xss xs f _ ga gb like more = raises_out Sa Sb R Q _ W bs xss xs like
 
   status_same : (c : Coroutine S) (ys : List (Part T)) → status_of (dress_coroutine c ys) ≡ status_of c
   status_same (fresh body) ys = refl

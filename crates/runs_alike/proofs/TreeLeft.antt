@@ -8,7 +8,7 @@ use Rattle.tree_core.specs.declared.name.Place.{Place}
 use Rattle.tree_core.specs.declared.name.Place.TheVariants.{Unset, Upvalue, GlobalIn, GlobalOf}
 use Rattle.tree_core.specs.declared.name.Place.TheVariants.{Local as LocalPlace}
 use Rattle.tree_core.specs.declared.operator.UnOp.{UnOp}
-use Rattle.tree_core.specs.declared.operator.UnOp.TheVariants.{Neg, BitNot, Not, Len}
+use Rattle.tree_core.specs.declared.operator.UnOp.TheVariants.{Not}
 use Rattle.tree_core.specs.declared.operator.BinOp.{BinOp}
 use Rattle.tree_core.specs.declared.operator.BinOp.TheVariants.{Add, Sub, Mul, Mod, Idiv, Band, Bor, Bxor, Shl, Shr}
 use Rattle.tree_core.specs.Tree.{Block, Body, Stats, EndStats, MoreStats, Stat, Label, Goto, Break, Arms, EndArms, MoreArms, Exp, Var, Index, Call, Method, Table, Exps, EndExps, MoreExps, Fields, EndFields, MoreFields, Item, Keyed}
@@ -81,9 +81,7 @@ binary_left _ line v w a k = λ e vs cell fits. leaving _ _ _
 
 unary_left : (op : UnOp) (line : ℕ) (v : Value) (a : Activation) (k : List Work) → LeavesSo (unary op line v a k)
 unary_left Not line v a k = tt
-unary_left Neg line v a k = λ e vs cell fits. leaving _ _ _
-unary_left BitNot line v a k = λ e vs cell fits. leaving _ _ _
-unary_left Len line v a k = λ e vs cell fits. leaving _ _ _
+unary_left _ line v a k = λ e vs cell fits. leaving _ _ _
 
 constructs_left : (line : ℕ) (t : Value) (items : ℕ) (fs : Fields) (a : Activation) (k : List Work) → LeavesSo (constructs line t items fs a k)
 constructs_left line t items EndFields a k = tt
