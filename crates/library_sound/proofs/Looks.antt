@@ -29,11 +29,9 @@ NoneIs [] = Unit {0}
 NoneIs (p ∷ ps) = IsNone p × NoneIs ps
 
 fits_ok : (p : Plain) → IsNone p → IsTrue (fits_length p) → WrittenOk p
-fits_ok nil i h = tt
-fits_ok (boolean b) i h = tt
-fits_ok (integer n) i h = tt
 fits_ok (string s) i h = le_of (length s) greatest_string h
 fits_ok (primitive n) i h = absurd i
+fits_ok _ i h = tt
 
 all_fit : (ps : List Plain) → NoneIs ps → IsTrue (list_all fits_length ps) → AllOk ps
 all_fit [] i h = tt

@@ -3,7 +3,7 @@ use Rattle.std.proofs.Common.{ℕ, zero, ◌≡◌, List, [], ◌∷◌, ◌++�
 use Rattle.std.specs.Prelude.{IsTrue}
 use Rattle.std.specs.List.{list_all}
 use Rattle.int_core.specs.Heap.{Heap}
-use Rattle.int_core.specs.Value.{Plain, nil, boolean, integer, string, primitive, Value, known, greatest_string}
+use Rattle.int_core.specs.Value.{Plain, string, primitive, Value, known, greatest_string}
 use Rattle.library_rows.specs.Look.{Look, Done, done, refused, looked}
 use Rattle.library_rows.specs.Plainly.{Outcome as Rows, results, error, too_large, fits_length, done_as}
 use Rattle.machine_core.specs.World.{World}
@@ -23,9 +23,7 @@ use Rattle.library_sound.proofs.Plain.{IsThere, AllThere}
 plain_valid : (z : Sizes) (p : Plain) → IsTrue (fits_length p) → IsThere z.primitives p → Valid z (known p)
 plain_valid z (string bytes) h k = le_of (length bytes) greatest_string h
 plain_valid z (primitive n) h k = k
-plain_valid z nil h k = tt
-plain_valid z (boolean b) h k = tt
-plain_valid z (integer n) h k = tt
+plain_valid z _ h k = tt
 
 plains_valid : (z : Sizes) (ps : List Plain) → IsTrue (list_all fits_length ps) → Each (IsThere z.primitives) ps → Each (Valid z) (map known ps)
 plains_valid z [] h k = each_none (Valid z)

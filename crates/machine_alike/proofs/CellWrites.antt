@@ -3,7 +3,7 @@ use Rattle.std.proofs.Common.{ℕ, zero, suc, ◌≡◌, ◌≢◌, ⊎_elim, Li
 use Rattle.std.specs.Prelude.{slice_get, slice_set}
 use Rattle.std.proofs.lemmas.Bool.{cases_eq}
 use Rattle.int_core.specs.Value.{a_coroutine, Value, nil, write, bind}
-use Rattle.machine_core.specs.World.{LuaFrame, Frame, lua, Coroutine, fresh, suspended, in_progress, normal, dead, failed, Cell, closed, open_at, World, frames_of, lua_frame, with_frames, register_at, read_cell, write_in_frame, write_in_coroutine, write_cell, OneEach}
+use Rattle.machine_core.specs.World.{LuaFrame, Frame, lua, Coroutine, suspended, in_progress, normal, Cell, closed, open_at, World, frames_of, lua_frame, with_frames, register_at, read_cell, write_in_frame, write_in_coroutine, write_cell, OneEach}
 use Rattle.machine_alike.specs.Agree.{Pairs, SameNumber, SameCellNumber, Both, Each, SameValue, same_known, SameValues, SameLuaFrame, SameFrame, same_lua, same_pcall, same_xpcall, same_handler, same_closing, SameFrames, SameCoroutine, same_fresh, same_suspended, same_in_progress, same_normal, same_dead, same_failed, IsFirst, IsSecond, Loose, kept_closed, kept_apart, SameCell, same_place, same_content, Objects, objects_of, SameObjects}
 use Rattle.machine_alike.proofs.Pairwise.{both_each, both_split, both_from, each_bind, zip_get, zip_set, get_set_same, get_set_other, bind_some}
 use Rattle.machine_alike.proofs.Same.{lua_frame_same, frames_same}
@@ -150,12 +150,10 @@ is_lua (lua g) l h = let e : g ≡ l = cc in ap lua e
 is_lua _ l h = absurd (cc)
 
 frames_with : (k : Coroutine) (fs gs : List Frame) → frames_of k ≡ Some fs → frames_of (with_frames k gs) ≡ Some gs
-frames_with (fresh v) fs gs h = absurd (cc)
 frames_with (suspended fs') fs gs h = refl
 frames_with (in_progress fs') fs gs h = refl
 frames_with (normal fs') fs gs h = refl
-frames_with dead fs gs h = absurd (cc)
-frames_with (failed e left) fs gs h = absurd (cc)
+frames_with _ fs gs h = absurd (cc)
 
 module _ (cs : List Coroutine) (co f r : ℕ) (u v : Value) (k : Coroutine) (fs : List Frame) (l : LuaFrame) (x : slice_get cs co ≡ Some k) (y : frames_of k ≡ Some fs) (z : slice_get fs f ≡ Some (lua l)) (t : slice_get l.own.registers r ≡ Some u) where
   abbrev written : List Frame

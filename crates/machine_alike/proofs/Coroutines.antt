@@ -2,7 +2,7 @@
 use Rattle.std.proofs.Common.{ℕ, suc, ◌≡◌, List, [], ◌∷◌, ◌++◌, Option, Some, None, refl, subst, sym, ap, ◌∙◌, length, drop, Bool, map, cond}
 use Rattle.std.specs.Prelude.{slice_get, nat_lt, ◌&&◌, flat_map}
 use Rattle.std.specs.List.{AllZip}
-use Rattle.int_core.specs.Value.{a_table, a_function, a_coroutine, object, Value, nth, bind, last, without_last}
+use Rattle.int_core.specs.Value.{a_coroutine, object, Value, nth, bind, last, without_last}
 use Rattle.int_core.specs.Operations.{is_function}
 use Rattle.int_core.specs.Limits.{greatest_resumes, stack_overflow}
 use Rattle.machine_core.specs.World.{Frame, closing, Coroutine, fresh, suspended, in_progress, normal, dead, failed, World, Stack, stack_of, Cell, push, frames_of}
@@ -140,10 +140,8 @@ suspend_keeps p env other W X s g = on_stack p Bool W X _ _ g
 -- resuming
 
 number_same : (p : Pairs) (v w : Value) → SameValue p v w → Each (SameNumber p a_coroutine) (coroutine_number v) (coroutine_number w)
-number_same p v w (same_known c) = tt
-number_same p v w (same_object a_table i j h) = tt
-number_same p v w (same_object a_function i j h) = tt
 number_same p v w (same_object a_coroutine i j h) = h
+number_same p v w _ = tt
 
 -- a move on the coroutine that is named
 on_coroutine : (p : Pairs) (A : Type 0) (W X : World) (v w : Value) (f g : ℕ → Coroutine → Option (Made A)) → AgreeInTurn p W X → SameValue p v w → ((i j : ℕ) (c d : Coroutine) → SameNumber p a_coroutine i j → SameCoroutine p c d → Alike p A (f i c) (g j d))

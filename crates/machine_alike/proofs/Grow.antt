@@ -18,8 +18,7 @@ with_object p k i j = record p { objects = λ l n. cond (same_kind l k) (with_pa
 
 kind_self : (k : Kind) → same_kind k k ≡ true
 kind_self a_table = refl
-kind_self a_function = refl
-kind_self a_coroutine = refl
+kind_self _ = refl
 
 pub pair_cases : (f : ℕ → Option ℕ) (i j n m : ℕ) → with_pair f i j n ≡ Some m → ((n ≡ i) × (m ≡ j)) ⊎ (f n ≡ Some m)
 pair_cases f i j n m h = ⊎_elim (λ t. let e : Some j ≡ Some m = rw t.0 at h in inl (t.1, cc)) (λ t. inr (rw t.0 at h)) (eqb_tells n i)

@@ -5,7 +5,7 @@ use Rattle.std.specs.List.{prefix_len}
 use Rattle.std.specs.List.{AllZip}
 use Rattle.std.specs.Map.{keys_of}
 use Rattle.int_core.specs.Rows.{get, set, border, next, rows_after, is_filled}
-use Rattle.int_core.specs.Value.{nil, boolean, string, a_table, a_function, a_coroutine, Value, known, is_known, same, table_values, nth, bind}
+use Rattle.int_core.specs.Value.{nil, boolean, string, a_table, Value, known, is_known, same, table_values, nth, bind}
 use Rattle.int_core.specs.Heap.{Table, Heap, raw_get, raw_set, metatable_of}
 use Rattle.library_rows.specs.Look.{HeapOp, look, compare, read_field, write_field, read_metatable, write_metatable, border_of, row_after, make_table, Step, or_nil, table_or_nil, put_field, put_metatable, put_meta, border_told, border_in, row_step, row_in, does_op, Look, gives, gives_all, refuses, raises, count, does, Done, done as came, refused as was_refused, raised as was_raised, looked, arg, args_of}
 use Rattle.machine_core.specs.World.{World}
@@ -71,9 +71,6 @@ module _ (p : Pairs) where
   at_table H I a i j h = both_each (SameTable p) (slice_get H.tables i) (slice_get I.tables j) (a.tables i j h)
 
   read_same : (H I : Heap) (o o' k k' : Value) → SameHeap p H I → SameValue p o o' → SameValue p k k' → SameValue p (or_nil (raw_get H o k)) (or_nil (raw_get I o' k'))
-  read_same H I o o' k k' a (same_known c) t = same_known nil
-  read_same H I o o' k k' a (same_object a_function i j h) t = same_known nil
-  read_same H I o o' k k' a (same_object a_coroutine i j h) t = same_known nil
   read_same H I o o' k k' a (same_object a_table i j h) t = by (slice_get H.tables i) (slice_get I.tables j) (at_table H I a i j h)
     where
       by : (x y : Option Table) → Each (SameTable p) x y → SameValue p (or_nil (bind x (λ t. Some (get table_values t.rows k)))) (or_nil (bind y (λ t. Some (get table_values t.rows k'))))
@@ -81,12 +78,10 @@ module _ (p : Pairs) where
       by None (Some y) e = absurd e
       by (Some x) None e = absurd e
       by (Some x) (Some y) e = get_same p a.one_to_one x.rows y.rows k k' e.rows t
+  read_same H I o o' k k' a _ t = same_known nil
 
   write_same : (H I : Heap) (o o' k k' v v' : Value) → SameHeap p H I → SameValue p o o' → SameValue p k k' → SameValue p v v' → SameHeap p (put_field H o k v) (put_field I o' k' v')
   unfolding raw_set
-  write_same H I o o' k k' v v' a (same_known c) t u = a
-  write_same H I o o' k k' v v' a (same_object a_function i j h) t u = a
-  write_same H I o o' k k' v v' a (same_object a_coroutine i j h) t u = a
   write_same H I o o' k k' v v' a (same_object a_table i j h) t u = by (slice_get H.tables i) (slice_get I.tables j) (at_table H I a i j h)
     where
       by : (x y : Option Table) → Each (SameTable p) x y
@@ -95,6 +90,7 @@ module _ (p : Pairs) where
       by None (Some y) e = absurd e
       by (Some x) None e = absurd e
       by (Some x) (Some y) e = set_table_same p H I i j _ _ a h (record { rows = set_same p a.one_to_one x.rows y.rows k k' v v' e.rows t u; metatable = e.metatable })
+  write_same H I o o' k k' v v' a _ t u = a
 
   number_value : (x y : Option ℕ) → Each (SameNumber p a_table) x y → SameValue p (table_or_nil x) (table_or_nil y)
   number_value None None e = same_known nil
@@ -110,9 +106,6 @@ module _ (p : Pairs) where
 
   put_same : (H I : Heap) (o o' : Value) (m n : Option ℕ) → SameHeap p H I → SameValue p o o' → Each (SameNumber p a_table) m n → SameHeap p (put_metatable H o m) (put_metatable I o' n)
   unfolding put_metatable
-  put_same H I o o' m n a (same_known c) t = a
-  put_same H I o o' m n a (same_object a_function i j h) t = a
-  put_same H I o o' m n a (same_object a_coroutine i j h) t = a
   put_same H I o o' m n a (same_object a_table i j h) t = by (slice_get H.tables i) (slice_get I.tables j) (at_table H I a i j h)
     where
       by : (x y : Option Table) → Each (SameTable p) x y → SameHeap p (elim x [ None ↦ H | Some t ↦ record H { tables = slice_set H.tables i (record t { metatable = m }) } ]) (elim y [ None ↦ I | Some t ↦ record I { tables = slice_set I.tables j (record t { metatable = n }) } ])
@@ -120,17 +113,13 @@ module _ (p : Pairs) where
       by None (Some y) e = absurd e
       by (Some x) None e = absurd e
       by (Some x) (Some y) e = set_table_same p H I i j _ _ a h (record { rows = e.rows; metatable = t })
+  put_same H I o o' m n a _ t = a
 
   meta_same : (H I : Heap) (o o' m m' : Value) → SameHeap p H I → SameValue p o o' → SameValue p m m' → SameHeap p (put_meta H o m) (put_meta I o' m')
-  meta_same H I o o' m m' a s (same_known c) = put_same H I o o' None None a s tt
-  meta_same H I o o' m m' a s (same_object a_function i j h) = put_same H I o o' None None a s tt
-  meta_same H I o o' m m' a s (same_object a_coroutine i j h) = put_same H I o o' None None a s tt
   meta_same H I o o' m m' a s (same_object a_table i j h) = put_same H I o o' (Some i) (Some j) a s h
+  meta_same H I o o' m m' a s _ = put_same H I o o' None None a s tt
 
   told_same : (H I : Heap) (o o' : Value) → SameHeap p H I → SameValue p o o' → border_in H o ≡ border_in I o'
-  told_same H I o o' a (same_known c) = refl
-  told_same H I o o' a (same_object a_function i j h) = refl
-  told_same H I o o' a (same_object a_coroutine i j h) = refl
   told_same H I o o' a (same_object a_table i j h) = by (slice_get H.tables i) (slice_get I.tables j) (at_table H I a i j h)
     where
       by : (x y : Option Table) → Each (SameTable p) x y → bind x (λ t. Some (border table_values t.rows)) ≡ bind y (λ t. Some (border table_values t.rows))
@@ -138,13 +127,12 @@ module _ (p : Pairs) where
       by None (Some y) e = absurd e
       by (Some x) None e = absurd e
       by (Some x) (Some y) e = ap Some (border_same p a.one_to_one x.rows y.rows e.rows)
+  told_same H I o o' a _ = refl
 
   row_same : (H I : Heap) (o o' k k' : Value) → SameHeap p H I → SameValue p o o' → SameValue p k k' → Each (Each (SameRow p)) (row_in H o k) (row_in I o' k')
-  row_same H I o o' k k' a (same_known c) t = tt
-  row_same H I o o' k k' a (same_object a_function i j h) t = tt
-  row_same H I o o' k k' a (same_object a_coroutine i j h) t = tt
   row_same H I o o' k k' a (same_object a_table i j h) t =
       each_bind (SameTable p) (Each (SameRow p)) _ _ (λ x y r. next_same a.one_to_one x.rows y.rows k k' r.rows t) (slice_get H.tables i) (slice_get I.tables j) (at_table H I a i j h)
+  row_same H I o o' k k' a _ t = tt
 
 -- what an operation leaves in both worlds
 pub record StepAlike (p : Pairs) (W X : World) (s t : Step) : Type 0 where

@@ -51,9 +51,7 @@ text_same p v w (same_object k i j h) = refl
 
 pub function_test : (p : Pairs) (v w : Value) → SameValue p v w → is_function v ≡ is_function w
 function_test p v w (same_known c) = refl
-function_test p v w (same_object a_table i j h) = refl
-function_test p v w (same_object a_function i j h) = refl
-function_test p v w (same_object a_coroutine i j h) = refl
+function_test p v w _ = refl
 
 cannot_compare_same : (p : Pairs) (v w x y : Value) → SameValue p v w → SameValue p x y → cannot_compare v x ≡ cannot_compare w y
 cannot_compare_same p v w x y h k = rw (shape_same p v w h, shape_same p x y k) refl
@@ -80,11 +78,9 @@ module _ (p : Pairs) where
   }
 
   raw_get_same : (H I : Heap) (o o' k k' : Value) → SameHeap p H I → SameValue p o o' → SameValue p k k' → Each (SameValue p) (raw_get H o k) (raw_get I o' k')
-  raw_get_same H I o o' k k' a (same_known c) t = tt
-  raw_get_same H I o o' k k' a (same_object a_function i j h) t = tt
-  raw_get_same H I o o' k k' a (same_object a_coroutine i j h) t = tt
   raw_get_same H I o o' k k' a (same_object a_table i j h) t =
       each_bind (SameTable p) (SameValue p) _ _ (λ x y r. get_same p a.one_to_one x.rows y.rows k k' r.rows t) (slice_get H.tables i) (slice_get I.tables j) (table_at H I a i j h)
+  raw_get_same H I o o' k k' a _ t = tt
 
   metatable_same : (H I : Heap) (v w : Value) → SameHeap p H I → SameValue p v w → Each (SameNumber p a_table) (metatable_of H v) (metatable_of I w)
   metatable_same H I v w a (same_known (string s)) = a.string_metatable
@@ -170,10 +166,8 @@ module _ (p : Pairs) where
   set_raw_object H I i j k k' v w a h (same_object kind m n g) t = both_found _ _ [] [] (raw_set_same H I i j _ _ v w a h (same_object kind m n g) t) tt
 
   set_raw_same : (H I : Heap) (o o' k k' v w : Value) → SameHeap p H I → SameValue p o o' → SameValue p k k' → SameValue p v w → SameSettled p (set_raw H o k v) (set_raw I o' k' w)
-  set_raw_same H I o o' k k' v w a (same_known c) s t = both_fault _
   set_raw_same H I o o' k k' v w a (same_object a_table i j h) s t = set_raw_object H I i j k k' v w a h s t
-  set_raw_same H I o o' k k' v w a (same_object a_function i j h) s t = both_fault _
-  set_raw_same H I o o' k k' v w a (same_object a_coroutine i j h) s t = both_fault _
+  set_raw_same H I o o' k k' v w a _ s t = both_fault _
 
   stored_same : (H I : Heap) (o o' k k' v w : Value) (raw raw' : Option Value) (f g : Value → Settled) → SameHeap p H I → SameValue p o o' → SameValue p k k' → SameValue p v w → Each (SameValue p) raw raw' → Follows f g
       → SameSettled p (stored H o k v raw f) (stored I o' k' w raw' g)
@@ -245,9 +239,6 @@ module _ (p : Pairs) where
       (subst (λ n. SameSettled p (concat_on H (text_of v) (text_of x) v x) (concat_on I (text_of v) n w y)) (text_same p x y t) (concat_by H I (text_of v) (text_of x) v w x y a s t))
 
   raw_length_same : (H I : Heap) (v w : Value) → SameHeap p H I → SameValue p v w → SameSettled p (raw_length H v) (raw_length I w)
-  raw_length_same H I v w a (same_known c) = both_fault _
-  raw_length_same H I v w a (same_object a_function i j h) = both_fault _
-  raw_length_same H I v w a (same_object a_coroutine i j h) = both_fault _
   raw_length_same H I v w a (same_object a_table i j h) = go (slice_get H.tables i) (slice_get I.tables j) (a.tables i j h)
     where
       go : (o o' : Option Table) → Both (SameTable p) o o' → SameSettled p
@@ -258,6 +249,7 @@ module _ (p : Pairs) where
       go (Some x) (Some y) r =
           let e = border_same p a.one_to_one x.rows y.rows r.rows in
           both_found H I _ _ a (subst (λ n. SameValue p (known (integer (pos (border table_values x.rows)))) (known (integer (pos n)))) e (same_known (integer (pos (border table_values x.rows)))), tt)
+  raw_length_same H I v w a _ = both_fault _
 
   length_by : (H I : Heap) (v w : Value) → SameHeap p H I → SameValue p v w → SameSettled p (asked (handler_of H of_len v v) (v ∷ v ∷ []) (raw_length H v)) (asked (handler_of I of_len w w) (w ∷ w ∷ []) (raw_length I w))
   length_by H I v w a s = asked_same (handler_of H of_len v v) (handler_of I of_len w w) (v ∷ v ∷ []) (w ∷ w ∷ []) _ _ (handler_of_same H I of_len v w v w a s s) (s, (s, tt)) (raw_length_same H I v w a s)
@@ -311,13 +303,11 @@ module _ (p : Pairs) where
     ordered_same H I v w x y a (same_known (string m)) (same_object k i j h) = ordered_by H I _ _ _ _ a (same_known (string m)) (same_object k i j h)
 
   pub filled_table_same : (H I : Heap) (t u : Value) (last : ℕ) (vs ws : List Value) → SameHeap p H I → SameValue p t u → SameValues p vs ws → Each (SameHeap p) (filled_table H t last vs) (filled_table I u last ws)
-  filled_table_same H I t u last vs ws a (same_known c) h = tt
-  filled_table_same H I t u last vs ws a (same_object a_function i j g) h = tt
-  filled_table_same H I t u last vs ws a (same_object a_coroutine i j g) h = tt
   filled_table_same H I t u last vs ws a (same_object a_table i j g) h =
       each_bind (SameTable p) (SameHeap p) _ _
       (λ x y r. set_table_same H I i j (record x { rows = filled last vs x.rows }) (record y { rows = filled last ws y.rows }) a g (record { rows = filled_same p a.one_to_one last vs ws x.rows y.rows h r.rows; metatable = r.metatable }))
       (slice_get H.tables i) (slice_get I.tables j) (table_at H I a i j g)
+  filled_table_same H I t u last vs ws a _ h = tt
 
   settles : (op : Operation) (H I : Heap) (vs ws : List Value) → SameHeap p H I → SameList p vs ws → SameSettled p (does op vs H) (does op ws I)
   settles index H I vs ws a (item o o' _ _ s (item k k' _ _ t ended)) = index_same greatest_chain H I o o' k k' a s t

@@ -1,7 +1,7 @@
 -- Which rows make no function: those of texts that make none, those of frames, errors and results, and those of the primitives.
 use Rattle.std.proofs.Common.{ℕ, suc, Bool, true, false, cond, List, [], ◌∷◌}
 use Rattle.std.specs.Prelude.{ℤ, pos, negsuc, zero, Option, Some, None}
-use Rattle.int_core.specs.Value.{a_table, a_function, a_coroutine, Shape, is_known, is_object}
+use Rattle.int_core.specs.Value.{a_coroutine, Shape, is_object}
 use Rattle.library_rows.specs.Look.{Look}
 use Rattle.load_rows.specs.Loading.{Builds, Loaded, wrong, not_loaded, loaded, load_of}
 use Rattle.code_core.specs.Prototype.{Prototype}
@@ -11,7 +11,7 @@ use Rattle.machine_core.specs.MachineStep.{level_in, errs_at, after_resume, resu
 use Rattle.machine_core.specs.PrimitiveRows.{own_row, primitive_row, row_numbered, environment_at, loaded_row, load_row}
 use Rattle.machine_core.specs.Text.{Arg, read, Own, read_upvalue, write_upvalue, make_table, make_function, fill_table, pay, Text, go_by, own, open_cell, quick, operate, call, tail_call, close, closable, raise, leave, trap, Given, results, thrown}
 use Rattle.machine_core.specs.InstructionRows.{fails, is_true}
-use Rattle.machine_core.specs.Moves.{ResumeShape, resumed, refused, LookShape, is_given, is_refused, is_raised, traps, CallShape, is_entered, is_primitive, not_paid, not_entered, SettledShape, is_found, is_asked, is_fault, TopShape, lua_top, pcall_top, xpcall_top, handler_top, closing_top, no_top, ClosingShape, one_left, all_closed, closed_with_error, Row, only}
+use Rattle.machine_core.specs.Moves.{ResumeShape, resumed, refused, LookShape, is_given, is_refused, is_raised, traps, CallShape, is_entered, is_primitive, not_paid, not_entered, SettledShape, is_found, is_asked, is_fault, TopShape, lua_top, xpcall_top, handler_top, closing_top, no_top, ClosingShape, one_left, all_closed, closed_with_error, Row, only}
 use Rattle.machine_core.specs.FrameRows.{handed, hand_over, raises, after_call, When, at_once, by_asking, calls_row, prepares, after_leaving, expand_by, raised_to, raised_row, refused_under, after_asked, asked_row, closing_by, closing_row, unwound, handed_to}
 use Rattle.machine_core.specs.RowFits.{MakesNone}
 use Rattle.machine_alike.specs.Laws.{NoneMade}
@@ -24,10 +24,8 @@ hand_over_none : NoneMade hand_over
 hand_over_none n top = handed_none top
 
 after_call_none : (s : CallShape) → NoneMade (after_call s)
-after_call_none is_entered = tt
-after_call_none (is_primitive n) = tt
-after_call_none not_paid = tt
 after_call_none (not_entered text) = λ _ _. tt
+after_call_none _ = tt
 
 after_leaving_none : (given : Given) (top : TopShape) → NoneMade (after_leaving given top)
 after_leaving_none (results slot) top = handed_none top
@@ -93,10 +91,8 @@ refused_none lua_top text = λ _ _. tt
 refused_none _ text = λ _ _. tt
 
 after_asked_none : (s : CallShape) → NoneMade (after_asked s)
-after_asked_none is_entered = tt
-after_asked_none (is_primitive n) = tt
-after_asked_none not_paid = tt
 after_asked_none (not_entered text) = λ _ top. refused_none top text
+after_asked_none _ = tt
 
 pub asked_none : NoneMade asked_row
 asked_none f _ _ s = after_asked_none s
@@ -111,21 +107,17 @@ closing_none v s = closing_by_none s v
 
 pub unwound_none : (top : TopShape) → NoneMade (unwound top)
 unwound_none lua_top = λ _ _. expand_none by_asking fails fails_none
-unwound_none pcall_top = λ _ _ _ _ _ _. hand_over_none
-unwound_none xpcall_top = λ _ _ _ _ _ _. hand_over_none
 unwound_none handler_top = λ _ _ _ _. tt
 unwound_none closing_top = λ _ _ _ _. closing_none
 unwound_none (no_top true) = λ _ _ _ _ _ _. tt
-unwound_none (no_top false) = λ _ _ _ _ _ _. hand_over_none
+unwound_none _ = λ _ _ _ _ _ _. hand_over_none
 
 pub handed_to_none : (top : TopShape) → NoneMade (handed_to top)
 handed_to_none lua_top = tt
-handed_to_none pcall_top = λ _ _ _ _ _ _. hand_over_none
-handed_to_none xpcall_top = λ _ _ _ _ _ _. hand_over_none
 handed_to_none handler_top = λ _ _ _ _ _ _. tt
 handed_to_none closing_top = λ _ _. closing_none
 handed_to_none (no_top true) = λ _ _. tt
-handed_to_none (no_top false) = λ _ _ _ _ _ _. hand_over_none
+handed_to_none _ = λ _ _ _ _ _ _. hand_over_none
 
 -- primitives
 
@@ -144,9 +136,7 @@ after_resume_none (refused text) = λ _ _. hand_over_none
 
 resumes_none : (s : Shape) (co : ℕ) → NoneMade (resumes s co)
 resumes_none (is_object a_coroutine) co = λ _ s. after_resume_none s
-resumes_none (is_object a_table) co = λ _ _. tt
-resumes_none (is_object a_function) co = λ _ _. tt
-resumes_none (is_known p) co = λ _ _. tt
+resumes_none _ co = λ _ _. tt
 
 after_closing_none : (s : ResumeShape) → NoneMade (after_closing s)
 after_closing_none (resumed is_entered) = closing_none
@@ -157,15 +147,11 @@ after_closing_none (refused text) = λ _ _. tt
 
 closes_none : (s : Shape) (co : ℕ) → NoneMade (closes_coroutine s co)
 closes_none (is_object a_coroutine) co = λ _ s. after_closing_none s
-closes_none (is_object a_table) co = λ _ _. tt
-closes_none (is_object a_function) co = λ _ _. tt
-closes_none (is_known p) co = λ _ _. tt
+closes_none _ co = λ _ _. tt
 
 status_none : (s : Shape) (co : ℕ) → NoneMade (sees_status s co)
 status_none (is_object a_coroutine) co = λ _ _ _ _. hand_over_none
-status_none (is_object a_table) co = λ _ _. tt
-status_none (is_object a_function) co = λ _ _. tt
-status_none (is_known p) co = λ _ _. tt
+status_none _ co = λ _ _. tt
 
 after_look_none : (v : ℕ) (s : LookShape) → NoneMade (after_look v s)
 after_look_none v is_given = λ _ _. hand_over_none

@@ -131,12 +131,10 @@ running_same p c d (same_in_progress fs gs h) = h
 running_same p c d _ = tt
 
 pub frames_same : (p : Pairs) (c d : Coroutine) → SameCoroutine p c d → Each (SameFrames p) (frames_of c) (frames_of d)
-frames_same p c d (same_fresh v w h) = tt
 frames_same p c d (same_suspended fs gs h) = h
 frames_same p c d (same_in_progress fs gs h) = h
 frames_same p c d (same_normal fs gs h) = h
-frames_same p c d same_dead = tt
-frames_same p c d (same_failed v w vs ws h k) = tt
+frames_same p c d _ = tt
 
 pub lua_frame_same : (p : Pairs) (f g : Frame) → SameFrame p f g → Each (SameLuaFrame p) (lua_frame f) (lua_frame g)
 lua_frame_same p f g (same_lua x y h) = h

@@ -8,7 +8,7 @@ use Rattle.code_core.specs.declared.proto.UpDesc.{UpDesc}
 use Rattle.code_core.specs.Prototype.{Prototype}
 use Rattle.code_core.specs.Instruction.{a_of, b_of, c_of, sc_of, k_of, bx_of, sj_of}
 use Rattle.code_core.specs.Check.{in_front, extra_at}
-use Rattle.int_core.specs.Value.{a_table, a_function, a_coroutine, Shape, is_known, is_object, holds, same_truth, same_plain, same_integer, nil, integer}
+use Rattle.int_core.specs.Value.{a_table, Shape, is_known, is_object, holds, same_truth, same_plain, same_integer, nil, integer}
 use Rattle.machine_core.specs.World.{Wait, running, for_call, for_iterator, for_value, for_truth, dropped, for_concat, for_close, returning, leaving}
 use Rattle.int_core.specs.Operations.{Event, of_add, of_sub, of_mul, of_mod, of_idiv, of_band, of_bor, of_bxor, of_shl, of_shr, computed, by_zero}
 use Rattle.machine_core.specs.Text.{Arg, read, written, Text, write_register, read_register, trap, raise, own, quick, pay, go_by}
@@ -107,10 +107,8 @@ module _ (p : Prototype) (pc : ℕ) (op : Opcode) (w : Instruction) where
   from_fits (suc n) t r last z = each_fits (suc n) t r last z
 
   fills_fit : (s : Shape) (t : ℕ) (last : ℕ) (z : ℤ) → Fit (fills_by s t w last z)
-  fills_fit (is_known k) t last z = tt
-  fills_fit (is_object a_function) t last z = tt
-  fills_fit (is_object a_coroutine) t last z = tt
   fills_fit (is_object a_table) t last z = from_fits (b_of w) t (a_of w + 1) last z
+  fills_fit _ t last z = tt
 
 handled_fits : (p : Prototype) (pc : ℕ) (op : Opcode) (w : Instruction) (e : Option Event) (xs : List Arg)
     → to_register_before p pc ≡ rest {V = Arg} for_value p pc op w → Fits p pc op w (handled p pc w e xs)

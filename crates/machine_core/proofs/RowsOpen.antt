@@ -11,7 +11,7 @@ use Rattle.code_core.specs.declared.proto.UpDesc.{UpDesc}
 use Rattle.code_core.specs.Prototype.{Prototype}
 use Rattle.code_core.specs.Instruction.{a_of, b_of, c_of, sc_of, k_of, bx_of, sj_of}
 use Rattle.code_core.specs.Check.{in_front, extra_at}
-use Rattle.int_core.specs.Value.{a_table, a_function, a_coroutine, Shape, is_known, is_object, holds, same_truth, same_plain, same_integer, nil, integer}
+use Rattle.int_core.specs.Value.{a_table, Shape, is_known, is_object, holds, same_truth, same_plain, same_integer, nil, integer}
 use Rattle.machine_core.specs.World.{Wait, running, for_call, for_iterator, for_value, for_truth, dropped, for_concat, for_close, returning, leaving}
 use Rattle.int_core.specs.Operations.{Event, of_add, of_sub, of_mul, of_mod, of_idiv, of_band, of_bor, of_bxor, of_shl, of_shr, computed, by_zero}
 use Rattle.machine_core.specs.Text.{Arg, read, written, Text, write_register, read_register, trap, raise, own, open_cell, quick, read_upvalue, write_upvalue, make_function, fill_table, pay, go_by}
@@ -157,10 +157,8 @@ module _ (p : Prototype) (pc : ℕ) (w : Instruction) where
   from_none (suc n) t r last z = each_none (suc n) t r last z
 
   fills_none : (s : Shape) (t : ℕ) (last : ℕ) (z : ℤ) → MakesNone (fills_by s t w last z)
-  fills_none (is_known k) t last z = tt
-  fills_none (is_object a_function) t last z = tt
-  fills_none (is_object a_coroutine) t last z = tt
   fills_none (is_object a_table) t last z = from_none (b_of w) t (a_of w + 1) last z
+  fills_none _ t last z = tt
 
 handled_none : (p : Prototype) (pc : ℕ) (w : Instruction) (e : Option Event) (xs : List Arg) → MakesNone (handled p pc w e xs)
 handled_none p pc w None xs = tt

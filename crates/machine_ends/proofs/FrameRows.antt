@@ -2,7 +2,7 @@
 use Rattle.std.proofs.Common.{ℕ, zero, suc, ◌≡◌, ◌+◌, ◌<◌, List, [], ◌∷◌, Option, Some, None, refl, arith, Bool, true, false, cond}
 use Rattle.std.specs.Prelude.{ℤ, pos, negsuc, codes, slice_get}
 use Rattle.int_core.specs.Limits.{stack_overflow}
-use Rattle.int_core.specs.Value.{boolean, a_table, a_function, a_coroutine, Shape, is_known, is_object}
+use Rattle.int_core.specs.Value.{boolean, a_coroutine, Shape, is_object}
 use Rattle.library_rows.specs.Look.{Look}
 use Rattle.library_rows.specs.Library.{Primitive, base_error, base_pcall, base_xpcall, coroutine_close, coroutine_create, coroutine_isyieldable, coroutine_resume, coroutine_running, coroutine_status, coroutine_yield, prelude_build, prelude_out, Entry, all_entries, row_of}
 use Rattle.machine_core.specs.Text.{written, read}
@@ -171,9 +171,7 @@ after_resume_falls (refused text) = (tt, λ n t. hand_over_falls false 50 None (
 
 resumes_fall : (s : Shape) (co : ℕ) → RichAt (resumes s co)
 resumes_fall (is_object a_coroutine) co = ((refl, refl), λ n s. after_resume_falls s)
-resumes_fall (is_object a_table) co = (tt, λ n t. (let l : 7 < 100 = omega arith in l))
-resumes_fall (is_object a_function) co = (tt, λ n t. (let l : 7 < 100 = omega arith in l))
-resumes_fall (is_known p) co = (tt, λ n t. (let l : 7 < 100 = omega arith in l))
+resumes_fall _ co = (tt, λ n t. (let l : 7 < 100 = omega arith in l))
 
 after_closing_falls : (s : ResumeShape) → GoesOn (after_beginning s) (after_closing s)
 after_closing_falls (resumed is_entered) = closing_falls false 50
@@ -184,9 +182,7 @@ after_closing_falls (refused text) = blames_fall false 50 None text (omega arith
 
 closes_fall : (s : Shape) (co : ℕ) → RichAt (closes_coroutine s co)
 closes_fall (is_object a_coroutine) co = (refl, λ n s. after_closing_falls s)
-closes_fall (is_object a_table) co = (tt, λ n t. (let l : 7 < 100 = omega arith in l))
-closes_fall (is_object a_function) co = (tt, λ n t. (let l : 7 < 100 = omega arith in l))
-closes_fall (is_known p) co = (tt, λ n t. (let l : 7 < 100 = omega arith in l))
+closes_fall _ co = (tt, λ n t. (let l : 7 < 100 = omega arith in l))
 
 creates_fall : (s : Shape) (f : ℕ) → RichAt (creates s f)
 creates_fall s f = by (can_call s)
@@ -197,9 +193,7 @@ creates_fall s f = by (can_call s)
 
 status_falls : (s : Shape) (co : ℕ) → RichAt (sees_status s co)
 status_falls (is_object a_coroutine) co = (tt, λ n t. (tt, λ n t. hand_over_falls true 100 None (omega arith)))
-status_falls (is_object a_table) co = (tt, λ n t. (let l : 7 < 100 = omega arith in l))
-status_falls (is_object a_function) co = (tt, λ n t. (let l : 7 < 100 = omega arith in l))
-status_falls (is_known p) co = (tt, λ n t. (let l : 7 < 100 = omega arith in l))
+status_falls _ co = (tt, λ n t. (let l : 7 < 100 = omega arith in l))
 
 yields_fall : RichAt yield_row
 yields_fall = (tt, λ n b. by b)

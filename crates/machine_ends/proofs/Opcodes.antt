@@ -2,7 +2,7 @@
 use Rattle.std.proofs.Common.{ℕ, zero, suc, ◌+◌, ◌*◌, ◌<◌, ◌≤◌, ◌≡◌, List, [], ◌∷◌, ◌++◌, Option, Some, None, refl, arith, Bool, true, false, cond}
 use Rattle.std.specs.Prelude.{IsTrue, nat_le, ℤ, pos, negsuc, codes, not, ◌+ℤ◌, ◌-ℤ◌, ◌/◌}
 use Rattle.std.proofs.Math.Nat.{mod-lt}
-use Rattle.int_core.specs.Value.{nil, boolean, integer, a_table, a_function, a_coroutine, Shape, is_known, is_object, holds, same_truth, same_plain, same_integer}
+use Rattle.int_core.specs.Value.{nil, boolean, integer, a_table, Shape, is_known, is_object, holds, same_truth, same_plain, same_integer}
 use Rattle.int_core.specs.Arithmetic.{add, sub}
 use Rattle.int_core.specs.Operations.{Event, of_add, of_sub, of_mul, of_mod, of_idiv, of_band, of_bor, of_bxor, of_shl, of_shr, of_unm, of_bnot, Operation, index, store, arithmetic, concat, length', equal, less, less_equal}
 use Rattle.code_core.specs.declared.opcode.Opcode.{Opcode}
@@ -186,9 +186,7 @@ from_falls (suc n) t r last z f = each_falls (suc n) t r last z f
 
 fills_fall : (s : Shape) (t : ℕ) (w : Instruction) (end : ℕ) (z : ℤ) → IsForward z → Comes 30 (expand_by at_once (fills_by s t w end z))
 fills_fall (is_object a_table) t w end z f = from_falls (b_of w) t (a_of w + 1) end z f
-fills_fall (is_object a_function) t w end z f = (tt, λ n u. low)
-fills_fall (is_object a_coroutine) t w end z f = (tt, λ n u. low)
-fills_fall (is_known p) t w end z f = (tt, λ n u. low)
+fills_fall _ t w end z f = (tt, λ n u. low)
 
 list_falls : (p : Prototype) (pc : ℕ) (w : Instruction) → Comes 30 (expand_by at_once (row_of p pc SetList w))
 list_falls p pc w = by (k_of w)

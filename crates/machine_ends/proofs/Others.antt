@@ -4,9 +4,9 @@ use Rattle.std.specs.Prelude.{slice_get, IsTrue, nat_le}
 use Rattle.int_core.specs.Value.{Value, Shape, last, without_last, error_or_nil}
 use Rattle.int_core.specs.Operations.{callee_of, greatest_chain}
 use Rattle.library_rows.specs.Look.{Look, Done, done as came, refused as was_refused, raised as was_raised, looked}
-use Rattle.machine_core.specs.World.{Frame, lua, pcall, xpcall, handler, closing, World, Stack, stack_of, place_of, put_frames, push, pop, put_top, Function}
+use Rattle.machine_core.specs.World.{Frame, lua, closing, World, Stack, stack_of, place_of, put_frames, push, pop, put_top, Function}
 use Rattle.machine_core.specs.Text.{Arg, arg, Own, Given}
-use Rattle.machine_core.specs.Moves.{Over, over_pcall, over_xpcall, over_handler, on_own, take_moving, look, give, give_with, blame, place_text, find_close, see_status, see_running, print, consult, push_frame, call_value, see_top, see_catcher, pop_frame, take_closing, set_error, begin_leaving, leave_frame, Made, made, frame_over, CallShape, is_entered, is_primitive, not_paid, not_entered, TopShape, lua_top, closing_top, no_top, top_shape, top_now, ClosingShape, one_left, LookShape, next_closing, with_error, consulted, add_printed, bytes_in, coroutine_number, move, Status}
+use Rattle.machine_core.specs.Moves.{Over, over_pcall, on_own, take_moving, look, give, give_with, blame, place_text, find_close, see_status, see_running, print, consult, push_frame, call_value, see_top, see_catcher, pop_frame, take_closing, set_error, begin_leaving, leave_frame, Made, made, frame_over, CallShape, is_entered, is_primitive, not_paid, not_entered, TopShape, lua_top, closing_top, no_top, top_shape, top_now, ClosingShape, one_left, LookShape, next_closing, with_error, consulted, add_printed, bytes_in, coroutine_number, move, Status}
 use Rattle.machine_sound.specs.Sound.{Each}
 use Rattle.machine_sound.proofs.Lists.{bind_some, last_push}
 use Rattle.machine_sound.proofs.Values.{le_of}
@@ -23,13 +23,11 @@ use Rattle.int_core.specs.Limits.{greatest_depth}
 
 pub over_weight : (most : ℕ) (over : Over) (env : List Value) → frame_weight most (frame_over over env) ≡ 3
 over_weight most over_pcall env = refl
-over_weight most (over_xpcall x) env = refl
-over_weight most over_handler env = refl
+over_weight most _ env = refl
 
 over_shape : (W : World) (over : Over) (env : List Value) → top_shape W (Some (frame_over over env)) ≡ over_top over
 over_shape W over_pcall env = refl
-over_shape W (over_xpcall x) env = refl
-over_shape W over_handler env = refl
+over_shape W _ env = refl
 
 pub frame_least : (most : ℕ) (f : Frame) → 3 ≤ frame_weight most f
 frame_least most (lua f) = omega arith
@@ -237,10 +235,7 @@ module _ (most bound : ℕ) (rich : Bool) (c : ℕ) (top : Option TopShape) (env
           → Holds most bound (after_closing d.told rich c) d.world
       by None q = λ d e. absurd (cc)
       by (Some x) q = here (λ (d : Made ClosingShape). Holds most bound (after_closing d.told rich c) d.world) _ (let k = chain_longer (v ∷ left) x q in closing_so s e e (v ∷ left) (without_last (v ∷ left)) 1 (c + 20) r l (omega arith) (omega arith))
-  next_so n s (lua f) r l = λ d e. absurd (cc)
-  next_so n s pcall r l = λ d e. absurd (cc)
-  next_so n s (xpcall v) r l = λ d e. absurd (cc)
-  next_so n s handler r l = λ d e. absurd (cc)
+  next_so n s _ r l = λ d e. absurd (cc)
 
   pub taken_closing : IsClosing top → (d : Made ClosingShape) → move take_closing env W ≡ Some d → Holds most bound (after_closing d.told rich c) d.world
   taken_closing n = through (λ (d : Made ClosingShape). Holds most bound (after_closing d.told rich c) d.world) (stack_of W) _ (λ s e. through (λ (d : Made ClosingShape). Holds most bound (after_closing d.told rich c) d.world) (last s.frames) _ (λ f l. next_so n s f (stack_runs W s e) l))

@@ -6,7 +6,7 @@ use Rattle.int_core.specs.Value.{Value, bind, last, write}
 use Rattle.int_core.specs.Heap.{Heap, filled_table, add_table}
 use Rattle.int_core.specs.Operations.{Operation, Settled, found, ask, fault, cannot_arise, does}
 use Rattle.code_core.specs.Prototype.{Prototypes, none, more, Prototype, list_of, instruction_count, inner_instructions}
-use Rattle.machine_core.specs.World.{Function, Cell, closed, open_at, LuaFrame, Frame, lua, Coroutine, fresh, suspended, in_progress, normal, dead, failed, World, write_in_frame, write_in_coroutine, write_cell, read_cell, find_open, Place, place_of, Wait}
+use Rattle.machine_core.specs.World.{Function, Cell, closed, open_at, LuaFrame, Frame, lua, Coroutine, suspended, in_progress, normal, World, write_in_frame, write_in_coroutine, write_cell, read_cell, find_open, Place, place_of, Wait}
 use Rattle.machine_core.specs.Text.{Arg, arg, args_of, read_upvalue, write_upvalue, make_table, make_function, fill_table}
 use Rattle.machine_core.specs.Moves.{Made, open_register, outside, settle, find_close, is_closable, take_moving, SettledShape, own_cell, captured, opened_cells, settled, move}
 use Rattle.machine_sound.proofs.Lists.{get_set_same, get_set_other, each_push}
@@ -62,9 +62,6 @@ running_then i register v fs = from (written_frames i register v fs)
     from (Some gs) = refl
 
 coroutine_write : (most i register : ℕ) (v : Value) (c : Coroutine) → coroutine_weight most (write_in_coroutine i register v c) ≡ coroutine_weight most c
-coroutine_write most i register v (fresh b) = refl
-coroutine_write most i register v dead = refl
-coroutine_write most i register v (failed e vs) = refl
 coroutine_write most i register v (in_progress fs) = ap (coroutine_weight most) (running_then i register v fs) ∙ frames_then_weight most i register v fs
 coroutine_write most i register v (suspended fs) = from (written_frames i register v fs) ∙ frames_then_weight most i register v fs
   where
@@ -76,6 +73,7 @@ coroutine_write most i register v (normal fs) = from (written_frames i register 
     from : (o : Option (List Frame)) → coroutine_weight most (elim o as (λ _. Coroutine) [ None ↦ normal fs | Some gs ↦ normal gs ]) ≡ frames_weight most (elim o as (λ _. List Frame) [ None ↦ fs | Some gs ↦ gs ])
     from None = refl
     from (Some gs) = refl
+coroutine_write most i register v _ = refl
 
 -- the frame on top stands where it stood
 

@@ -3,7 +3,7 @@ use Rattle.std.proofs.Common.{ℕ, zero, suc, ◌+◌, ◌<◌, ◌≤◌, ◌�
 use Rattle.std.specs.Prelude.{slice_get, IsTrue, nat_le, nat_lt, codes, ◌&&◌}
 use Rattle.std.specs.List.{list_all, list_any}
 use Rattle.std.proofs.lemmas.List.{map-append}
-use Rattle.int_core.specs.Value.{Plain, nil, boolean, integer, string, primitive, a_table, a_function, a_coroutine, Value, known, object, greatest_string}
+use Rattle.int_core.specs.Value.{Plain, nil, string, primitive, a_table, a_function, Value, known, object, greatest_string}
 use Rattle.int_core.specs.Operations.{before}
 use Rattle.code_core.specs.declared.proto.UpDesc.{UpDesc}
 use Rattle.code_core.specs.Prototype.{Prototype}
@@ -76,9 +76,7 @@ is_table_entry e = is_short e && is_table e.entry
 
 table_there : (z : Sizes) (v : Value) → 8 ≤ z.tables → IsTrue (is_table v) → Valid z v
 table_there z (object a_table n) l h = let k = lt_of n 8 h in omega arith
-table_there z (object a_function n) l h = absurd (cc)
-table_there z (object a_coroutine n) l h = absurd (cc)
-table_there z (known p) l h = absurd (cc)
+table_there z _ l h = absurd (cc)
 
 tables_ok : (z : Sizes) (es : List (Entry Value)) → 8 ≤ z.tables → IsTrue (list_all is_table_entry es) → Each (EntryOk z) es
 tables_ok z [] l h = each_none (EntryOk z)
@@ -99,9 +97,7 @@ is_small _ = true
 small_ok : (z : Sizes) (p : Plain) → IsTrue (is_small p) → Valid z (known p)
 small_ok z (string bytes) h = let k = le_of (length bytes) 16 h in omega arith
 small_ok z (primitive n) h = absurd (cc)
-small_ok z nil h = tt
-small_ok z (boolean b) h = tt
-small_ok z (integer n) h = tt
+small_ok z _ h = tt
 
 abbrev is_small_entry : Entry Plain → Bool
 is_small_entry e = is_short e && is_small e.entry

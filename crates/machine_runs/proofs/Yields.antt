@@ -2,7 +2,7 @@
 use Rattle.int_core.specs.Limits.{stack_overflow}
 use Rattle.std.proofs.Common.{ℕ, zero, suc, ◌≡◌, List, [], ◌∷◌, ◌++◌, Option, Some, None, refl, subst, ap, length, drop, Bool, true, false, cond}
 use Rattle.std.specs.Prelude.{ℤ, pos, negsuc, codes}
-use Rattle.int_core.specs.Value.{boolean, a_table, a_function, a_coroutine, Value, Shape, is_known, is_object, last}
+use Rattle.int_core.specs.Value.{boolean, a_coroutine, Value, Shape, is_object, last}
 use Rattle.code_core.specs.Prototype.{Prototype}
 use Rattle.library_rows.specs.Look.{Look}
 use Rattle.load_rows.specs.Loading.{Builds, Loaded, wrong, not_loaded, loaded, load_of}
@@ -61,10 +61,8 @@ silent_blames : (text : List ℕ) → Silent (blames text)
 silent_blames text = λ n t. tt
 
 silent_after_call : (s : CallShape) → Silent (after_call s)
-silent_after_call is_entered = tt
-silent_after_call (is_primitive n) = tt
-silent_after_call not_paid = tt
 silent_after_call (not_entered text) = silent_raises text
+silent_after_call _ = tt
 
 silent_calls : (w : When) (f : Arg) (slot : ℕ) (wait : Wait Arg) (ms : List Own) → Silent (calls_row w f slot wait ms)
 silent_calls at_once f slot wait ms = λ n s. silent_after_call s
@@ -126,10 +124,8 @@ silent_refused handler_top text = silent_gives_up
 silent_refused _ text = silent_blames text
 
 silent_after_asked : (s : CallShape) → Silent (after_asked s)
-silent_after_asked is_entered = tt
-silent_after_asked (is_primitive n) = tt
-silent_after_asked not_paid = tt
 silent_after_asked (not_entered text) = λ n t. silent_refused t text
+silent_after_asked _ = tt
 
 pub silent_raised : Silent raised_row
 silent_raised = λ h t. silent_raised_to t h
@@ -155,13 +151,11 @@ silent_unwound (no_top true) = λ n t. λ n t. λ n t. tt
 silent_unwound (no_top false) = silent_coroutine_fails
 
 pub silent_handed_to : (t : TopShape) → Silent (handed_to t)
-silent_handed_to pcall_top = λ n t. λ n t. λ n t. silent_hand_over
-silent_handed_to xpcall_top = λ n t. λ n t. λ n t. silent_hand_over
 silent_handed_to handler_top = λ n t. λ n t. λ n t. tt
 silent_handed_to closing_top = λ n t. silent_closing
 silent_handed_to (no_top true) = λ n t. tt
-silent_handed_to (no_top false) = λ n t. λ n t. λ n t. silent_hand_over
 silent_handed_to lua_top = tt
+silent_handed_to _ = λ n t. λ n t. λ n t. silent_hand_over
 
 -- rows of primitives
 
@@ -170,10 +164,8 @@ pub silent_rest_of_yield : Silent (act take_moving (λ v _. then (give_with (wri
 silent_rest_of_yield = λ n t. λ n t. silent_hand_over
 
 silent_after_entry : (s : CallShape) → Silent (after_entry s)
-silent_after_entry is_entered = tt
-silent_after_entry (is_primitive n) = tt
-silent_after_entry not_paid = tt
 silent_after_entry (not_entered text) = silent_blames text
+silent_after_entry _ = tt
 
 pub silent_after_resume : (s : ResumeShape) → Silent (after_resume s)
 silent_after_resume (resumed is_entered) = silent_hand_over
@@ -184,9 +176,7 @@ silent_after_resume (refused text) = λ n t. silent_hand_over
 
 silent_resumes : (s : Shape) (co : ℕ) → Silent (resumes s co)
 silent_resumes (is_object a_coroutine) co = λ n s. silent_after_resume s
-silent_resumes (is_object a_table) co = λ n t. tt
-silent_resumes (is_object a_function) co = λ n t. tt
-silent_resumes (is_known p) co = λ n t. tt
+silent_resumes _ co = λ n t. tt
 
 silent_after_closing : (s : ResumeShape) → Silent (after_closing s)
 silent_after_closing (resumed is_entered) = silent_closing
@@ -197,15 +187,11 @@ silent_after_closing (refused text) = silent_blames text
 
 silent_closes : (s : Shape) (co : ℕ) → Silent (closes_coroutine s co)
 silent_closes (is_object a_coroutine) co = λ n s. silent_after_closing s
-silent_closes (is_object a_table) co = λ n t. tt
-silent_closes (is_object a_function) co = λ n t. tt
-silent_closes (is_known p) co = λ n t. tt
+silent_closes _ co = λ n t. tt
 
 silent_status : (s : Shape) (co : ℕ) → Silent (sees_status s co)
 silent_status (is_object a_coroutine) co = λ n s. λ n t. silent_hand_over
-silent_status (is_object a_table) co = λ n t. tt
-silent_status (is_object a_function) co = λ n t. tt
-silent_status (is_known p) co = λ n t. tt
+silent_status _ co = λ n t. tt
 
 silent_errs : (e : ℕ) (s : Shape) (level : Option ℤ) → Silent (errs_at e s level)
 silent_errs e s None = λ n t. tt

@@ -6,7 +6,7 @@ use Rattle.int_core.specs.Value.{Value, object, a_function, bind}
 use Rattle.code_core.specs.declared.proto.UpDesc.{UpDesc}
 use Rattle.code_core.specs.Prototype.{Prototype, Prototypes, none, more, list_of}
 use Rattle.code_core.specs.Check.{IsChecked, AllChecked}
-use Rattle.machine_core.specs.World.{Function, Cell, closed, open_at, LuaFrame, Frame, lua, Coroutine, fresh, suspended, in_progress, normal, dead, failed, World, frames_of, lua_frame, place_of, read_cell, is_open_at, find_open_from, find_open, OneEach}
+use Rattle.machine_core.specs.World.{Function, Cell, closed, open_at, LuaFrame, Frame, lua, Coroutine, suspended, in_progress, normal, World, frames_of, lua_frame, place_of, read_cell, is_open_at, find_open_from, find_open, OneEach}
 use Rattle.machine_core.specs.Text.{read_upvalue, make_function}
 use Rattle.machine_core.specs.Moves.{open_register, made, move, opened_cells, captured, own_cell}
 use Rattle.machine_sound.specs.Sound.{Each, Sizes, sizes, Valid, TableOk, FunctionOk, LuaOk, FrameOk, FramesOk, CoroutineOk, registers_in, registers_of, CellOk, Solid, Top, RunsOrWaits, TopIs}
@@ -25,9 +25,7 @@ pub frames_right : (z : Sizes) (c : Coroutine) (fs : List Frame) → frames_of c
 frames_right z (suspended gs) fs e h = subst (FramesOk z) (let k : Some gs ≡ Some fs = e in cc) h.right
 frames_right z (in_progress gs) fs e h = subst (FramesOk z) (let k : Some gs ≡ Some fs = e in cc) h
 frames_right z (normal gs) fs e h = subst (FramesOk z) (let k : Some gs ≡ Some fs = e in cc) h.right
-frames_right z (fresh v) fs e h = absurd (cc)
-frames_right z dead fs e h = absurd (cc)
-frames_right z (failed v vs) fs e h = absurd (cc)
+frames_right z _ fs e h = absurd (cc)
 
 pub lua_right : (z : Sizes) (f : Frame) (l : LuaFrame) → lua_frame f ≡ Some l → FrameOk z f → LuaOk z l
 lua_right z (lua g) l e h = subst (LuaOk z) (let k : Some g ≡ Some l = e in cc) h

@@ -4,7 +4,7 @@ use Rattle.std.specs.Prelude.{slice_get, slice_set, nat_lt, codes, flat_map, ◌
 use Rattle.std.proofs.lemmas.Bool.{cases_eq}
 use Rattle.std.proofs.lemmas.Bool.Decides.{nat_tests}
 use Rattle.std.proofs.lemmas.List.{map-set}
-use Rattle.int_core.specs.Value.{Value, known, object, a_table, a_function, a_coroutine, is_object, shape, bind, last, greatest_string}
+use Rattle.int_core.specs.Value.{Value, object, a_coroutine, is_object, shape, bind, last, greatest_string}
 use Rattle.int_core.specs.Limits.{greatest_resumes}
 use Rattle.machine_core.specs.World.{closed, open_at, Frame, lua, closing, Coroutine, fresh, suspended, in_progress, normal, dead, failed, World, Stack, stack_of}
 use Rattle.machine_core.specs.Text.{Arg, read, written, arg}
@@ -141,9 +141,7 @@ see_top_handing n env W i = ⊎_elim
 
 pub coroutine_is : (v : Value) → shape v ≡ is_object a_coroutine → (m : ℕ) × (v ≡ object a_coroutine m)
 coroutine_is (object a_coroutine m) e = (m, refl)
-coroutine_is (object a_table m) e = absurd (cc)
-coroutine_is (object a_function m) e = absurd (cc)
-coroutine_is (known p) e = absurd (cc)
+coroutine_is _ e = absurd (cc)
 
 pub record Named (n : ℕ) (env : List Value) (W : World) (x : Arg) : Type 0 where
   pub number : ℕ

@@ -5,7 +5,7 @@ use Rattle.int_core.specs.Value.{Value, boolean, object, a_table, a_function, a_
 use Rattle.int_core.specs.Limits.{stack_overflow}
 use Rattle.library_rows.specs.Look.{Look}
 use Rattle.machine_core.specs.Text.{read, written, arg}
-use Rattle.machine_core.specs.Moves.{Over, over_pcall, give, asks, main_failed, CallShape, is_entered, is_primitive, not_paid, not_entered, TopShape, lua_top, pcall_top, xpcall_top, handler_top, closing_top, no_top, ResumeShape, resumed, refused, Row, stop, act, see_top, main_returned, give_with, main_yielded, take_moving, create, Status, is_suspended, is_running, is_normal, is_dead}
+use Rattle.machine_core.specs.Moves.{Over, over_pcall, give, asks, main_failed, CallShape, is_entered, is_primitive, not_paid, not_entered, TopShape, lua_top, pcall_top, xpcall_top, handler_top, closing_top, no_top, ResumeShape, resumed, refused, Row, stop, act, see_top, main_returned, give_with, main_yielded, take_moving, create, Status, is_suspended}
 use Rattle.machine_core.specs.FrameRows.{raises, handed, hand_over, error_in_handler, gives_up, raised_to, raised_row, caught, blames, over_frame, refused_under, after_asked, asked_row, closing_by, closing_row, unwound, handed_to}
 use Rattle.machine_core.specs.InstructionRows.{fails}
 use Rattle.machine_core.specs.MachineStep.{pcall_row, xpcall_row, level_in, errs_at, error_row, after_entry, after_resume, resumes, resume_row, yield_row, after_closing, closes_coroutine, close_row, gives_back, can_call, wrong_type, creates, create_row, status_word, sees_status, status_row, running_row, yieldable_row, print_row, after_look, look_row}
@@ -233,9 +233,7 @@ create_safe = (tt, λ vs. (tt, λ _. nothing_more (waiting None) vs (creates (sh
 
 word_fits : (s : Status) → length (status_word s) ≤ greatest_string
 word_fits is_suspended = le_of _ greatest_string refl
-word_fits is_running = le_of _ greatest_string refl
-word_fits is_normal = le_of _ greatest_string refl
-word_fits is_dead = le_of _ greatest_string refl
+word_fits _ = le_of _ greatest_string refl
 
 pub status_safe : Safe (waiting None) [] status_row
 status_safe = (tt, λ vs. (tt, λ _. nothing_more (waiting None) vs (sees_status (shape (arg vs (read 0))) 0) (from vs (shape (arg vs (read 0))) refl)))

@@ -44,9 +44,7 @@ module _ (z : Sizes) (H : Heap) (h : HeapOk z H) where
       from : (o : Option Table) → slice_get H.tables m ≡ o → OptionOk (Valid z) (bind o (λ t. Some (get table_values t.rows key)))
       from None e = tt
       from (Some t) e = get_valid z t.rows key (h.tables m t e).rows
-  raw_get_ok (object a_function m) key = tt
-  raw_get_ok (object a_coroutine m) key = tt
-  raw_get_ok (known p) key = tt
+  raw_get_ok _ key = tt
 
   or_nil : (o : Option Value) → OptionOk (Valid z) o → Valid z (elim o [ None ↦ known nil | Some h ↦ h ])
   or_nil None k = tt
@@ -190,9 +188,7 @@ module _ (z : Sizes) (H : Heap) (h : HeapOk z H) where
       from : (o : Option Table) → slice_get H.tables m ≡ o → SettledOk (elim o [ None ↦ cannot_arise | Some t ↦ found H (known (integer (pos (border table_values t.rows))) ∷ []) ])
       from None e = let (t, k) = get_there H.tables m (subst (λ n. m < n) (sym h.count) a) in absurd (cc)
       from (Some t) e = found_one (known (integer (pos (border table_values t.rows)))) tt
-  raw_length_ok (object a_function m) a = tt
-  raw_length_ok (object a_coroutine m) a = tt
-  raw_length_ok (known p) a = tt
+  raw_length_ok _ a = tt
 
   length_ok : (v : Value) → Valid z v → SettledOk (length_on H v)
   length_ok (known (string s)) a = found_one (known (integer (pos (length s)))) tt

@@ -3,9 +3,9 @@ use Rattle.std.proofs.Common.{ℕ, ◌+◌, ◌<◌, ◌≡◌, List, [], ◌∷
 use Rattle.std.specs.Prelude.{slice_get, slice_set, find, position, option_map}
 use Rattle.std.specs.Map.{keys_of}
 use Rattle.int_core.specs.Rows.{next, rows_after, is_filled}
-use Rattle.int_core.specs.Value.{nil, string, a_table, a_function, a_coroutine, Value, known, object, same, table_values, nth, bind}
+use Rattle.int_core.specs.Value.{nil, string, a_table, Value, known, object, same, table_values, nth, bind}
 use Rattle.int_core.specs.Heap.{Table, Heap, raw_get, metatable_of, add_table}
-use Rattle.library_rows.specs.Look.{HeapOp, look, compare, read_field, write_field, read_metatable, write_metatable, border_of, row_after, make_table, or_nil, table_or_nil, put_field, put_metatable, put_meta, row_step, row_in, does_op, Look, gives, gives_all, refuses, raises, count, does, Done, done as came, refused as was_refused, raised as was_raised, looked, arg, args_of}
+use Rattle.library_rows.specs.Look.{HeapOp, read_field, write_field, read_metatable, write_metatable, row_after, make_table, or_nil, table_or_nil, put_field, put_metatable, put_meta, row_step, row_in, does_op, Look, gives, gives_all, refuses, raises, count, does, Done, done as came, refused as was_refused, raised as was_raised, looked, arg, args_of}
 use Rattle.machine_core.specs.World.{World}
 use Rattle.machine_core.specs.Moves.{consult, consulted}
 use Rattle.machine_sound.specs.Sound.{Each, sizes, Sizes, Valid, OptionOk, TableOk, Solid, StackWaits}
@@ -70,9 +70,7 @@ module _ (z : Sizes) where
 
     write_ok : (o k v : Value) → Valid z k → Valid z v → HeapStays z H (put_field H o k v)
     write_ok (object a_table n) k v a b = raw_set_ok z H h n k v a b
-    write_ok (object a_function n) k v a b = stays_self z H h
-    write_ok (object a_coroutine n) k v a b = stays_self z H h
-    write_ok (known p) k v a b = stays_self z H h
+    write_ok _ k v a b = stays_self z H h
 
     put_ok : (o : Value) (m : Option ℕ) → OptionOk (λ m. m < z.tables) m → HeapStays z H (put_metatable H o m)
     unfolding put_metatable
@@ -88,15 +86,11 @@ module _ (z : Sizes) where
           };
           same_metatable = refl;
         }
-    put_ok (object a_function n) m k = stays_self z H h
-    put_ok (object a_coroutine n) m k = stays_self z H h
-    put_ok (known p) m k = stays_self z H h
+    put_ok _ m k = stays_self z H h
 
     meta_ok : (o m : Value) → Valid z m → HeapStays z H (put_meta H o m)
     meta_ok o (object a_table m) k = put_ok o (Some m) k
-    meta_ok o (object a_function m) k = put_ok o None tt
-    meta_ok o (object a_coroutine m) k = put_ok o None tt
-    meta_ok o (known p) k = put_ok o None tt
+    meta_ok o _ k = put_ok o None tt
 
     row_ok : (o key : Value) (row : Value × Value) → row_in H o key ≡ Some (Some row) → RowOk z row
     row_ok (object a_table n) key row e = from (slice_get H.tables n) refl e
@@ -104,9 +98,7 @@ module _ (z : Sizes) where
         from : (o : Option Table) → slice_get H.tables n ≡ o → bind o (λ t. next table_values t.rows key) ≡ Some (Some row) → RowOk z row
         from None d e = absurd (cc)
         from (Some t) d e = next_ok (RowOk z) t.rows key row (h.tables n t d).rows e
-    row_ok (object a_function n) key row e = absurd (cc)
-    row_ok (object a_coroutine n) key row e = absurd (cc)
-    row_ok (known p) key row e = absurd (cc)
+    row_ok _ key row e = absurd (cc)
 
 -- a world with another heap, and values of it
 pub record HeapNow (n : ℕ) (W : World) (K : Heap) (vs : List Value) : Type 0 where
@@ -129,8 +121,6 @@ rows_now n W s (Some (Some row)) k = same_now n W s (row.0 ∷ row.1 ∷ []) (ea
 
 -- one lemma an operation
 op_ok : (n : ℕ) (W : World) (s : Solid n W) (op : HeapOp) (vs : List Value) → Each (Valid (sizes n W)) vs → HeapNow n W (does_op op W.heap vs).heap (does_op op W.heap vs).values
-op_ok n W s look vs v = same_now n W s [] (each_none (Valid (sizes n W)))
-op_ok n W s compare vs v = same_now n W s [] (each_none (Valid (sizes n W)))
 op_ok n W s read_field vs v =
     let z = sizes n W in
     let o = raw_get W.heap (nth vs 0) (nth vs 1) in
@@ -145,11 +135,11 @@ op_ok n W s read_metatable vs v =
 op_ok n W s write_metatable vs v =
     let z = sizes n W in
     stays_now n W s (put_meta W.heap (nth vs 0) (nth vs 1)) [] (meta_ok z W.heap (heap_of n W s) (nth vs 0) (nth vs 1) (nth_ok (Valid z) tt vs 1 v)) (each_none (Valid z))
-op_ok n W s border_of vs v = same_now n W s [] (each_none (Valid (sizes n W)))
 op_ok n W s row_after vs v = rows_now n W s (row_in W.heap (nth vs 0) (nth vs 1)) (λ row e. row_ok (sizes n W) W.heap (heap_of n W s) (nth vs 0) (nth vs 1) row e)
 op_ok n W s make_table vs v =
     let o = more_tables n W s in
     record { grows = o.grows; solid = outside_solid n W (add_table W.heap) W.functions W.moving W.fuel o s; values = new_table_valid n W }
+op_ok n W s _ vs v = same_now n W s [] (each_none (Valid (sizes n W)))
 
 -- and for a row what it writes out
 abbrev pub DoneOk : ℕ → World → Done → Type 0

@@ -1,7 +1,7 @@
 -- Moves of a Lua frame on top that leave the coroutines and their cells: operations, new tables, lists put into tables, costs, and what moves.
 use Rattle.std.proofs.Common.{ℕ, zero, suc, ◌<◌, ◌≡◌, List, [], ◌∷◌, ◌++◌, Option, Some, None, refl, subst, ap, ◌∙◌, length, drop, arith, Bool, true, false, length-append}
 use Rattle.std.specs.Prelude.{slice_get, slice_set, not}
-use Rattle.int_core.specs.Value.{Value, known, object, a_table, a_function, a_coroutine, is_object, shape, last, is_nil}
+use Rattle.int_core.specs.Value.{Value, object, a_table, is_object, shape, last, is_nil}
 use Rattle.int_core.specs.Heap.{Table, Heap, filled, filled_table, add_table}
 use Rattle.int_core.specs.Operations.{Operation, Settled, found, ask, fault, cannot_arise, does, handler_in, of_close}
 use Rattle.machine_core.specs.World.{Function, World, place_of}
@@ -184,10 +184,8 @@ make_table_move n t env W i r = record {
 }
 
 table_is : (v : Value) → shape v ≡ is_object a_table → (m : ℕ) × (v ≡ object a_table m)
-table_is (known p) h = absurd (cc)
 table_is (object a_table m) h = (m, refl)
-table_is (object a_function m) h = absurd (cc)
-table_is (object a_coroutine m) h = absurd (cc)
+table_is _ h = absurd (cc)
 
 pub fill_table_move : (n : ℕ) (x : Arg) (last slot : ℕ) → QuickGood n (fill_table x last slot)
 fill_table_move n x last slot t env W i r =

@@ -3,7 +3,7 @@ use Rattle.std.proofs.Common.{ℕ, zero, suc, ◌+◌, ◌-◌, ◌<◌, ◌≤�
 use Rattle.std.specs.Prelude.{cond, max, nat_lt, nat_le, IsTrue, ◌&&◌}
 use Rattle.std.specs.List.{list_all}
 use Rattle.std.proofs.lemmas.Bool.Decides.{nat_tests}
-use Rattle.int_core.specs.Value.{Value, known, nil, nth, range, write, write_all, Plain, boolean, integer, string, primitive, fitted}
+use Rattle.int_core.specs.Value.{Value, known, nil, nth, range, write, write_all, Plain, string, primitive, fitted}
 use Rattle.machine_core.specs.Text.{Arg, read, written, arg, args_of, blanked, nils, list_values, value_if}
 use Rattle.machine_sound.specs.Sound.{Each, Sizes, Valid}
 use Rattle.machine_sound.specs.Safe.{WrittenOk, ArgOk, ArgsOk}
@@ -103,11 +103,9 @@ both_of false b h = absurd (cc)
 -- values that a row names
 
 pub written_valid : (z : Sizes) (p : Plain) → WrittenOk p → Valid z (known p)
-written_valid z nil h = tt
-written_valid z (boolean b) h = tt
-written_valid z (integer k) h = tt
 written_valid z (string bytes) h = h
 written_valid z (primitive k) h = absurd h
+written_valid z _ h = tt
 
 pub arg_valid : (z : Sizes) (env : List Value) (x : Arg) → Each (Valid z) env → ArgOk x → Valid z (arg env x)
 arg_valid z env (read n) h k = nth_ok (Valid z) tt env n h

@@ -100,28 +100,22 @@ written_waits z l r v b h = record {
 }
 
 standing_same : (c : Coroutine) (fs gs : List Frame) → frames_of c ≡ Some fs → standing (with_frames c gs) ≡ standing c
-standing_same (suspended hs) fs gs e = refl
-standing_same (in_progress hs) fs gs e = refl
-standing_same (normal hs) fs gs e = refl
 standing_same (fresh v) fs gs e = absurd (cc)
 standing_same dead fs gs e = absurd (cc)
 standing_same (failed v vs) fs gs e = absurd (cc)
+standing_same _ fs gs e = refl
 
 frames_same : (c : Coroutine) (fs gs : List Frame) → frames_of c ≡ Some fs → frames_of (with_frames c gs) ≡ Some gs
-frames_same (suspended hs) fs gs e = refl
-frames_same (in_progress hs) fs gs e = refl
-frames_same (normal hs) fs gs e = refl
 frames_same (fresh v) fs gs e = absurd (cc)
 frames_same dead fs gs e = absurd (cc)
 frames_same (failed v vs) fs gs e = absurd (cc)
+frames_same _ fs gs e = refl
 
 with_ok : (z : Sizes) (c : Coroutine) (fs gs : List Frame) → frames_of c ≡ Some fs → (FramesOk z fs → FramesOk z gs) → (Each (FrameWaits z) fs → Each (FrameWaits z) gs) → CoroutineOk z c → CoroutineOk z (with_frames c gs)
 with_ok z (suspended hs) fs gs e f w h = let k : hs ≡ fs = cc in record { right = f (subst (FramesOk z) k h.right); waits = w (subst (Each (FrameWaits z)) k h.waits) }
 with_ok z (in_progress hs) fs gs e f w h = let k : hs ≡ fs = cc in f (subst (FramesOk z) k h)
 with_ok z (normal hs) fs gs e f w h = let k : hs ≡ fs = cc in record { right = f (subst (FramesOk z) k h.right); waits = w (subst (Each (FrameWaits z)) k h.waits) }
-with_ok z (fresh v) fs gs e f w h = absurd (cc)
-with_ok z dead fs gs e f w h = absurd (cc)
-with_ok z (failed v vs) fs gs e f w h = absurd (cc)
+with_ok z _ fs gs e f w h = absurd (cc)
 
 -- the frames of a stack, one of them with another item
 set_top : (base : List Frame) (x y : Frame) → slice_set (base ++ x ∷ []) (length base) y ≡ base ++ y ∷ []

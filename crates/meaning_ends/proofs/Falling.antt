@@ -9,7 +9,7 @@ use Rattle.tree_core.specs.declared.name.Place.{Place}
 use Rattle.tree_core.specs.declared.name.Place.TheVariants.{Unset, Upvalue, GlobalIn, GlobalOf}
 use Rattle.tree_core.specs.declared.name.Place.TheVariants.{Local as LocalPlace}
 use Rattle.tree_core.specs.declared.operator.UnOp.{UnOp}
-use Rattle.tree_core.specs.declared.operator.UnOp.TheVariants.{Neg, BitNot, Not, Len}
+use Rattle.tree_core.specs.declared.operator.UnOp.TheVariants.{Not}
 use Rattle.tree_core.specs.declared.operator.BinOp.{BinOp}
 use Rattle.tree_core.specs.declared.operator.BinOp.TheVariants.{Add, Sub, Mul, Mod, Idiv, Band, Bor, Bxor, Shl, Shr}
 use Rattle.tree_core.specs.Tree.{Body, BodyOf, Exp, Function, Var, Table, Fields, EndFields, MoreFields, Item, Keyed}
@@ -96,9 +96,7 @@ binary_falls _ line v w a k = λ x counts. answer_falls _ x _ a k _ (omega arith
 
 pub unary_falls : (op : UnOp) (line : ℕ) (v : Value) (a : Activation) (k : List Work) → Below (4 + works_size k + 3 * length a.pending) (unary op line v a k)
 unary_falls Not line v a k = omega arith
-unary_falls Neg line v a k = λ x counts. answer_falls _ x _ a k _ (omega arith) (λ vs. omega arith)
-unary_falls BitNot line v a k = λ x counts. answer_falls _ x _ a k _ (omega arith) (λ vs. omega arith)
-unary_falls Len line v a k = λ x counts. answer_falls _ x _ a k _ (omega arith) (λ vs. omega arith)
+unary_falls _ line v a k = λ x counts. answer_falls _ x _ a k _ (omega arith) (λ vs. omega arith)
 
 pub constructs_falls : (line : ℕ) (t : Value) (items : ℕ) (fs : Fields) (a : Activation) (k : List Work) → Below (fields_size fs + works_size k + 3 * length a.pending) (constructs line t items fs a k)
 constructs_falls line t items EndFields a k = omega arith

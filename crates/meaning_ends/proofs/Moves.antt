@@ -15,7 +15,7 @@ use Rattle.lua_meaning.specs.Asks.{calls_for, calls_in_place, settled, pays_unit
 use Rattle.library_rows.specs.Look.{Done, done}
 use Rattle.library_rows.specs.Look.{refused as no_result, raised as an_error}
 use Rattle.library_rows.specs.Library.{Primitive, base_error, base_pcall, base_xpcall, coroutine_close, coroutine_create, coroutine_isyieldable, coroutine_resume, coroutine_running, coroutine_status, coroutine_yield, prelude_build, prelude_out, primitive_at}
-use Rattle.load_rows.specs.Loading.{Builds, Loaded, wrong, not_loaded, loaded, load_of}
+use Rattle.load_rows.specs.Loading.{Builds, Loaded, wrong, load_of}
 use Rattle.lua_meaning.specs.Step.{error_by, level_in, creates, with_coroutine, row, after_row, after_loading, environment_in, does_primitive, has_ended, tick_by, gives_one, status_of, runs_one}
 use Rattle.lua_meaning.specs.Opening.{primitives}
 use Rattle.lua_meaning.specs.TreeMeaning.{trees}
@@ -431,8 +431,7 @@ module _ (celling : Celling) where
 
   loads_after : (b c m : ℕ) (W : Run) (environment : Value) (l : Loaded Body) → W.fuel ≤ b → Fits W.chain W.frames W.coroutines m → After b c (after_loading W environment l)
   loads_after b c m W environment (wrong error) h p = settles h refl (m, p)
-  loads_after b c m W environment (not_loaded why) h p = settles h refl (m, p)
-  loads_after b c m W environment (loaded name f) h p = settles h refl (m, p)
+  loads_after b c m W environment _ h p = settles h refl (m, p)
 
   primitive_after : (builds : Builds Body) (b m : ℕ) (k : Primitive) (W : Run) (vs : List Value) → W.fuel ≤ b → Fits W.chain W.frames W.coroutines m → After b (fresh_count W.coroutines) (does_primitive system builds k W vs)
   primitive_after builds b m base_error W vs h p = error_after b _ m W (nth vs 0) (nth vs 1) (level_in (nth vs 1)) h p

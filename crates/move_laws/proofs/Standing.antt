@@ -3,7 +3,7 @@ use Rattle.std.proofs.Common.{◌≡◌, ℕ, zero, suc, List, [], ◌∷◌, Op
 use Rattle.std.specs.Prelude.{◌-◌, length, map, slice_get, slice_set}
 use Rattle.std.specs.Option.{option_map}
 use Rattle.int_core.specs.Value.{Value, bind, last}
-use Rattle.machine_core.specs.World.{Function, Cell, closed, open_at, LuaFrame, lua_frame, Frame, lua, pcall, xpcall, handler, closing, Coroutine, fresh, suspended, in_progress, normal, dead, failed, running_frames, with_frames, World, Stack, Place, place_of, write_in_frame, write_in_coroutine, write_cell}
+use Rattle.machine_core.specs.World.{Function, Cell, closed, open_at, LuaFrame, lua_frame, Frame, lua, pcall, xpcall, handler, closing, Coroutine, suspended, in_progress, normal, running_frames, with_frames, World, Stack, Place, place_of, write_in_frame, write_in_coroutine, write_cell}
 use Rattle.machine_sound.proofs.Lists.{bind_at, bind_some, map_set, some_is}
 use Rattle.lua_heap.specs.declared.world.World.{World as Memory}
 use Rattle.lua_heap.specs.Plain.{plain}
@@ -93,7 +93,6 @@ abbrev written_in : ℕ → ℕ → Value → Coroutine → List Frame → Optio
 written_in frame register v c fs o = elim (bind o (λ f. Some (slice_set fs frame (write_in_frame register v f)))) [ None ↦ c | Some gs ↦ with_frames c gs ]
 
 seen_written : (frame register : ℕ) (v : Value) (c : Coroutine) → seen_in (write_in_coroutine frame register v c) ≡ seen_in c
-seen_written frame register v (fresh w) = refl
 seen_written frame register v (suspended fs) = by (slice_get fs frame)
   where
     by : (o : Option Frame) → seen_in (written_in frame register v (suspended fs) fs o) ≡ None
@@ -109,8 +108,7 @@ seen_written frame register v (normal fs) = by (slice_get fs frame)
     by : (o : Option Frame) → seen_in (written_in frame register v (normal fs) fs o) ≡ None
     by None = refl
     by (Some f) = refl
-seen_written frame register v dead = refl
-seen_written frame register v (failed w ws) = refl
+seen_written frame register v _ = refl
 
 abbrev with_written : World → ℕ → ℕ → ℕ → Value → Option Coroutine → World
 with_written W co frame register v o = elim o [ None ↦ W | Some c ↦ record W { coroutines = slice_set W.coroutines co (write_in_coroutine frame register v c) } ]

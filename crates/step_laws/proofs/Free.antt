@@ -163,12 +163,10 @@ closing_never closed_with_error v = λ n t m u. hand_over_never
 
 pub handed_to_never : (top : TopShape) → NeverSpends (handed_to top)
 handed_to_never lua_top = λ s. s
-handed_to_never pcall_top = λ v t n u m w. hand_over_never
-handed_to_never xpcall_top = λ v t n u m w. hand_over_never
 handed_to_never handler_top = λ v t n u m w s. s
 handed_to_never closing_top = λ v t n s. closing_never s n
 handed_to_never (no_top true) = λ n t s. s
-handed_to_never (no_top false) = λ v t n u m w. hand_over_never
+handed_to_never _ = λ v t n u m w. hand_over_never
 
 coroutine_fails_never : NeverSpends coroutine_fails
 coroutine_fails_never = λ e t n u m w. hand_over_never

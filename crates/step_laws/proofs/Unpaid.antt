@@ -5,7 +5,7 @@ use Rattle.code_core.specs.declared.proto.UpDesc.{UpDesc}
 use Rattle.code_core.specs.Prototype.{Prototype}
 use Rattle.code_core.specs.Check.{extra_at}
 use Rattle.int_core.specs.Operations.{Event, computed, by_zero}
-use Rattle.int_core.specs.Value.{Shape, is_known, is_object, a_table, a_function, a_coroutine, integer, holds, same_integer}
+use Rattle.int_core.specs.Value.{Shape, is_object, a_table, integer, holds, same_integer}
 use Rattle.machine_core.specs.Text.{read, written, write_register, mark_pending, Text, trap, raise, own, open_cell, quick, read_upvalue, write_upvalue, make_table, make_function, fill_table, pay, go_by, operate, call, tail_call, close, closable, leave, results, thrown}
 use Rattle.machine_core.specs.InstructionRows.{next, skip, then, fast, integer_of_shape, prepares, runs, rounds, starts, writes_integer, write_values, variable_name, opens, fills_each, fills_from, to_register, upvalues_of_inner, with_extra}
 use Rattle.machine_core.specs.FrameRows.{expand, raises}
@@ -118,9 +118,7 @@ from_unpaid (suc n) t r last z = each_unpaid (suc n) t r last z
 
 fills_unpaid : (s : Shape) (t table count last : ℕ) (z : ℤ) → IsUnpaid (fills_registers s t table count last z)
 fills_unpaid (is_object a_table) t table count last z = from_unpaid count t (table + 1) last z
-fills_unpaid (is_object a_function) t table count last z = tt
-fills_unpaid (is_object a_coroutine) t table count last z = tt
-fills_unpaid (is_known k) t table count last z = tt
+fills_unpaid _ t table count last z = tt
 
 extra_by : (o : Option ℕ) (k : ℕ → Text) → ((n : ℕ) → IsUnpaid (k n)) → IsUnpaid (elim o [ None ↦ trap | Some n ↦ k n ])
 extra_by None k h = tt
