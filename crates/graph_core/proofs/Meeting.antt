@@ -17,7 +17,7 @@ use Rattle.graph_core.specs.declared.walk.Walk.{Walk}
 use Rattle.graph_core.specs.contracts.object.ObjectPartialEq.TheImpl as object_impl
 use Rattle.graph_core.specs.Cells.{coroutine_inside}
 use Rattle.graph_core.specs.Objects.{part, part_of, Meets}
-use Rattle.graph_core.specs.Walk.{MeetsFields, name_in}
+use Rattle.graph_core.specs.Walk.{MeetsFields, MeetsPart, name_in}
 
 abbrev pub object_eq : Object → Object → Bool
 object_eq = (object_impl.ghosts).eq
@@ -88,6 +88,10 @@ one_more w f a b c n xs x g h k =
 pub on_ok : {B E : Type 0} {P Q : Type 0} (o : Result B E) → OnOk o P → (P → Q) → OnOk o Q
 on_ok (Ok b) p f = f p
 on_ok (Err e) p f = tt
+
+-- the part of an object whose sort is known
+pub of_sort : {B E : Type 0} (w : Walk) (a b : List Object) (s t : Sort) (n : ℕ) (o : Result B E) → s ≡ t → OnOk o (MeetsPart w a b (part_of t n)) → OnOk o (MeetsPart w a b (part_of s n))
+of_sort w a b s t n o e h = subst (λ u. OnOk o (MeetsPart w a b (part_of u n))) (sym e) h
 
 -- maps
 

@@ -4,7 +4,8 @@ use Rattle.int_core.specs.Value.{a_coroutine, Value}
 use Rattle.table_core.specs.declared.value.Value.{Value as Kept}
 use Rattle.image_core.specs.Visit.{met}
 use Rattle.image_core.specs.Image.{Item}
-use Rattle.image_core.specs.Records.{Field, of_value, an_object, same_part, field_parts, named}
+use Rattle.image_core.specs.Records.{Field, Part, of_value, an_object, same_part, field_parts, fields, named}
+use Rattle.lua_heap.specs.Plain.{plain}
 use Rattle.lua_heap.specs.Reading.{value}
 use Rattle.graph_core.specs.declared.object.Object.{Object}
 use Rattle.graph_core.specs.declared.walk.Walk.{Walk}
@@ -25,4 +26,8 @@ value_field w v = of_value (value (texts_in w) v)
 
 -- the parts of some fields are met
 abbrev pub MeetsFields : Walk → (old new : List Object) → List Field → Type 0
-MeetsFields w old new fields = Meets old new (flat_map (field_parts (name_in w)) fields)
+MeetsFields w old new names = Meets old new (flat_map (field_parts (name_in w)) names)
+
+-- what a part's record names is met, whatever the budget
+abbrev pub MeetsPart : Walk → (old new : List Object) → Part → Type 0
+MeetsPart w old new p = (fuel : ℕ) → MeetsFields w old new (fields (plain w.world.now fuel) (inside_in w) p)

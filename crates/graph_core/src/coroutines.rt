@@ -1,14 +1,14 @@
 // What the records of coroutines name: their bodies, their frames from the bottom, and the error and the values left of one that failed.
-ghost use Rattle.std.specs.Prelude.{ℕ, flat_map, OnOk};
+ghost use Rattle.std.specs.Prelude.{flat_map, OnOk};
 ghost use Rattle.std.specs.Option.{option_map};
 ghost use Rattle.int_core.specs.Value.{a_coroutine};
-ghost use Rattle.image_core.specs.Records.{an_object, coroutine_fields, error_fields, fields, frame_fields, wait_fields};
+ghost use Rattle.image_core.specs.Records.{an_object, coroutine_fields, error_fields, frame_fields, wait_fields};
 ghost use Rattle.lua_stack.specs.Frames.{frames, kept_closing, kept_lua, wait_of};
 ghost use Rattle.lua_stack.specs.Reading.{viewed, viewed_lua};
-ghost use Rattle.lua_heap.specs.Plain.{coroutine as read_coroutine, plain};
+ghost use Rattle.lua_heap.specs.Plain.{coroutine as read_coroutine};
 ghost use Rattle.lua_heap.specs.Reading.{value as read};
 ghost use Rattle.graph_core.specs.Frames.{fields_at, fields_of};
-ghost use Rattle.graph_core.specs.Walk.{MeetsFields, inside_in, texts_in};
+ghost use Rattle.graph_core.specs.Walk.{MeetsFields, MeetsPart, texts_in};
 
 use crate::object::Object;
 use crate::walk::Walk;
@@ -25,7 +25,7 @@ impl Walk<'_> {
         seen: &mut IndexSet<Object>,
         number: usize,
     ) -> Allocated<()>
-        ensures { OnOk result ((fuel : ℕ) → MeetsFields self.now seen.old.keys seen.new.keys (fields (plain self.now.world.now fuel) (inside_in self.now) (an_object a_coroutine number))) }
+        ensures { OnOk result (MeetsPart self.now seen.old.keys seen.new.keys (an_object a_coroutine number)) }
     {
         if number >= self.world.coros.len() {
             return Ok(());

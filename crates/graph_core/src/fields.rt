@@ -2,12 +2,12 @@
 ghost use Rattle.std.specs.Prelude.{◌≡◌, ℕ, List, flat_map, OnOk};
 ghost use Rattle.std.specs.Option.{option_map};
 ghost use Rattle.int_core.specs.Value.{a_table, a_function};
-ghost use Rattle.image_core.specs.Records.{a_cell, an_object, fields, metatable_value, row_fields, table_fields};
+ghost use Rattle.image_core.specs.Records.{a_cell, an_object, metatable_value, row_fields, table_fields};
 ghost use Rattle.lua_heap.specs.Cells.{CellsAreListed};
-ghost use Rattle.lua_heap.specs.Plain.{plain, table as read_table};
+ghost use Rattle.lua_heap.specs.Plain.{table as read_table};
 ghost use Rattle.lua_heap.specs.Reading.{row as read_row, value as read};
 ghost use Rattle.graph_core.specs.Cells.{CellsAreThere, coroutine_inside, outer};
-ghost use Rattle.graph_core.specs.Walk.{MeetsFields, inside_in, texts_in};
+ghost use Rattle.graph_core.specs.Walk.{MeetsFields, MeetsPart, inside_in, texts_in};
 
 use crate::object::{Object, Sort, meet};
 use crate::walk::Walk;
@@ -39,7 +39,7 @@ impl Walk<'_> {
 
     /// What the table of a number names is met, if there is one.
     pub(crate) fn meet_table_at(&self, seen: &mut IndexSet<Object>, number: usize) -> Allocated<()>
-        ensures { OnOk result ((fuel : ℕ) → MeetsFields self.now seen.old.keys seen.new.keys (fields (plain self.now.world.now fuel) (inside_in self.now) (an_object a_table number))) }
+        ensures { OnOk result (MeetsPart self.now seen.old.keys seen.new.keys (an_object a_table number)) }
     {
         if number >= self.world.tables.len() {
             return Ok(());
@@ -53,7 +53,7 @@ impl Walk<'_> {
         seen: &mut IndexSet<Object>,
         number: usize,
     ) -> Allocated<()>
-        ensures { OnOk result ((fuel : ℕ) → MeetsFields self.now seen.old.keys seen.new.keys (fields (plain self.now.world.now fuel) (inside_in self.now) (an_object a_function number))) }
+        ensures { OnOk result (MeetsPart self.now seen.old.keys seen.new.keys (an_object a_function number)) }
     {
         if number >= self.world.funcs.len() {
             return Ok(());
@@ -65,7 +65,7 @@ impl Walk<'_> {
     pub(crate) fn meet_cell_at(&self, seen: &mut IndexSet<Object>, number: usize) -> Allocated<()>
         requires listed { CellsAreListed self.now.world.now }
         requires there { CellsAreThere self.now.world.now }
-        ensures { OnOk result ((fuel : ℕ) → MeetsFields self.now seen.old.keys seen.new.keys (fields (plain self.now.world.now fuel) (inside_in self.now) (a_cell number))) }
+        ensures { OnOk result (MeetsPart self.now seen.old.keys seen.new.keys (a_cell number)) }
     {
         if number >= self.world.cells.len() {
             return Ok(());

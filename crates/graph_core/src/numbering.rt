@@ -1,6 +1,6 @@
 // The order of first visit: the set of what was met keeps the order in which it came, and is its own list of work.
 ghost use Rattle.std.specs.Prelude.{◌≡◌, ℕ, None, map, slice_get, IfOk, OnOk};
-ghost use Rattle.image_core.specs.Records.{fields, visited};
+ghost use Rattle.image_core.specs.Records.{visited};
 ghost use Rattle.image_core.specs.Visit.{greatest_count};
 ghost use Rattle.lua_heap.specs.Cells.{CellsAreListed};
 ghost use Rattle.lua_heap.specs.Plain.{plain};
@@ -8,7 +8,7 @@ ghost use Rattle.lua_heap.specs.Reading.{value as read};
 ghost use Rattle.graph_core.specs.Cells.{CellsAreThere};
 ghost use Rattle.graph_core.specs.Numbering.{IsNumbering};
 ghost use Rattle.graph_core.specs.Objects.{part};
-ghost use Rattle.graph_core.specs.Walk.{MeetsFields, inside_in, name_in, texts_in};
+ghost use Rattle.graph_core.specs.Walk.{MeetsPart, inside_in, name_in, texts_in};
 
 use crate::object::{Object, Sort};
 use crate::permanents::Permanents;
@@ -83,7 +83,7 @@ impl Walk<'_> {
     fn meet_parts(&self, seen: &mut IndexSet<Object>, object: Object) -> Allocated<()>
         requires listed { CellsAreListed self.now.world.now }
         requires there { CellsAreThere self.now.world.now }
-        ensures { OnOk result ((fuel : ℕ) → MeetsFields self.now seen.old.keys seen.new.keys (fields (plain self.now.world.now fuel) (inside_in self.now) (part object))) }
+        ensures { OnOk result (MeetsPart self.now seen.old.keys seen.new.keys (part object)) }
     {
         match object.sort {
             Sort::Table => self.meet_table_at(seen, object.number),
