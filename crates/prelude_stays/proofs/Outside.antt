@@ -5,7 +5,7 @@ use Rattle.std.proofs.lemmas.Bool.{cases_eq}
 use Rattle.std.proofs.lemmas.Bool.Decides.{nat_tests}
 use Rattle.int_core.specs.Value.{nil, a_table, Value, known, object, bind, last, nth}
 use Rattle.code_core.specs.declared.proto.UpDesc.{UpDesc}
-use Rattle.machine_core.specs.World.{Cell, closed, open_at, Frame, lua, Coroutine, fresh, suspended, in_progress, normal, dead, failed, World, Stack, frames_of, running_frames, lua_frame, with_frames, read_cell, write_cell, write_in_frame, write_in_coroutine, is_open_at, find_open_from, find_open}
+use Rattle.machine_core.specs.World.{Cell, closed, open_at, Frame, lua, Coroutine, suspended, in_progress, normal, World, Stack, frames_of, running_frames, lua_frame, read_cell, write_cell, write_in_frame, write_in_coroutine, is_open_at, find_open_from, find_open}
 use Rattle.machine_core.specs.Moves.{Made, captured, opened_cells}
 use Rattle.machine_sound.specs.Sound.{Each}
 use Rattle.machine_sound.proofs.Lists.{each_set, get_set_same, get_set_other, length_set, get_push_old, some_is}
@@ -103,40 +103,31 @@ pub record Written (e : ℕ) (gs : List Guard) (c d : Coroutine) : Type 0 where
 same_written : (e : ℕ) (gs : List Guard) (c : Coroutine) → CoroutineOk e gs c → Written e gs c c
 same_written e gs c h = record { right = h; stays = λ n f z. z; top = refl }
 
-write_written : (e : ℕ) (gs : List Guard) (n r : ℕ) (v : Value) → Apart e v → (c : Coroutine) → CoroutineOk e gs c → Written e gs c (write_in_coroutine n r v c)
-write_written e gs n r v a (fresh body) h = same_written e gs (fresh body) h
-write_written e gs n r v a dead h = same_written e gs dead h
-write_written e gs n r v a (failed x xs) h = same_written e gs (failed x xs) h
-write_written e gs n r v a (suspended fs) h = by (slice_get fs n) refl
-  where
-    by : (o : Option Frame) → slice_get fs n ≡ o
-        → Written e gs (suspended fs) (elim (bind o (λ f. Some (slice_set fs n (write_in_frame r v f)))) as (λ _. Coroutine) [ None ↦ suspended fs | Some frames ↦ with_frames (suspended fs) frames ])
-    by None e' = same_written e gs (suspended fs) h
-    by (Some f) e' = record {
-      right = each_set (FrameOk e gs) fs n (write_in_frame r v f) h (write_ok e gs r v a f (h n f e'));
-      stays = set_frames fs n f (write_in_frame r v f) e' (write_function r v f);
-      top = refl;
-    }
-write_written e gs n r v a (normal fs) h = by (slice_get fs n) refl
-  where
-    by : (o : Option Frame) → slice_get fs n ≡ o
-        → Written e gs (normal fs) (elim (bind o (λ f. Some (slice_set fs n (write_in_frame r v f)))) as (λ _. Coroutine) [ None ↦ normal fs | Some frames ↦ with_frames (normal fs) frames ])
-    by None e' = same_written e gs (normal fs) h
-    by (Some f) e' = record {
-      right = each_set (FrameOk e gs) fs n (write_in_frame r v f) h (write_ok e gs r v a f (h n f e'));
-      stays = set_frames fs n f (write_in_frame r v f) e' (write_function r v f);
-      top = refl;
-    }
-write_written e gs n r v a (in_progress fs) h = by (slice_get fs n) refl
-  where
-    by : (o : Option Frame) → slice_get fs n ≡ o
-        → Written e gs (in_progress fs) (elim (bind o (λ f. Some (slice_set fs n (write_in_frame r v f)))) as (λ _. Coroutine) [ None ↦ in_progress fs | Some frames ↦ with_frames (in_progress fs) frames ])
-    by None e' = same_written e gs (in_progress fs) h
-    by (Some f) e' = record {
-      right = each_set (FrameOk e gs) fs n (write_in_frame r v f) h (write_ok e gs r v a f (h n f e'));
-      stays = set_frames fs n f (write_in_frame r v f) e' (write_function r v f);
-      top = last_set fs n f (write_in_frame r v f) e' (write_function r v f);
-    }
+-- frames of which one was written
+record FramesWritten (e : ℕ) (gs : List Guard) (fs xs : List Frame) : Type 0 where
+  right : Each (FrameOk e gs) xs
+  stays : FramesStay (Some fs) (Some xs)
+  top : bind (bind (last xs) lua_frame) (λ f. Some f.function) ≡ bind (bind (last fs) lua_frame) (λ f. Some f.function)
+
+module _ (e : ℕ) (gs : List Guard) (n r : ℕ) (v : Value) (a : Apart e v) where
+  frames_written : (fs : List Frame) (f : Frame) → Each (FrameOk e gs) fs → slice_get fs n ≡ Some f → FramesWritten e gs fs (slice_set fs n (write_in_frame r v f))
+  frames_written fs f h is = record {
+    right = each_set (FrameOk e gs) fs n (write_in_frame r v f) h (write_ok e gs r v a f (h n f is));
+    stays = set_frames fs n f (write_in_frame r v f) is (write_function r v f);
+    top = last_set fs n f (write_in_frame r v f) is (write_function r v f);
+  }
+
+  -- a coroutine that `put` makes of its frames
+  written_by : (put : List Frame → Coroutine) (fs : List Frame) → Each (FrameOk e gs) fs → Written e gs (put fs) (put fs) → ((xs : List Frame) → FramesWritten e gs fs xs → Written e gs (put fs) (put xs))
+      → (o : Option Frame) → slice_get fs n ≡ o → Written e gs (put fs) (elim (bind o (λ f. Some (slice_set fs n (write_in_frame r v f)))) as (λ _. Coroutine) [ None ↦ put fs | Some frames ↦ put frames ])
+  written_by put fs h same made None is = same
+  written_by put fs h same made (Some f) is = made (slice_set fs n (write_in_frame r v f)) (frames_written fs f h is)
+
+  write_written : (c : Coroutine) → CoroutineOk e gs c → Written e gs c (write_in_coroutine n r v c)
+  write_written (suspended fs) h = written_by suspended fs h (same_written e gs (suspended fs) h) (λ xs w. record { right = w.right; stays = w.stays; top = refl }) (slice_get fs n) refl
+  write_written (normal fs) h = written_by normal fs h (same_written e gs (normal fs) h) (λ xs w. record { right = w.right; stays = w.stays; top = refl }) (slice_get fs n) refl
+  write_written (in_progress fs) h = written_by in_progress fs h (same_written e gs (in_progress fs) h) (λ xs w. record { right = w.right; stays = w.stays; top = w.top }) (slice_get fs n) refl
+  write_written c h = same_written e gs c h
 
 abbrev stack_top : Option ℕ → List Coroutine → Option ℕ
 stack_top o cos = bind o (λ co. bind (bind (bind (bind (slice_get cos co) running_frames) last) lua_frame) (λ f. Some f.function))
