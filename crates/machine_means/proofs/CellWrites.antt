@@ -71,29 +71,24 @@ module _ (fs : List machine.Function) where
   nothing_held : (hs : List Held) (f r c : ℕ) → hs ≡ [] → Holds f r c hs → ⊥
   nothing_held hs f r c e n = subst (λ hs. Holds f r c hs) e n
 
+  -- a register of a frame is written where `put` makes a coroutine of the frames
+  write_by : (vs : List Value) (f r : ℕ) (v u : Value) (run : List machine.Frame → List Held → Type 0) (put : List machine.Frame → machine.Coroutine) (y : talk.Coroutine State) (hs : List Held) (frames : List machine.Frame)
+      → ((m : machine.Frame) → slice_get frames f ≡ Some m → value_in (Some m) r ≡ Some u → CoroutinePair fs vs run (put (slice_set frames f (write_in_frame r v m))) y hs)
+      → (o : Option machine.Frame) → slice_get frames f ≡ o → bind (bind o lua_frame) (λ fr. slice_get fr.own.registers r) ≡ Some u
+      → CoroutinePair fs vs run (elim (bind o (λ m. Some (slice_set frames f (write_in_frame r v m)))) [ None ↦ put frames | Some gs ↦ put gs ]) y hs
+  write_by vs f r v u run put y hs frames made None e w = absurd (cc)
+  write_by vs f r v u run put y hs frames made (Some m) e w = made m e w
+
   -- a register of one of its frames is written
   pub co_write : (vs : List Value) (f r c : ℕ) (v u : Value) (run run' : List machine.Frame → List Held → Type 0) (x : machine.Coroutine) (y : talk.Coroutine State) (hs : List Held)
       → bind (bind (frames_of x) (λ frames. bind (slice_get frames f) lua_frame)) (λ fr. slice_get fr.own.registers r) ≡ Some u → c < length vs → Apart hs → Holds f r c hs
       → ((frames : List machine.Frame) (m : machine.Frame) → slice_get frames f ≡ Some m → value_in (Some m) r ≡ Some u → run frames hs → run' (slice_set frames f (write_in_frame r v m)) hs)
       → CoroutinePair fs vs run x y hs → CoroutinePair fs (slice_set vs c v) run' (write_in_coroutine f r v x) y hs
-  co_write vs f r c v u run run' (machine.suspended frames) (talk.suspended ts) hs w l a n g k = by (slice_get frames f) refl w
-    where
-      by : (o : Option machine.Frame) → slice_get frames f ≡ o → bind (bind o lua_frame) (λ fr. slice_get fr.own.registers r) ≡ Some u
-          → CoroutinePair fs (slice_set vs c v) run' (elim (bind o (λ m. Some (slice_set frames f (write_in_frame r v m)))) [ None ↦ machine.suspended frames | Some gs ↦ machine.suspended gs ]) (talk.suspended ts) hs
-      by None e w = absurd (cc)
-      by (Some m) e w = stack_write false fs vs frames ts hs f r c v u m e w l a n k
-  co_write vs f r c v u run run' (machine.normal frames) (talk.normal ts) hs w l a n g k = by (slice_get frames f) refl w
-    where
-      by : (o : Option machine.Frame) → slice_get frames f ≡ o → bind (bind o lua_frame) (λ fr. slice_get fr.own.registers r) ≡ Some u
-          → CoroutinePair fs (slice_set vs c v) run' (elim (bind o (λ m. Some (slice_set frames f (write_in_frame r v m)))) [ None ↦ machine.normal frames | Some gs ↦ machine.normal gs ]) (talk.normal ts) hs
-      by None e w = absurd (cc)
-      by (Some m) e w = stack_write false fs vs frames ts hs f r c v u m e w l a n k
-  co_write vs f r c v u run run' (in_progress frames) talk.running hs w l a n g k = by (slice_get frames f) refl w
-    where
-      by : (o : Option machine.Frame) → slice_get frames f ≡ o → bind (bind o lua_frame) (λ fr. slice_get fr.own.registers r) ≡ Some u
-          → CoroutinePair fs (slice_set vs c v) run' (elim (bind o (λ m. Some (slice_set frames f (write_in_frame r v m)))) [ None ↦ in_progress frames | Some gs ↦ in_progress gs ]) talk.running hs
-      by None e w = absurd (cc)
-      by (Some m) e w = g frames m e w k
+  co_write vs f r c v u run run' (machine.suspended frames) (talk.suspended ts) hs w l a n g k =
+      write_by (slice_set vs c v) f r v u run' machine.suspended (talk.suspended ts) hs frames (λ m e w. stack_write false fs vs frames ts hs f r c v u m e w l a n k) (slice_get frames f) refl w
+  co_write vs f r c v u run run' (machine.normal frames) (talk.normal ts) hs w l a n g k =
+      write_by (slice_set vs c v) f r v u run' machine.normal (talk.normal ts) hs frames (λ m e w. stack_write false fs vs frames ts hs f r c v u m e w l a n k) (slice_get frames f) refl w
+  co_write vs f r c v u run run' (in_progress frames) talk.running hs w l a n g k = write_by (slice_set vs c v) f r v u run' in_progress talk.running hs frames (λ m e w. g frames m e w k) (slice_get frames f) refl w
   co_write vs f r c v u run run' (machine.fresh a) (talk.fresh b) hs w l a' n g k = absurd (nothing_held hs f r c k.1 n)
   co_write vs f r c v u run run' machine.dead talk.dead hs w l a n g k = absurd (nothing_held hs f r c k n)
   co_write vs f r c v u run run' (machine.failed e p) (talk.failed d q) hs w l a n g k = absurd (nothing_held hs f r c k.2 n)
