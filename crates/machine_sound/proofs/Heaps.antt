@@ -3,25 +3,15 @@ use Rattle.std.proofs.Common.{ℕ, zero, suc, ◌<◌, ◌≡◌, List, [], ◌�
 use Rattle.std.specs.Prelude.{ℤ, pos, slice_get, slice_set, not, IsTrue, codes, if◌then◌else◌, nat_le, int_lt, int_le}
 use Rattle.int_core.specs.Rows.{get, set, border}
 use Rattle.int_core.specs.Value.{nil, boolean, integer, string, primitive, a_table, a_function, a_coroutine, Value, known, object, is_nil, table_values, bind, greatest_string}
-use Rattle.int_core.specs.Heap.{Table, Heap, raw_get, raw_set, metatable_of, filled}
+use Rattle.int_core.specs.Heap.{Table, Heap, raw_get, raw_set, metatable_of}
 use Rattle.int_core.specs.Operations.{Event, of_call, of_index, of_newindex, of_len, of_eq, of_concat, handler_in, handler_of, is_function, Settled, found, ask, fault, cannot_arise, asked, greatest_chain, indexed, index_of, set_raw, stored, store_of, Callee, callee, not_callable, callee_of, arithmetic_on, joined, concat_on, raw_length, length_on, truth, equal_on, ordered, computed, number_in, text_of, of_type, by_zero, cannot_compare, event_name, Operation, index, store, arithmetic, concat, length', equal, less, less_equal, operands, does, of_lt, before, of_le}
 use Rattle.machine_sound.specs.Sound.{Each, Sizes, Valid, OptionOk, TableOk}
 use Rattle.machine_sound.proofs.Lists.{each_none, each_cons, each_one, each_set, length_set, get_there}
 use Rattle.machine_sound.proofs.Values.{le_of}
-use Rattle.machine_sound.proofs.TableRows.{get_has, set_has, filled_has}
+use Rattle.machine_sound.proofs.TableRows.{get_has, set_has}
 
 abbrev pub RowOk : Sizes → Value × Value → Type 0
 RowOk z row = Valid z row.0 × Valid z row.1
-
-module _ (z : Sizes) where
-  pub get_valid : (rows : List (Value × Value)) (key : Value) → Each (RowOk z) rows → Valid z (get table_values rows key)
-  get_valid rows key h = get_has (Valid z) tt rows key h
-
-  pub set_ok : (rows : List (Value × Value)) (key v : Value) → Valid z key → Valid z v → Each (RowOk z) rows → Each (RowOk z) (set table_values rows key v)
-  set_ok rows key v k p h = set_has (Valid z) rows key v k p h
-
-  pub filled_ok : (last : ℕ) (vs : List Value) (rows : List (Value × Value)) → Each (Valid z) vs → Each (RowOk z) rows → Each (RowOk z) (filled last vs rows)
-  filled_ok last vs rows h k = filled_has (Valid z) (λ n. tt) last vs rows h k
 
 -- a heap whose tables are right
 pub record HeapOk (z : Sizes) (H : Heap) : Type 0 where
@@ -43,7 +33,7 @@ module _ (z : Sizes) (H : Heap) (h : HeapOk z H) where
     where
       from : (o : Option Table) → slice_get H.tables m ≡ o → OptionOk (Valid z) (bind o (λ t. Some (get table_values t.rows key)))
       from None e = tt
-      from (Some t) e = get_valid z t.rows key (h.tables m t e).rows
+      from (Some t) e = get_has (Valid z) tt t.rows key (h.tables m t e).rows
   raw_get_ok _ key = tt
 
   or_nil : (o : Option Value) → OptionOk (Valid z) o → Valid z (elim o [ None ↦ known nil | Some h ↦ h ])
@@ -65,7 +55,7 @@ module _ (z : Sizes) (H : Heap) (h : HeapOk z H) where
       from None e = stays_self z H h
       from (Some t) e = record {
         ok = record {
-          tables = each_set (TableOk z) H.tables m (record t { rows = set table_values t.rows key v }) h.tables (record { rows = set_ok z t.rows key v k p (h.tables m t e).rows; metatable = (h.tables m t e).metatable });
+          tables = each_set (TableOk z) H.tables m (record t { rows = set table_values t.rows key v }) h.tables (record { rows = set_has (Valid z) t.rows key v k p (h.tables m t e).rows; metatable = (h.tables m t e).metatable });
           count = length_set H.tables m (record t { rows = set table_values t.rows key v }) ∙ h.count;
           metatable = h.metatable;
         };
@@ -104,14 +94,8 @@ module _ (z : Sizes) (H : Heap) (h : HeapOk z H) where
 
   set_raw_ok : (o key v : Value) → Valid z key → Valid z v → SettledOk (set_raw H o key v)
   set_raw_ok (object a_table m) (known nil) v a b = tt
-  set_raw_ok (object a_table m) (known (boolean t)) v a b = (raw_set_ok m (known (boolean t)) v a b, each_none (Valid z))
-  set_raw_ok (object a_table m) (known (integer t)) v a b = (raw_set_ok m (known (integer t)) v a b, each_none (Valid z))
-  set_raw_ok (object a_table m) (known (string t)) v a b = (raw_set_ok m (known (string t)) v a b, each_none (Valid z))
-  set_raw_ok (object a_table m) (known (primitive t)) v a b = (raw_set_ok m (known (primitive t)) v a b, each_none (Valid z))
-  set_raw_ok (object a_table m) (object k t) v a b = (raw_set_ok m (object k t) v a b, each_none (Valid z))
-  set_raw_ok (object a_function m) key v a b = tt
-  set_raw_ok (object a_coroutine m) key v a b = tt
-  set_raw_ok (known p) key v a b = tt
+  set_raw_ok (object a_table m) key v a b = (raw_set_ok m key v a b, each_none (Valid z))
+  set_raw_ok _ key v a b = tt
 
   stored_ok : (o key v : Value) (raw : Option Value) (follow : Value → Settled) → Valid z key → Valid z v → ((f : Value) → Valid z f → SettledOk (follow f)) → SettledOk (stored H o key v raw follow)
   stored_ok o key v None follow a b f = pick_settled (not (is_nil (handler_in H of_newindex o))) (follow (handler_in H of_newindex o)) _ (f (handler_in H of_newindex o) (handler_ok of_newindex o)) (set_raw_ok o key v a b)

@@ -12,7 +12,8 @@ use Rattle.machine_sound.specs.Safe.{on_lua, Is, TopReady, QuickReady, has_found
 use Rattle.machine_sound.proofs.Lists.{each_none, each_cons, each_one, each_push, each_set, each_drop, each_on, bind_at, get_there, length_set}
 use Rattle.machine_sound.proofs.Values.{args_valid, arg_valid, count_args, nth_ok}
 use Rattle.machine_sound.proofs.Grow.{Grows, grows_self, values_on, table_on, function_on, coroutine_on, cell_on, roots_on, lua_waits_on, each_waits_on}
-use Rattle.machine_sound.proofs.Heaps.{HeapOk, HeapStays, does_ok, handler_ok, filled_ok, SettledOk}
+use Rattle.machine_sound.proofs.Heaps.{HeapOk, HeapStays, does_ok, handler_ok, SettledOk}
+use Rattle.machine_sound.proofs.TableRows.{filled_has}
 use Rattle.machine_sound.proofs.Frames.{the_place, place_is}
 use Rattle.machine_sound.proofs.Moves.{made_so}
 use Rattle.machine_sound.proofs.Tops.{same_top}
@@ -198,7 +199,7 @@ fill_table_move n x last slot t env W i r =
     let H : Heap = record W.heap { tables = slice_set W.heap.tables v.0 new } in
     let k : HeapStays z W.heap H = record {
       ok = record {
-        tables = each_set (TableOk z) W.heap.tables v.0 new i.solid.tables (record { rows = filled_ok z last vs old.0.rows (each_drop (Valid z) slot env i.valid) (i.solid.tables v.0 old.0 old.1).rows; metatable = (i.solid.tables v.0 old.0 old.1).metatable });
+        tables = each_set (TableOk z) W.heap.tables v.0 new i.solid.tables (record { rows = filled_has (Valid z) (λ n. tt) last vs old.0.rows (each_drop (Valid z) slot env i.valid) (i.solid.tables v.0 old.0 old.1).rows; metatable = (i.solid.tables v.0 old.0 old.1).metatable });
         count = length_set W.heap.tables v.0 new;
         metatable = i.solid.roots.string_metatable;
       };

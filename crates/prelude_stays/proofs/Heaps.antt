@@ -3,22 +3,12 @@ use Rattle.std.proofs.Common.{ℕ, zero, suc, ◌≡◌, ◌≢◌, List, [], �
 use Rattle.std.specs.Prelude.{ℤ, pos, slice_get, slice_set, not, codes, if◌then◌else◌, nat_le, int_lt, int_le}
 use Rattle.int_core.specs.Rows.{get, set, border}
 use Rattle.int_core.specs.Value.{nil, boolean, integer, string, primitive, a_table, a_function, a_coroutine, Value, known, object, is_nil, table_values, bind, greatest_string}
-use Rattle.int_core.specs.Heap.{Table, Heap, raw_get, raw_set, metatable_of, filled}
+use Rattle.int_core.specs.Heap.{Table, Heap, raw_get, raw_set, metatable_of}
 use Rattle.int_core.specs.Operations.{Event, of_call, of_index, of_newindex, of_len, of_eq, of_concat, handler_in, handler_of, is_function, Settled, found, ask, fault, cannot_arise, asked, greatest_chain, indexed, index_of, set_raw, stored, store_of, Callee, callee, not_callable, callee_of, arithmetic_on, joined, concat_on, raw_length, length_on, truth, equal_on, ordered, computed, number_in, text_of, of_type, by_zero, cannot_compare, event_name, Operation, index, store, arithmetic, concat, length', equal, less, less_equal, does, of_lt, before, of_le}
 use Rattle.machine_sound.specs.Sound.{Each, OptionOk}
 use Rattle.machine_sound.proofs.Lists.{get_set_other, each_none, each_cons, each_one, each_set}
-use Rattle.machine_sound.proofs.TableRows.{get_has, set_has, filled_has}
-use Rattle.prelude_stays.specs.Kept.{Home, Apart, RowOk, TableOk, HeapOk}
-
-module _ (z : ℕ) where
-  pub get_apart : (rows : List (Value × Value)) (key : Value) → Each (RowOk z) rows → Apart z (get table_values rows key)
-  get_apart rows key h = get_has (Apart z) tt rows key h
-
-  pub set_ok : (rows : List (Value × Value)) (key v : Value) → Apart z key → Apart z v → Each (RowOk z) rows → Each (RowOk z) (set table_values rows key v)
-  set_ok rows key v k p h = set_has (Apart z) rows key v k p h
-
-  pub filled_ok : (last : ℕ) (vs : List Value) (rows : List (Value × Value)) → Each (Apart z) vs → Each (RowOk z) rows → Each (RowOk z) (filled last vs rows)
-  filled_ok last vs rows h k = filled_has (Apart z) (λ n. tt) last vs rows h k
+use Rattle.machine_sound.proofs.TableRows.{get_has, set_has}
+use Rattle.prelude_stays.specs.Kept.{Home, Apart, TableOk, HeapOk}
 
 module _ (y : Home) (H : Heap) (h : HeapOk y H) where
   -- another table than the environment becomes a new one
@@ -35,7 +25,7 @@ module _ (y : Home) (H : Heap) (h : HeapOk y H) where
     where
       from : (o : Option Table) → slice_get H.tables m ≡ o → OptionOk (Apart y.table) (bind o (λ t. Some (get table_values t.rows key)))
       from None e = tt
-      from (Some t) e = get_apart y.table t.rows key (h.tables m t e).rows
+      from (Some t) e = get_has (Apart y.table) tt t.rows key (h.tables m t e).rows
   raw_get_ok _ key = tt
 
   or_nil : (o : Option Value) → OptionOk (Apart y.table) o → Apart y.table (elim o [ None ↦ known nil | Some h ↦ h ])
@@ -55,7 +45,7 @@ module _ (y : Home) (H : Heap) (h : HeapOk y H) where
     where
       from : (o : Option Table) → slice_get H.tables n ≡ o → HeapOk y (elim o [ None ↦ H | Some t ↦ record H { tables = slice_set H.tables n (record t { rows = set table_values t.rows key v }) } ])
       from None e = h
-      from (Some t) e = put_table n t (record t { rows = set table_values t.rows key v }) d (record { rows = set_ok y.table t.rows key v k p (h.tables n t e).rows; metatable = (h.tables n t e).metatable })
+      from (Some t) e = put_table n t (record t { rows = set table_values t.rows key v }) d (record { rows = set_has (Apart y.table) t.rows key v k p (h.tables n t e).rows; metatable = (h.tables n t e).metatable })
 
   -- what became of an operation is right
   abbrev pub SettledOk : Settled → Type 0
@@ -89,14 +79,8 @@ module _ (y : Home) (H : Heap) (h : HeapOk y H) where
 
   set_raw_ok : (o key v : Value) → Apart y.table o → Apart y.table key → Apart y.table v → SettledOk (set_raw H o key v)
   set_raw_ok (object a_table m) (known nil) v d a b = tt
-  set_raw_ok (object a_table m) (known (boolean t)) v d a b = (raw_set_ok m (known (boolean t)) v d a b, each_none (Apart y.table))
-  set_raw_ok (object a_table m) (known (integer t)) v d a b = (raw_set_ok m (known (integer t)) v d a b, each_none (Apart y.table))
-  set_raw_ok (object a_table m) (known (string t)) v d a b = (raw_set_ok m (known (string t)) v d a b, each_none (Apart y.table))
-  set_raw_ok (object a_table m) (known (primitive t)) v d a b = (raw_set_ok m (known (primitive t)) v d a b, each_none (Apart y.table))
-  set_raw_ok (object a_table m) (object k t) v d a b = (raw_set_ok m (object k t) v d a b, each_none (Apart y.table))
-  set_raw_ok (object a_function m) key v d a b = tt
-  set_raw_ok (object a_coroutine m) key v d a b = tt
-  set_raw_ok (known p) key v d a b = tt
+  set_raw_ok (object a_table m) key v d a b = (raw_set_ok m key v d a b, each_none (Apart y.table))
+  set_raw_ok _ key v d a b = tt
 
   stored_ok : (o key v : Value) (raw : Option Value) (follow : Value → Settled) → Apart y.table o → Apart y.table key → Apart y.table v
       → ((f : Value) → Apart y.table f → SettledOk (follow f)) → SettledOk (stored H o key v raw follow)
@@ -228,7 +212,7 @@ module _ (y : Home) (H : Heap) (h : HeapOk y H) where
       is = rw h.made refl
 
       apart : Apart y.table (get table_values y.made.rows key)
-      apart = get_apart y.table y.made.rows key (h.tables y.table y.made h.made).rows
+      apart = get_has (Apart y.table) tt y.made.rows key (h.tables y.table y.made h.made).rows
 
       with_raw : (follow : Value → Settled) → SettledOk (indexed H (object a_table y.table) (raw_get H (object a_table y.table) key) follow)
       with_raw follow = subst (λ raw. SettledOk (indexed H (object a_table y.table) raw follow)) (sym is) (bare_indexed (object a_table y.table) (get table_values y.made.rows key) follow (no_handler of_index) apart)

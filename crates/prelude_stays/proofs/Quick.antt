@@ -10,9 +10,10 @@ use Rattle.machine_core.specs.Text.{Own, fits, Quick, read_upvalue, write_upvalu
 use Rattle.machine_core.specs.Moves.{on_own, open_register, outside, settle, Made, made, own_cell, captured, do_outside, settled, with_own, move}
 use Rattle.machine_sound.specs.Sound.{Each}
 use Rattle.machine_sound.proofs.Lists.{each_none, each_cons, each_one, each_drop, bind_some, get_push_old, some_is}
+use Rattle.machine_sound.proofs.TableRows.{filled_has}
 use Rattle.prelude_stays.specs.Guards.{Guard, OwnReads, QuickReads}
 use Rattle.prelude_stays.specs.Kept.{Home, Apart, CellOk, HeapOk, Keeps}
-use Rattle.prelude_stays.proofs.Heaps.{SettledOk, filled_ok, put_table}
+use Rattle.prelude_stays.proofs.Heaps.{SettledOk, put_table}
 use Rattle.prelude_stays.proofs.Looks.{new_table_ok, new_apart}
 use Rattle.prelude_stays.proofs.Own.{arg_apart, reads_ok}
 use Rattle.prelude_stays.proofs.Worlds.{TopIs, top_function, OnPlace, place_there, place_top, top_ok, function_there, heap_keeps, fuel_keeps}
@@ -80,7 +81,7 @@ module _ (y : Home) (gs : List Guard) (W : World) (k : Keeps y gs W) (g : Guard)
       by None q e = absurd (cc)
       by (Some u) q e =
           subst (HeapOk y) (some_is refl e)
-          (put_table y W.heap k.heap n u (record u { rows = filled last vs u.rows }) a (record { rows = filled_ok y.table last vs u.rows b (k.heap.tables n u q).rows; metatable = (k.heap.tables n u q).metatable }))
+          (put_table y W.heap k.heap n u (record u { rows = filled last vs u.rows }) a (record { rows = filled_has (Apart y.table) (λ n. tt) last vs u.rows b (k.heap.tables n u q).rows; metatable = (k.heap.tables n u q).metatable }))
   fill_ok _ last vs H a b e = absurd (cc)
 
   outside_goes : (q : Quick) (env : List Value) → QuickReads g q → Each (Apart y.table) env → (p : Place) → OnPlace W p → MadeOn y g (do_outside q env W p)
