@@ -7,12 +7,10 @@ use Rattle.int_core.specs.Operations.{Callee, callee, not_callable, callee_of, g
 use Rattle.int_core.specs.Ask.{Reply, values, left, Answer, IsLeft}
 use Rattle.lua_meaning.specs.World.{System, Asker, Frame, talking, waiting, raising, protected, handled_by, handling, closing, Coroutine, fresh, suspended, running, normal, dead, failed, Now, gives_back, unwinds, World, now_in, on_frames, has_room, runs_main, raises_text, shared_out, second, given_to, answered}
 use Rattle.lua_meaning.specs.Calls.{error_in_handler, put_coroutine, all_pending, all_closed, enters, pays_with, pays_for, calls_value, calls_over, closes_on, handed, raised_to, unwound, goes_along, goes_into, resumes, closes_in, closes_coroutine}
-use Rattle.runs_alike.proofs.Dressed.{Part, state, goes, nothing, dressed_asker, dress_frame, dress, dress_coroutine, dress_world, Mid, AskerLike, Any, FrameLike, FramesLike, CoroutineLike, Like, Out, count_out, pending_same, Found, is_none, is_some, found}
+use Rattle.runs_alike.proofs.Dressed.{Part, state, goes, nothing, dressed_asker, dress_frame, dress, dress_coroutine, dress_world, AskerLike, Any, FrameLike, FramesLike, CoroutineLike, Like, Out, count_out, pending_same, Found, is_none, is_some, found, AsksAreMid, BeginAlike}
 use Rattle.runs_alike.proofs.Moving.{set_same, set_like, room_same, either_out, either_by, frames_like, now_out, raises_out, then_out, returns_out, fails_out}
 
-module _ {A B S T : Type 0} (Sa : System A S) (Sb : System B T) (R : Bool → A → B → Type 0) (Q : Bool → A → B → S → T → Type 0)
-    (asks : (l : Bool) (a : A) (b : B) (s : S) (t : T) → Q l a b s t → Mid Sa Sb R Q l a b s t)
-    (begins : (l : Bool) (a : A) (b : B) (arguments : List Value) → R l a b → Q l a b (Sa.starts a arguments) (Sb.starts b arguments)) where
+module _ {A B S T : Type 0} (Sa : System A S) (Sb : System B T) (R : Bool → A → B → Type 0) (Q : Bool → A → B → S → T → Type 0) (asks : AsksAreMid Sa Sb R Q) (begins : BeginAlike Sa Sb R Q) where
   abbrev Both : World A S → World B T → Type 0
   Both X Y = Out Sa Sb R Q X Y
 

@@ -72,6 +72,13 @@ module _ {A B S T : Type 0} (Sa : System A S) (Sb : System B T) (R : Bool → A 
   abbrev pub Mid : Bool → A → B → S → T → Type 0
   Mid l a b s t = (i : ℕ) × (j : ℕ) × NextLike (R l) (Q l a b) (as_known l (runs (Sa.steps a) i s)) (as_known l (runs (Sb.steps b) j t))
 
+  -- what is asked of the two systems: related states come to asks that are alike, and related bodies begin in related states
+  abbrev pub AsksAreMid : Type 0
+  AsksAreMid = (l : Bool) (a : A) (b : B) (s : S) (t : T) → Q l a b s t → Mid l a b s t
+
+  abbrev pub BeginAlike : Type 0
+  BeginAlike = (l : Bool) (a : A) (b : B) (arguments : List Value) → R l a b → Q l a b (Sa.starts a arguments) (Sb.starts b arguments)
+
   abbrev pub FunctionsLike : List (Function A) → List B → Type 0
   FunctionsLike [] [] = Unit {0}
   FunctionsLike (f ∷ fs) (b ∷ bs) = R f.has_lines f.made_of b × FunctionsLike fs bs

@@ -1,15 +1,13 @@
 -- A run of a world that ends, ends alike in the world that is dressed anew.
 use Rattle.std.proofs.Common.{◌≡◌, ℕ, zero, suc, ◌+◌, ◌-◌, ◌≤◌, Bool, true, List, [], ◌∷◌, ◌++◌, Option, Some, None, refl, sym, ◌∙◌, ap, ap₂, subst, arith}
 use Rattle.std.specs.Prelude.{option_map}
-use Rattle.int_core.specs.Value.{Value}
-use Rattle.int_core.specs.Ask.{NextLike}
-use Rattle.lua_meaning.specs.World.{System, yielded, returned, failed_with, spent, broken, Now, ends, World, as_known}
+use Rattle.lua_meaning.specs.World.{System, yielded, returned, failed_with, spent, broken, Now, ends, World}
 use Rattle.lua_meaning.specs.Step.{Primitives, has_ended, ticks}
 use Rattle.lua_meaning.specs.Meaning.{report, Outcome, has_returned, has_failed, has_spent, is_suspended, is_broken, Meaning, behind, meant, at_end, suspends, handed_line, run_from, onward}
 use Rattle.code_means.specs.Runs.{RunAlike}
 use Rattle.runs_alike.specs.Alike.{PrimitivesAlike}
-use Rattle.runs_alike.proofs.Dressed.{Part, dress_world, Mid, Like, Out}
-use Rattle.runs_alike.proofs.Ticking.{sum_of, stay, ticks_sum, PendAlike}
+use Rattle.runs_alike.proofs.Dressed.{Part, dress_world, Like, Out, AsksAreMid, BeginAlike}
+use Rattle.runs_alike.proofs.Ticking.{sum_of, stay, ticks_sum, AllPendAlike}
 use Rattle.runs_alike.proofs.Ticks.{ticks_out}
 use Rattle.list_laws.proofs.Items.{some_same}
 
@@ -85,12 +83,8 @@ module _ {A B S T : Type 0} (Waits : World A S → World B T → Type 0) where
       last_out (meant U broken is_broken) m (meant V broken is_broken) given (record { printed = ap (λ t. t ++ report broken) same; outcome = tt }) tt
   turn_end _ U V goes on m same given more = absurd (cc)
 
-module _ {A B S T : Type 0} (Sa : System A S) (Sb : System B T) (R : Bool → A → B → Type 0) (Q : Bool → A → B → S → T → Type 0)
-    (asks : (l : Bool) (a : A) (b : B) (s : S) (t : T) → Q l a b s t → Mid Sa Sb R Q l a b s t)
-    (begins : (l : Bool) (a : A) (b : B) (arguments : List Value) → R l a b → Q l a b (Sa.starts a arguments) (Sb.starts b arguments))
-    (pends : (l : Bool) (a : A) (b : B) (s : S) (t : T) → NextLike (R l) (Q l a b) (as_known l (Sa.steps a s)) (as_known l (Sb.steps b t))
-    → PendAlike Sa Sb a b (as_known l (Sa.steps a s)) (as_known l (Sb.steps b t)))
-    (pa : Primitives A) (pb : Primitives B) (prims : PrimitivesAlike R pa pb) where
+module _ {A B S T : Type 0} (Sa : System A S) (Sb : System B T) (R : Bool → A → B → Type 0) (Q : Bool → A → B → S → T → Type 0) (asks : AsksAreMid Sa Sb R Q) (begins : BeginAlike Sa Sb R Q)
+    (pends : AllPendAlike Sa Sb R Q) (pa : Primitives A) (pb : Primitives B) (prims : PrimitivesAlike R pa pb) where
   abbrev Alike : World A S → List B → List (List (Part T)) → List (Part T) → Type 0
   Alike W bs xss xs = Like Sa Sb R Q W bs xss xs
 

@@ -7,7 +7,7 @@ use Rattle.lua_meaning.specs.World.{System, Function, talking, Coroutine, fresh,
 use Rattle.lua_meaning.specs.Step.{Primitives}
 use Rattle.lua_meaning.specs.Meaning.{begun}
 use Rattle.runs_alike.specs.Alike.{PrimitivesAlike, FunctionAlike, FunctionsAlike, CoroutinesAlike, WorldsAlike, script}
-use Rattle.runs_alike.proofs.Dressed.{Part, state, dressed_function, dress_functions, dress_coroutines, dress_world, Mid, FunctionsLike, Body, CoroutinesLike, Like}
+use Rattle.runs_alike.proofs.Dressed.{Part, state, dressed_function, dress_functions, dress_coroutines, dress_world, FunctionsLike, Body, CoroutinesLike, Like, AsksAreMid, BeginAlike}
 use Rattle.runs_alike.proofs.NewFunctions.{dress_more, functions_more}
 
 abbrev pub made_by : {B : Type 0} → List (Function B) → List B
@@ -22,9 +22,7 @@ no_parts (c ∷ cs) = [] ∷ no_parts cs
 abbrev function_of : {B : Type 0} → B → List ℕ → Bool → List ℕ → Function B
 function_of b source has_lines cells = record { made_of = b; source = source; has_lines = has_lines; cells = cells }
 
-module _ {A B S T : Type 0} (Sa : System A S) (Sb : System B T) (R : Bool → A → B → Type 0) (Q : Bool → A → B → S → T → Type 0)
-    (asks : (l : Bool) (a : A) (b : B) (s : S) (t : T) → Q l a b s t → Mid Sa Sb R Q l a b s t)
-    (begins : (l : Bool) (a : A) (b : B) (arguments : List Value) → R l a b → Q l a b (Sa.starts a arguments) (Sb.starts b arguments))
+module _ {A B S T : Type 0} (Sa : System A S) (Sb : System B T) (R : Bool → A → B → Type 0) (Q : Bool → A → B → S → T → Type 0) (asks : AsksAreMid Sa Sb R Q) (begins : BeginAlike Sa Sb R Q)
     (pa : Primitives A) (pb : Primitives B) (prims : PrimitivesAlike R pa pb) where
   function_dressed : (f : Function A) (g : Function B) → FunctionAlike R f g → dressed_function f g.made_of ≡ g
   function_dressed f g like =

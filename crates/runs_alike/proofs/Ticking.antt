@@ -13,7 +13,7 @@ use Rattle.library_rows.specs.Look.{refused as no_result, raised as an_error}
 use Rattle.library_rows.specs.Library.{Primitive, base_error, base_pcall, base_xpcall, coroutine_close, coroutine_create, coroutine_isyieldable, coroutine_resume, coroutine_running, coroutine_status, coroutine_yield, prelude_build, prelude_out}
 use Rattle.load_rows.specs.Loading.{Loaded, wrong, not_loaded, loaded, load_of}
 use Rattle.lua_meaning.specs.Step.{placed, error_by, level_in, creates, with_coroutine, status_of, runs_one, bytes_in, row, after_row, gives_loaded, after_loading, environment_in, Primitives, does_primitive, has_ended, tick, ticks}
-use Rattle.runs_alike.proofs.Dressed.{Part, dress, dress_functions, dress_coroutine, dress_coroutines, dress_world, Mid, Body, FramesLike, CoroutineLike, CoroutinesLike, Like, Out}
+use Rattle.runs_alike.proofs.Dressed.{Part, dress, dress_functions, dress_coroutine, dress_coroutines, dress_world, Body, FramesLike, CoroutineLike, CoroutinesLike, Like, Out, AsksAreMid, BeginAlike}
 use Rattle.runs_alike.proofs.Moving.{with_same, with_like, where_same, either_out, now_out, raises_out, yields_out}
 use Rattle.runs_alike.proofs.Answering.{calls_over_out, resumes_out, closes_out}
 use Rattle.runs_alike.proofs.Turning.{count_functions, handle_out}
@@ -89,11 +89,14 @@ abbrev pub PendAlike : {A B S T : Type 0} → (Sa : System A S) (Sb : System B T
 PendAlike Sa Sb a b (says q line shared k) (says r other also h) = (x : Answer) → FitsAsk q shared x → IsLeft x.reply → Sb.pending b (h x) ≡ Sa.pending a (k x)
 PendAlike Sa Sb a b x y = Unit {0}
 
+module _ {A B S T : Type 0} (Sa : System A S) (Sb : System B T) (R : Bool → A → B → Type 0) (Q : Bool → A → B → S → T → Type 0) where
+  -- with asks that are alike both tell the same of what is still to be closed
+  abbrev pub AllPendAlike : Type 0
+  AllPendAlike = (l : Bool) (a : A) (b : B) (s : S) (t : T) → NextLike (R l) (Q l a b) (as_known l (Sa.steps a s)) (as_known l (Sb.steps b t)) → PendAlike Sa Sb a b (as_known l (Sa.steps a s)) (as_known l (Sb.steps b t))
+
 -- steps of both worlds
 
-module _ {A B S T : Type 0} (Sa : System A S) (Sb : System B T) (R : Bool → A → B → Type 0) (Q : Bool → A → B → S → T → Type 0)
-    (asks : (l : Bool) (a : A) (b : B) (s : S) (t : T) → Q l a b s t → Mid Sa Sb R Q l a b s t)
-    (begins : (l : Bool) (a : A) (b : B) (arguments : List Value) → R l a b → Q l a b (Sa.starts a arguments) (Sb.starts b arguments))
+module _ {A B S T : Type 0} (Sa : System A S) (Sb : System B T) (R : Bool → A → B → Type 0) (Q : Bool → A → B → S → T → Type 0) (asks : AsksAreMid Sa Sb R Q) (begins : BeginAlike Sa Sb R Q)
     (pa : Primitives A) (pb : Primitives B) (prims : PrimitivesAlike R pa pb) where
   abbrev Both : World A S → World B T → Type 0
   Both X Y = Out Sa Sb R Q X Y

@@ -1,18 +1,17 @@
 -- Any number of steps of a world are some steps of the world that is dressed anew.
 use Rattle.std.proofs.Common.{◌≡◌, ℕ, zero, suc, Bool, true, false, List, [], ◌∷◌, Option, Some, None, refl, sym, ◌∙◌, ap, subst}
 use Rattle.std.specs.Prelude.{slice_get}
-use Rattle.int_core.specs.Value.{Value}
 use Rattle.int_core.specs.Ask.{Next, goes_on, says, stuck, on_from, runs, NextLike}
 use Rattle.lua_meaning.specs.World.{System, Function, Frame, talking, waiting, raising, protected, handled_by, handling, closing, Now, talks, gives_back, raises_error, unwinds, calls_primitive, ends, broken, World, breaks, as_known}
 use Rattle.lua_meaning.specs.Asks.{turns}
 use Rattle.lua_meaning.specs.Step.{Primitives, does_primitive, has_ended, tick, ticks}
 use Rattle.runs_alike.specs.Alike.{PrimitivesAlike}
-use Rattle.runs_alike.proofs.Dressed.{Part, state, goes, dressed_function, dress, dress_world, Mid, Body, Like, Out}
+use Rattle.runs_alike.proofs.Dressed.{Part, state, goes, dressed_function, dress, dress_world, Body, Like, Out, AsksAreMid, BeginAlike}
 use Rattle.runs_alike.proofs.Moving.{same_out, now_out}
 use Rattle.runs_alike.proofs.Answering.{handed_out, raised_out, unwound_out}
 use Rattle.runs_alike.proofs.Turning.{opt_out}
 use Rattle.code_means.proofs.Same.{like_no_own, known_no_own}
-use Rattle.runs_alike.proofs.Ticking.{sum_of, ticks_sum, seen, own_tick, comes, Reach, PendAlike, turns_out, primitive_out}
+use Rattle.runs_alike.proofs.Ticking.{sum_of, ticks_sum, seen, own_tick, comes, Reach, turns_out, primitive_out, AllPendAlike}
 
 -- the step of an activation on top
 now_tick : {F S : Type 0} → (system : System F S) (prims : Primitives F) (V : World F S) (f : ℕ) (below : List (Frame S)) (g : Function F) (s : S) → slice_get V.functions f ≡ Some g
@@ -21,12 +20,8 @@ now_tick {F = F} {S = S} system prims V f below g s there =
     subst (λ o. elim o as (λ _. World F S) [ None ↦ breaks (seen system prims V f below s) | Some h ↦ turns system (as_known h.has_lines (system.steps h.made_of s)) (seen system prims V f below s) f below ]
     ≡ turns system (as_known g.has_lines (system.steps g.made_of s)) (seen system prims V f below s) f below) (sym there) refl
 
-module _ {A B S T : Type 0} (Sa : System A S) (Sb : System B T) (R : Bool → A → B → Type 0) (Q : Bool → A → B → S → T → Type 0)
-    (asks : (l : Bool) (a : A) (b : B) (s : S) (t : T) → Q l a b s t → Mid Sa Sb R Q l a b s t)
-    (begins : (l : Bool) (a : A) (b : B) (arguments : List Value) → R l a b → Q l a b (Sa.starts a arguments) (Sb.starts b arguments))
-    (pends : (l : Bool) (a : A) (b : B) (s : S) (t : T) → NextLike (R l) (Q l a b) (as_known l (Sa.steps a s)) (as_known l (Sb.steps b t))
-    → PendAlike Sa Sb a b (as_known l (Sa.steps a s)) (as_known l (Sb.steps b t)))
-    (pa : Primitives A) (pb : Primitives B) (prims : PrimitivesAlike R pa pb) where
+module _ {A B S T : Type 0} (Sa : System A S) (Sb : System B T) (R : Bool → A → B → Type 0) (Q : Bool → A → B → S → T → Type 0) (asks : AsksAreMid Sa Sb R Q) (begins : BeginAlike Sa Sb R Q)
+    (pends : AllPendAlike Sa Sb R Q) (pa : Primitives A) (pb : Primitives B) (prims : PrimitivesAlike R pa pb) where
   abbrev Both : World A S → World B T → Type 0
   Both X Y = Out Sa Sb R Q X Y
 

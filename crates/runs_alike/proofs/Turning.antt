@@ -7,14 +7,12 @@ use Rattle.int_core.specs.Operations.{Settled, found as settled_as, ask, fault, 
 use Rattle.int_core.specs.Ask.{CellName, of_local, of_upvalue, returns, throws, Ask, reads_upvalue, writes_upvalue, makes_table, makes_function, fills_table, pays, opens, operates, calls, calls_last, marks, closes, raises, leaves, Reply, values, faulted, Answer, AskLike, FitsAsk, IsReplyTo, IsLeft, IsQuiet}
 use Rattle.lua_meaning.specs.World.{System, Function, Asker, Frame, waiting, raising, World, on_frames, second, cell_of, answered, answered_at_once}
 use Rattle.lua_meaning.specs.Asks.{one, none, cells_named, of_maker, made_in, gets_function, pays_unit, calls_for, calls_in_place, settled, handle}
-use Rattle.runs_alike.proofs.Dressed.{Part, state, goes, dress_functions, dressed_asker, dress, dress_world, Mid, FunctionsLike, Body, AskerLike, Any, FramesLike, Like, Out}
+use Rattle.runs_alike.proofs.Dressed.{Part, state, goes, dress_functions, dressed_asker, dress, dress_world, FunctionsLike, Body, AskerLike, Any, FramesLike, Like, Out, AsksAreMid, BeginAlike}
 use Rattle.runs_alike.proofs.Moving.{either_out, frames_like, now_out, raises_out}
 use Rattle.runs_alike.proofs.Answering.{answered_out, calls_out, count_second, fuel_like}
 use Rattle.runs_alike.proofs.NewFunctions.{dress_more, functions_more, body_more, frames_more, coroutines_more}
 
-module _ {A B S T : Type 0} (Sa : System A S) (Sb : System B T) (R : Bool → A → B → Type 0) (Q : Bool → A → B → S → T → Type 0)
-    (asks : (l : Bool) (a : A) (b : B) (s : S) (t : T) → Q l a b s t → Mid Sa Sb R Q l a b s t)
-    (begins : (l : Bool) (a : A) (b : B) (arguments : List Value) → R l a b → Q l a b (Sa.starts a arguments) (Sb.starts b arguments)) where
+module _ {A B S T : Type 0} (Sa : System A S) (Sb : System B T) (R : Bool → A → B → Type 0) (Q : Bool → A → B → S → T → Type 0) (asks : AsksAreMid Sa Sb R Q) (begins : BeginAlike Sa Sb R Q) where
   abbrev Both : World A S → World B T → Type 0
   Both X Y = Out Sa Sb R Q X Y
 
