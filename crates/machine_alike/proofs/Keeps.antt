@@ -20,7 +20,7 @@ use Rattle.machine_alike.specs.Laws.{SameOutcome, both_trap, both_end, NoneMade,
 use Rattle.machine_alike.proofs.Pairwise.{zip_last, zip_length}
 use Rattle.machine_alike.proofs.Same.{nth_same, SameStack, SamePlace, stack_same, function_at, extends_self}
 use Rattle.machine_alike.proofs.Frames.{moving_agrees, put_top_same}
-use Rattle.machine_alike.proofs.PlainRows.{asked_none, raised_none, unwound_none, handed_to_none}
+use Rattle.machine_alike.proofs.PlainRows.{none_rows}
 use Rattle.machine_alike.proofs.Opened.{open_none, Ready}
 use Rattle.machine_alike.proofs.Rows.{outcome_on, rows_keep, keeps_plain_by, first_keeps}
 
@@ -156,11 +156,11 @@ and_then_same p o o' f g h (both_end q e V Y k b) = outcome_on p q (f e V) (g e 
 module _ (primitives : ℕ → Row) (plain : (n : ℕ) → NoneMade (primitives n)) where
   step_by_same : (e : Ending) (p : Pairs) (W X : World) → AgreeInTurn p W X → SameOutcome p (step_by primitives e W) (step_by primitives e X)
   step_by_same go p W X a = or_trapped p (top_step W) (top_step X) (top_step_same p W X a)
-  step_by_same returned p W X a = rows_keep (act see_top (λ _ top. handed_to top)) (λ _ top. handed_to_none top) p [] [] W X tt a
+  step_by_same returned p W X a = rows_keep (act see_top (λ _ top. handed_to top)) (λ _ top. none_rows.of_handed top) p [] [] W X tt a
   step_by_same (calls_primitive n) p W X a = rows_keep (primitives n) (plain n) p [] [] W X tt a
-  step_by_same asks p W X a = rows_keep asked_row asked_none p [] [] W X tt a
-  step_by_same raised p W X a = rows_keep raised_row raised_none p [] [] W X tt a
-  step_by_same unwinding p W X a = rows_keep (act see_top (λ _ top. unwound top)) (λ _ top. unwound_none top) p [] [] W X tt a
+  step_by_same asks p W X a = rows_keep asked_row none_rows.of_asked p [] [] W X tt a
+  step_by_same raised p W X a = rows_keep raised_row none_rows.of_raised p [] [] W X tt a
+  step_by_same unwinding p W X a = rows_keep (act see_top (λ _ top. unwound top)) (λ _ top. none_rows.of_unwound top) p [] [] W X tt a
   step_by_same spent p W X a = both_end p spent W X (extends_self p) a
   step_by_same main_yielded p W X a = both_end p main_yielded W X (extends_self p) a
   step_by_same main_returned p W X a = both_end p main_returned W X (extends_self p) a

@@ -5,5 +5,6 @@ pub mod MachineErrors
 pub mod MachineEdges
 pub mod RowsFit
 pub mod RowsOpen
+pub mod RowWalk
 pub mod Pending
 mod MachineLoads

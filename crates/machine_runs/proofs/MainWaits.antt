@@ -21,7 +21,8 @@ use Rattle.machine_sound.proofs.Waits.{waits_stack}
 use Rattle.machine_sound.proofs.Steps.{steps_good}
 use Rattle.machine_runs.specs.Runs.{resumed_main, after_waking, wakes, with_budget, turn}
 use Rattle.machine_runs.specs.Laws.{MayTurn, NeverYields}
-use Rattle.machine_runs.proofs.Yields.{IsNoYield, Silent, ends_so, silent_run, silent_text, silent_handed_to, silent_unwound, silent_asked, silent_raised, silent_look, silent_own, silent_after_resume, silent_rest_of_yield}
+use Rattle.machine_core.proofs.RowWalk.{IsNoYield}
+use Rattle.machine_runs.proofs.Yields.{Silent, ends_so, silent_run, silent_text, silent_rows, silent_look, silent_own, silent_rest_of_yield}
 use Rattle.machine_runs.proofs.Waking.{wakes_good, budget_solid, budget_turn, turn_good}
 use Rattle.machine_runs.proofs.Runs.{end_stays}
 
@@ -135,7 +136,7 @@ module _ (build : Row) (b : NeverYields build) where
   of_own : (p : Primitive) → YieldsOrNot (own_row build p)
   of_own coroutine_yield = inr refl
   of_own prelude_build = inl (λ W V h. b W V h)
-  of_own p = inl (λ W. quiet_of (own_row traps p) [] W (silent_own traps tt p (λ e. absurd (cc))))
+  of_own p = inl (λ W. quiet_of (own_row traps p) [] W (silent_own p (λ e. absurd (cc))))
 
   of_primitive : (p : Primitive) → YieldsOrNot (primitive_row build p)
   of_primitive p = from (row_of p)
@@ -153,10 +154,10 @@ module _ (build : Row) (b : NeverYields build) where
 
   step_leaves : (n : ℕ) (e : Ending) (W V : World) → SoundAfter n e W → IsNoYield e → step (row_numbered build) e W ≡ ends main_yielded V → HasYielded V
   step_leaves n go W V s q h = absurd (from_quiet W (stepped (top_step W)) (top_quiet W) V h)
-  step_leaves n returned W V s q h = absurd (from_quiet W _ (quiet_of (act see_top (λ _ top. handed_to top)) [] W (λ n t. silent_handed_to t)) V h)
-  step_leaves n asks W V s q h = absurd (from_quiet W _ (quiet_of asked_row [] W silent_asked) V h)
-  step_leaves n raised W V s q h = absurd (from_quiet W _ (quiet_of raised_row [] W silent_raised) V h)
-  step_leaves n unwinding W V s q h = absurd (from_quiet W _ (quiet_of (act see_top (λ _ top. unwound top)) [] W (λ n t. silent_unwound t)) V h)
+  step_leaves n returned W V s q h = absurd (from_quiet W _ (quiet_of (act see_top (λ _ top. handed_to top)) [] W (λ n t. silent_rows.of_handed t)) V h)
+  step_leaves n asks W V s q h = absurd (from_quiet W _ (quiet_of asked_row [] W silent_rows.of_asked) V h)
+  step_leaves n raised W V s q h = absurd (from_quiet W _ (quiet_of raised_row [] W silent_rows.of_raised) V h)
+  step_leaves n unwinding W V s q h = absurd (from_quiet W _ (quiet_of (act see_top (λ _ top. unwound top)) [] W (λ n t. silent_rows.of_unwound t)) V h)
   step_leaves n (calls_primitive k) W V s q h = from (of_number k)
     where
       came : (o : Outcome) → from_world W o ≡ ends main_yielded V → o ≡ ends main_yielded V
@@ -203,7 +204,7 @@ module _ (build : Row) (b : NeverYields build) where
 
     wakes_quiet : (o : Option (Made ResumeShape)) → Quiet (after_waking o)
     wakes_quiet None X h = absurd (cc)
-    wakes_quiet (Some d) X h = silent_run (after_resume d.told) [] d.world main_yielded X (silent_after_resume d.told) h
+    wakes_quiet (Some d) X h = silent_run (after_resume d.told) [] d.world main_yielded X (silent_rows.of_resumed d.told) h
 
     wake_never : (W : World) → Quiet (wakes W)
     unfolding wakes

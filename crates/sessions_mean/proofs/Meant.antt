@@ -11,7 +11,7 @@ use Rattle.library_rows.specs.Library.{Entry}
 use Rattle.lua_meaning.specs.Meaning.{Meaning}
 use Rattle.load_rows.specs.Loading.{Builds}
 use Rattle.loaded_code.specs.Laws.{library, load_by, LoadingFalls, LoadingIsSafe, LoadingNeverYields}
-use Rattle.machine_alike.proofs.PlainRows.{load_none}
+use Rattle.machine_alike.proofs.PlainRows.{none_rows}
 use Rattle.source_builds.specs.Builds.{BuildsSources, code_builds}
 use Rattle.machine_runs.specs.Laws.{RunIsOne}
 use Rattle.machine_runs.specs.Opening.{opening, begun}
@@ -29,7 +29,7 @@ pub record LoadingStands : Type 0 where
   pub silent : LoadingNeverYields
 
 pub loading_fits : LoadingStands → (builds : Builds Body) → BuildsSources builds → IsFit (load_by builds)
-loading_fits l builds are = record { makes_none = load_none (code_builds builds); least = 2 ^ 64; falls = l.falls builds are; silent = l.silent builds; safe = l.safe builds are }
+loading_fits l builds are = record { makes_none = none_rows.of_loads (code_builds builds); least = 2 ^ 64; falls = l.falls builds are; silent = l.silent builds; safe = l.safe builds are }
 
 module _
     (loading : LoadingStands) (joins : SessionsAreOneRun) (builds : Builds Body) (are : BuildsSources builds) (source : List ℕ) (tree : Block) (prelude : List (Entry Body)) (compiled : List (Entry Prototype)) (given : Option (List ℕ)) (budget : ℕ)

@@ -14,7 +14,7 @@ use Rattle.machine_runs.specs.Opening.{handed_line}
 use Rattle.machine_runs.specs.Runs.{resumed_main, after_waking, wakes, with_budget, turn, Run, turn_text, closes, has_returned, has_failed, has_spent, is_suspended, behind, suspends, at_end, run_from}
 use Rattle.tables_stay.specs.Laws.{AreTables, TablesAtEnd, AllKeep, RowsKeep, StepsKeep, TurnsKeep, RunsKeep, OnwardKeeps}
 use Rattle.tables_stay.proofs.Moves.{TablesIfMade, starts_kept, moves_keep}
-use Rattle.tables_stay.proofs.Rows.{text_keeps, raised_keeps, asked_keeps, unwound_keeps, handed_to_keeps, after_resume_keeps}
+use Rattle.tables_stay.proofs.Rows.{text_keeps, kept_rows}
 
 none_some : {A : Type 0} (x : A) → None ≡ Some x → ⊥
 none_some x e = cc
@@ -84,11 +84,11 @@ module _ (primitives : ℕ → Row) (keep : AllKeep primitives) where
       there : (o : Option Outcome) → TablesIfThere o → TablesAtEnd (elim o as (λ _. Outcome) [ None ↦ trapped | Some o ↦ o ])
       there None k = tt
       there (Some o) k = k
-  by_kept returned W h = rows_keep results_row (tt, λ n top. handed_to_keeps top) [] W h
-  by_kept asks W h = rows_keep asked_row asked_keeps [] W h
+  by_kept returned W h = rows_keep results_row (tt, λ n top. kept_rows.of_handed top) [] W h
+  by_kept asks W h = rows_keep asked_row kept_rows.of_asked [] W h
   by_kept (calls_primitive n) W h = rows_keep (primitives n) (keep n) [] W h
-  by_kept raised W h = rows_keep raised_row raised_keeps [] W h
-  by_kept unwinding W h = rows_keep unwinding_row (tt, λ n top. unwound_keeps top) [] W h
+  by_kept raised W h = rows_keep raised_row kept_rows.of_raised [] W h
+  by_kept unwinding W h = rows_keep unwinding_row (tt, λ n top. kept_rows.of_unwound top) [] W h
   by_kept _ W h = h
 
   steps_kept : (count : ℕ) (e : Ending) (W : World) → AreTables W.heap → TablesAtEnd (steps primitives count e W)
@@ -110,7 +110,7 @@ module _ (primitives : ℕ → Row) (keep : AllKeep primitives) where
 
   waking_kept : (d : Option (Made ResumeShape)) → TablesIfMade d → TablesAtEnd (after_waking d)
   waking_kept None h = tt
-  waking_kept (Some d) h = rows_keep (after_resume d.told) (after_resume_keeps d.told) [] d.world h
+  waking_kept (Some d) h = rows_keep (after_resume d.told) (kept_rows.of_resumed d.told) [] d.world h
 
   wakes_kept : (W : World) → AreTables W.heap → TablesAtEnd (wakes W)
   unfolding wakes
