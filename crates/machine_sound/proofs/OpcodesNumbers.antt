@@ -13,7 +13,7 @@ use Rattle.code_core.specs.Fields.{registers, constants, integer as an_integer, 
 use Rattle.code_core.specs.Check.{at, in_front, there, is_same, goes_on, agrees, begins_with}
 use Rattle.machine_core.specs.World.{for_value, for_concat}
 use Rattle.machine_core.specs.Text.{Arg, read, written, constant, Text, trap, raise, write_register, own, read_register}
-use Rattle.machine_core.specs.InstructionRows.{row_of, to_register, next, fast, event_numbered, handled, to_register_before, swapped, with_number, integer_of_shape, joins, skip, with_register, with_constant}
+use Rattle.machine_core.specs.InstructionRows.{to_register, next, fast, event_numbered, handled, to_register_before, swapped, with_number, integer_of_shape, joins, skip, with_register, with_constant}
 use Rattle.machine_core.specs.FrameRows.{expand}
 use Rattle.machine_sound.specs.Sound.{Top, waits_at}
 use Rattle.machine_sound.specs.Safe.{on_lua, ArgOk, ArgsOk, Safe}
@@ -35,7 +35,7 @@ fast_safe env h second e i p event r None k l = ends_next env h p
 fast_safe env h second e i p event r (Some m) None l = ends_next env h p
 
 -- two registers
-registers_safe : {t : Top} {w : Instruction} {op : Opcode} → Here t w op → (event : Event) → second_half op w ≡ Some MmBin → IsPlain op w → registers op w ≡ a_of w ∷ b_of w ∷ c_of w ∷ [] → Safe (on_lua t) [] (expand (with_register event w))
+pub registers_safe : {t : Top} {w : Instruction} {op : Opcode} → Here t w op → (event : Event) → second_half op w ≡ Some MmBin → IsPlain op w → registers op w ≡ a_of w ∷ b_of w ∷ c_of w ∷ [] → Safe (on_lua t) [] (expand (with_register event w))
 registers_safe {t = t} {w = w} h event e p r = (
   (sized h p.3 1 (b_of w) (ap (λ l. slice_get l 1) r), tt),
   λ v. (
@@ -46,7 +46,7 @@ registers_safe {t = t} {w = w} h event e p r = (
 )
 
 -- a register and a constant
-constant_safe : {t : Top} {w : Instruction} {op : Opcode} → Here t w op → (event : Event) → second_half op w ≡ Some MmBinK → IsPlain op w → registers op w ≡ a_of w ∷ b_of w ∷ [] → ((extra : Option ℕ) → constants op w extra ≡ (an_integer, c_of w) ∷ []) → Safe (on_lua t) [] (expand (with_constant event w))
+pub constant_safe : {t : Top} {w : Instruction} {op : Opcode} → Here t w op → (event : Event) → second_half op w ≡ Some MmBinK → IsPlain op w → registers op w ≡ a_of w ∷ b_of w ∷ [] → ((extra : Option ℕ) → constants op w extra ≡ (an_integer, c_of w) ∷ []) → Safe (on_lua t) [] (expand (with_constant event w))
 constant_safe {t = t} {w = w} h event e p r c = (
   (sized h p.3 1 (b_of w) (ap (λ l. slice_get l 1) r), tt),
   λ v. (
@@ -72,60 +72,6 @@ shr_i_safe t w h = number_safe h (λ s. fast of_shr (a_of w) (integer_of_shape s
 
 pub shl_i_safe : RowSafe ShlI
 shl_i_safe t w h = number_safe h (λ s. fast of_shl (a_of w) (Some (sc_of w)) (integer_of_shape s)) refl (refl, refl, refl, refl) refl of_shl (λ s. Some (sc_of w)) (λ s. integer_of_shape s) (λ s. refl)
-
-pub add_k_safe : RowSafe AddK
-add_k_safe t w h = constant_safe h of_add refl (refl, refl, refl, refl) refl (λ _. refl)
-
-pub sub_k_safe : RowSafe SubK
-sub_k_safe t w h = constant_safe h of_sub refl (refl, refl, refl, refl) refl (λ _. refl)
-
-pub mul_k_safe : RowSafe MulK
-mul_k_safe t w h = constant_safe h of_mul refl (refl, refl, refl, refl) refl (λ _. refl)
-
-pub mod_k_safe : RowSafe ModK
-mod_k_safe t w h = constant_safe h of_mod refl (refl, refl, refl, refl) refl (λ _. refl)
-
-pub idiv_k_safe : RowSafe IDivK
-idiv_k_safe t w h = constant_safe h of_idiv refl (refl, refl, refl, refl) refl (λ _. refl)
-
-pub band_k_safe : RowSafe BAndK
-band_k_safe t w h = constant_safe h of_band refl (refl, refl, refl, refl) refl (λ _. refl)
-
-pub bor_k_safe : RowSafe BOrK
-bor_k_safe t w h = constant_safe h of_bor refl (refl, refl, refl, refl) refl (λ _. refl)
-
-pub bxor_k_safe : RowSafe BXorK
-bxor_k_safe t w h = constant_safe h of_bxor refl (refl, refl, refl, refl) refl (λ _. refl)
-
-pub add_safe : RowSafe Add
-add_safe t w h = registers_safe h of_add refl (refl, refl, refl, refl) refl
-
-pub sub_safe : RowSafe Sub
-sub_safe t w h = registers_safe h of_sub refl (refl, refl, refl, refl) refl
-
-pub mul_safe : RowSafe Mul
-mul_safe t w h = registers_safe h of_mul refl (refl, refl, refl, refl) refl
-
-pub mod_safe : RowSafe Mod
-mod_safe t w h = registers_safe h of_mod refl (refl, refl, refl, refl) refl
-
-pub idiv_safe : RowSafe IDiv
-idiv_safe t w h = registers_safe h of_idiv refl (refl, refl, refl, refl) refl
-
-pub band_safe : RowSafe BAnd
-band_safe t w h = registers_safe h of_band refl (refl, refl, refl, refl) refl
-
-pub bor_safe : RowSafe BOr
-bor_safe t w h = registers_safe h of_bor refl (refl, refl, refl, refl) refl
-
-pub bxor_safe : RowSafe BXor
-bxor_safe t w h = registers_safe h of_bxor refl (refl, refl, refl, refl) refl
-
-pub shl_safe : RowSafe Shl
-shl_safe t w h = registers_safe h of_shl refl (refl, refl, refl, refl) refl
-
-pub shr_safe : RowSafe Shr
-shr_safe t w h = registers_safe h of_shr refl (refl, refl, refl, refl) refl
 
 -- the instruction in front of a second half
 

@@ -1,11 +1,12 @@
 -- The row of every instruction that runs is safe in checked code.
-use Rattle.std.proofs.Common.{◌≡◌, [], Option, Some, None, subst, sym, ap, ◌∙◌, true, false}
+use Rattle.std.proofs.Common.{◌≡◌, [], Option, Some, None, refl, subst, sym, ap, ◌∙◌, true, false}
 use Rattle.code_core.specs.declared.opcode.Opcode.{Opcode}
-use Rattle.code_core.specs.declared.opcode.Opcode.TheVariants.{Move, LoadI, LoadK, LoadKx, LoadFalse, LFalseSkip, LoadTrue, LoadNil, GetUpval, SetUpval, GetTabUp, GetTable, GetI, GetField, SetTabUp, SetTable, SetI, SetField, NewTable, OpSelf, AddI, AddK, SubK, MulK, ModK, IDivK, BAndK, BOrK, BXorK, ShrI, ShlI, Add, Sub, Mul, Mod, IDiv, BAnd, BOr, BXor, Shl, Shr, MmBin, MmBinI, MmBinK, Unm, BNot, Not, Len, Concat, Close, Tbc, Jmp, Eq, Lt, Le, EqK, EqI, LtI, LeI, GtI, GeI, Test, TestSet, Call, TailCall, Return, Return0, Return1, ForLoop, ForPrep, TForPrep, TForCall, TForLoop, SetList, Closure, VarArg, VarArgPrep, ExtraArg}
+use Rattle.code_core.specs.declared.opcode.Opcode.TheVariants.{Move, LoadI, LoadF, LoadK, LoadKx, LoadFalse, LFalseSkip, LoadTrue, LoadNil, GetUpval, SetUpval, GetTabUp, GetTable, GetI, GetField, SetTabUp, SetTable, SetI, SetField, NewTable, OpSelf, AddI, AddK, SubK, MulK, ModK, PowK, DivK, IDivK, BAndK, BOrK, BXorK, ShrI, ShlI, Pow, Div, MmBin, MmBinI, MmBinK, Unm, BNot, Not, Len, Concat, Close, Tbc, Jmp, Eq, Lt, Le, EqK, EqI, LtI, LeI, GtI, GeI, Test, TestSet, Call, TailCall, Return, Return0, Return1, ForLoop, ForPrep, TForPrep, TForCall, TForLoop, SetList, Closure, VarArg, VarArgPrep, ExtraArg}
 use Rattle.code_core.specs.declared.instruction.Instruction.{Instruction}
 use Rattle.code_core.specs.Instruction.{opcode_of}
 use Rattle.code_core.specs.Fields.{takes_list}
 use Rattle.code_core.specs.Check.{CodeIsChecked}
+use Rattle.int_core.specs.Operations.{of_add, of_sub, of_mul, of_mod, of_idiv, of_band, of_bor, of_bxor}
 use Rattle.machine_core.specs.Text.{Text, trap}
 use Rattle.machine_core.specs.InstructionRows.{row_of, text_at, text_by}
 use Rattle.machine_core.specs.FrameRows.{expand}
@@ -14,7 +15,7 @@ use Rattle.machine_sound.specs.Safe.{on_lua, Safe}
 use Rattle.machine_sound.proofs.Rules.{rules_at}
 use Rattle.machine_sound.proofs.Places.{Here, Listed, plain_there, listed_there}
 use Rattle.machine_sound.proofs.OpcodesTables.{move_safe, load_i_safe, load_k_safe, load_false_safe, load_true_safe, l_false_skip_safe, load_nil_safe, load_kx_safe, get_upval_safe, set_upval_safe, get_tab_up_safe, get_table_safe, get_i_safe, get_field_safe, set_tab_up_safe, set_table_safe, set_i_safe, set_field_safe, new_table_safe, self_safe}
-use Rattle.machine_sound.proofs.OpcodesNumbers.{add_i_safe, shr_i_safe, shl_i_safe, add_k_safe, sub_k_safe, mul_k_safe, mod_k_safe, idiv_k_safe, band_k_safe, bor_k_safe, bxor_k_safe, add_safe, sub_safe, mul_safe, mod_safe, idiv_safe, band_safe, bor_safe, bxor_safe, shl_safe, shr_safe, mm_bin_safe, mm_bin_i_safe, mm_bin_k_safe, unm_safe, bnot_safe, not_safe, len_safe, concat_safe}
+use Rattle.machine_sound.proofs.OpcodesNumbers.{registers_safe, constant_safe, add_i_safe, shr_i_safe, shl_i_safe, mm_bin_safe, mm_bin_i_safe, mm_bin_k_safe, unm_safe, bnot_safe, not_safe, len_safe, concat_safe}
 use Rattle.machine_sound.proofs.OpcodesTests.{eq_safe, lt_safe, le_safe, eq_k_safe, eq_i_safe, lt_i_safe, le_i_safe, gt_i_safe, ge_i_safe, test_safe, test_set_safe, jmp_safe, for_loop_safe, for_prep_safe, tbc_safe, t_for_prep_safe, t_for_loop_safe, close_safe}
 use Rattle.machine_sound.proofs.OpcodesCalls.{call_row_safe, tail_call_safe, t_for_call_safe, return_0_safe, return_1_safe, return_safe}
 use Rattle.machine_sound.proofs.OpcodesLists.{set_list_safe, closure_safe, var_arg_safe, var_arg_prep_safe}
@@ -42,26 +43,16 @@ row_safe SetField t w h x l = set_field_safe t w h
 row_safe NewTable t w h x l = new_table_safe t w h
 row_safe OpSelf t w h x l = self_safe t w h
 row_safe AddI t w h x l = add_i_safe t w h
-row_safe AddK t w h x l = add_k_safe t w h
-row_safe SubK t w h x l = sub_k_safe t w h
-row_safe MulK t w h x l = mul_k_safe t w h
-row_safe ModK t w h x l = mod_k_safe t w h
-row_safe IDivK t w h x l = idiv_k_safe t w h
-row_safe BAndK t w h x l = band_k_safe t w h
-row_safe BOrK t w h x l = bor_k_safe t w h
-row_safe BXorK t w h x l = bxor_k_safe t w h
+row_safe AddK t w h x l = constant_safe h of_add refl (refl, refl, refl, refl) refl (λ _. refl)
+row_safe SubK t w h x l = constant_safe h of_sub refl (refl, refl, refl, refl) refl (λ _. refl)
+row_safe MulK t w h x l = constant_safe h of_mul refl (refl, refl, refl, refl) refl (λ _. refl)
+row_safe ModK t w h x l = constant_safe h of_mod refl (refl, refl, refl, refl) refl (λ _. refl)
+row_safe IDivK t w h x l = constant_safe h of_idiv refl (refl, refl, refl, refl) refl (λ _. refl)
+row_safe BAndK t w h x l = constant_safe h of_band refl (refl, refl, refl, refl) refl (λ _. refl)
+row_safe BOrK t w h x l = constant_safe h of_bor refl (refl, refl, refl, refl) refl (λ _. refl)
+row_safe BXorK t w h x l = constant_safe h of_bxor refl (refl, refl, refl, refl) refl (λ _. refl)
 row_safe ShrI t w h x l = shr_i_safe t w h
 row_safe ShlI t w h x l = shl_i_safe t w h
-row_safe Add t w h x l = add_safe t w h
-row_safe Sub t w h x l = sub_safe t w h
-row_safe Mul t w h x l = mul_safe t w h
-row_safe Mod t w h x l = mod_safe t w h
-row_safe IDiv t w h x l = idiv_safe t w h
-row_safe BAnd t w h x l = band_safe t w h
-row_safe BOr t w h x l = bor_safe t w h
-row_safe BXor t w h x l = bxor_safe t w h
-row_safe Shl t w h x l = shl_safe t w h
-row_safe Shr t w h x l = shr_safe t w h
 row_safe MmBin t w h x l = mm_bin_safe t w h
 row_safe MmBinI t w h x l = mm_bin_i_safe t w h
 row_safe MmBinK t w h x l = mm_bin_k_safe t w h
@@ -99,7 +90,13 @@ row_safe Closure t w h x l = closure_safe t w h
 row_safe VarArg t w h x l = var_arg_safe t w h
 row_safe VarArgPrep t w h x l = var_arg_prep_safe t w h
 row_safe ExtraArg t w h x l = absurd (cc)
-row_safe _ t w h x l = absurd (let e = h.rule.whole in cc)
+row_safe LoadF t w h x l = absurd (let e = h.rule.whole in cc)
+row_safe PowK t w h x l = absurd (let e = h.rule.whole in cc)
+row_safe DivK t w h x l = absurd (let e = h.rule.whole in cc)
+row_safe Pow t w h x l = absurd (let e = h.rule.whole in cc)
+row_safe Div t w h x l = absurd (let e = h.rule.whole in cc)
+-- two registers
+row_safe op t w h x l = registers_safe h _ refl (refl, refl, refl, refl) refl
 
 -- the text of the instruction at hand
 pub text_safe : (t : Top) → CodeIsChecked t.code → Fits t → t.pending ≡ t.code.own.stack → t.cells ≡ t.code.own.stack → IsTrue t.runs → Safe (on_lua t) [] (expand (text_at t.code t.pc))
