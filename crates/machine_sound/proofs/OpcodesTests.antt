@@ -11,7 +11,7 @@ use Rattle.code_core.specs.Instruction.{a_of, b_of, k_of, bx_of, sj_of}
 use Rattle.code_core.specs.Fields.{registers, anything, second_half, target, takes_list}
 use Rattle.machine_core.specs.World.{for_truth, for_close}
 use Rattle.machine_core.specs.Text.{Arg, read, written, constant, close_cells, take_pending, Text, go_by, arg, quick, pay, raise, mark_pending, write_register, is_there, close}
-use Rattle.machine_core.specs.InstructionRows.{to_register, next, skip, tested, truth_decides, with_number, jumps, back, goes_round, prepares, starts, runs, rounds, integer_of_shape, marks, variable_name, closes, compares, writes_integer, then}
+use Rattle.machine_core.specs.InstructionRows.{to_register, next, skip, tested, truth_decides, with_number, jumps, back, goes_round, prepares, starts, runs, rounds, integer_of_shape, marks, variable_name, closes, compares, writes_integer, with_loop, then}
 use Rattle.machine_core.specs.FrameRows.{expand, raises}
 use Rattle.machine_sound.specs.Sound.{Top, waits_at}
 use Rattle.machine_sound.specs.Safe.{on_lua, ArgsOk, WaitsAs, Safe, HasPlace, list_of_option}
@@ -110,6 +110,20 @@ loop_register {t = t} {w = w} h n e i l = up_to (a_of w) i t.size (sized h n 0 (
 first_of : (a n : ℕ) → a + 0 < n → a < n
 first_of a n l = omega arith
 
+-- what is done with the three values of a loop
+with_loop_safe : {t : Top} {w : Instruction} {op : Opcode} → Here t w op → takes_list op w ≡ false → slice_get (registers op w) 0 ≡ Some (a_of w + 3) → (k : Option ℤ → Option ℤ → Option ℤ → Text)
+    → ((x y z : Value) → Safe (on_lua t) (x ∷ y ∷ z ∷ []) (expand (k (integer_of_shape (shape x)) (integer_of_shape (shape y)) (integer_of_shape (shape z))))) → Safe (on_lua t) [] (expand (with_loop (a_of w) k))
+with_loop_safe {t = t} {w = w} h n e k s = (
+  (first_of (a_of w) t.size (loop_register h n e 0 (omega arith)), tt),
+  λ x. (
+    (loop_register h n e 1 (omega arith), tt),
+    λ y. (
+      (loop_register h n e 2 (omega arith), tt),
+      λ z. s x y z,
+    ),
+  ),
+)
+
 -- a unit of the budget, if there is one left
 paid_safe : (t : Top) (env : List Value) (x : Text) → Safe (on_lua t) env (expand x) → (b : Bool) → Safe (on_lua t) env (cond b (expand x) (stop spent))
 paid_safe t env x s true = s
@@ -139,17 +153,7 @@ round_safe {t = t} env h (Some i) None s = raise_safe t env [] (place h)
 round_safe {t = t} env h (Some i) (Some c) None = raise_safe t env [] (place h)
 
 pub for_loop_safe : RowSafe ForLoop
-for_loop_safe t w h = (
-  (first_of (a_of w) t.size (loop_register h refl refl 0 (omega arith)), tt),
-  λ x. (
-    (loop_register h refl refl 1 (omega arith), tt),
-    λ y. (
-      (loop_register h refl refl 2 (omega arith), tt),
-      λ z.
-          round_safe (x ∷ y ∷ z ∷ []) h (integer_of_shape (shape x)) (integer_of_shape (shape y)) (integer_of_shape (shape z)),
-    ),
-  ),
-)
+for_loop_safe t w h = with_loop_safe h refl refl (goes_round (a_of w) (bx_of w)) (λ x y z. round_safe (x ∷ y ∷ z ∷ []) h (integer_of_shape (shape x)) (integer_of_shape (shape y)) (integer_of_shape (shape z)))
 
 ahead : (pc n : ℕ) → pos pc +ℤ pos (n + 2) ≡ pos (pc + 2 + n)
 ahead pc n = grind arith
@@ -170,17 +174,7 @@ prepares_safe {t = t} env h None (Some l) (Some s) = raise_safe t env [] (place 
 prepares_safe env h (Some i) (Some l) (Some s) = starts_safe env h i l s
 
 pub for_prep_safe : RowSafe ForPrep
-for_prep_safe t w h = (
-  (first_of (a_of w) t.size (loop_register h refl refl 0 (omega arith)), tt),
-  λ x. (
-    (loop_register h refl refl 1 (omega arith), tt),
-    λ y. (
-      (loop_register h refl refl 2 (omega arith), tt),
-      λ z.
-          prepares_safe (x ∷ y ∷ z ∷ []) h (integer_of_shape (shape x)) (integer_of_shape (shape y)) (integer_of_shape (shape z)),
-    ),
-  ),
-)
+for_prep_safe t w h = with_loop_safe h refl refl (prepares (a_of w) (bx_of w)) (λ x y z. prepares_safe (x ∷ y ∷ z ∷ []) h (integer_of_shape (shape x)) (integer_of_shape (shape y)) (integer_of_shape (shape z)))
 
 -- variables to be closed
 
