@@ -3,7 +3,7 @@ use Rattle.code_core.specs.Prototype.{Prototype}
 use Rattle.std.proofs.Common.{ℕ, ◌<◌, ◌≡◌, [], ◌∷◌, ◌++◌, Option, Some, None, refl, sym, ap, subst, ◌∙◌, Bool, true, false}
 use Rattle.int_core.specs.Value.{Value, last}
 use Rattle.list_laws.proofs.Ends.{last_is}
-use Rattle.machine_core.specs.World.{Frame, lua, pcall, xpcall, handler, closing, World}
+use Rattle.machine_core.specs.World.{Frame, lua, World}
 use Rattle.machine_core.specs.Moves.{runs_main, see_top, TopShape, lua_top, no_top, top_shape, Ending, go, returned, asks, calls_primitive, raised, unwinding, Row, act, ends, run}
 use Rattle.machine_core.specs.FrameRows.{hand_over, handed_to, unwound, raised_row}
 use Rattle.machine_core.specs.MachineStep.{step_by}
@@ -13,7 +13,7 @@ use Rattle.lua_meaning.specs.Step.{Primitives, does_primitive, tick, tick_by}
 use Rattle.code_means.specs.Runs.{codes_run}
 use Rattle.machine_sound.specs.Sound.{Solid, Settled, StackWaits}
 use Rattle.machine_means.specs.Joined.{TalkWorld, Joined}
-use Rattle.machine_means.specs.Stands.{Stands, results_come, error_raised, error_leaves, primitive_called, code_runs, ComesTo, AtRest}
+use Rattle.machine_means.specs.Stands.{Stands, results_come, error_raised, error_leaves, primitive_called, code_runs, ComesTo}
 use Rattle.machine_means.proofs.Handing.{ending_of, hand_over_is}
 use Rattle.machine_means.proofs.AtRest.{stack_now, see_is}
 use Rattle.machine_means.proofs.Giving.{ends_joined, fails_joined}
@@ -60,42 +60,32 @@ module _ (primitives : ℕ) (rows : ℕ → Row) (library : Primitives Prototype
     handed_ending ending joined reached =
         sym (ap ending_in (hand_over_is M (record { coroutine = waits.coroutine; frames = waits.frames }) [] (stack_now primitives M T false (record { solid = solid; waits = waits; joined = joined })))) ∙ ap ending_in reached
 
+    -- the row of what is on top
+    seen_at : (lax : Bool) → Joined lax M T → (row : TopShape → Row) (o : Option Frame) → last waits.frames ≡ o → run (act see_top (λ _ top. row top)) [] M ≡ run (row (top_shape M o)) [] M
+    seen_at lax joined row o at = see_is primitives M T lax (record { solid = solid; waits = waits; joined = joined }) (λ _ top. row top) [] ∙ ap (λ o. run (row (top_shape M o)) [] M) at
+
     -- results reach a frame of another kind, or the coroutine's end
     hands_on : (o : Option Frame) → last waits.frames ≡ o → (LuaIn o → ⊥) → (joined : Joined false M T) → Leads library M.printed (calls.handed codes_run T M.moving T.frames) (run (act see_top (λ _ top. handed_to top)) [] M)
     hands_on (Some m) at n joined =
-        let k : AtRest primitives false M T = record { solid = solid; waits = waits; joined = joined } in
-        let seen : run (act see_top (λ _ top. handed_to top)) [] M ≡ run (handed_to (top_shape M (Some m))) [] M = see_is primitives M T false k (λ _ top. handed_to top) [] ∙ ap (λ o. run (handed_to (top_shape M o)) [] M) at in
+        let seen = seen_at false joined handed_to (Some m) at in
         subst (λ o. Leads library M.printed (calls.handed codes_run T M.moving T.frames) o) (sym seen)
         (comes_leads library M.printed (handed_to (top_shape M (Some m))) [] M (calls.handed codes_run T M.moving T.frames) (handed_to_free (top_shape M (Some m)) (not_none M m))
-        (subst (λ o. ComesTo o (calls.handed codes_run T M.moving T.frames)) seen (results_reach primitives M T k m at (λ l. n l))))
-    hands_on None at n joined = by (runs_main M) refl
+        (subst (λ o. ComesTo o (calls.handed codes_run T M.moving T.frames)) seen (results_reach primitives M T (record { solid = solid; waits = waits; joined = joined }) m at (λ l. n l))))
+    hands_on None at n joined = subst (λ o. Leads library M.printed (calls.handed codes_run T M.moving T.frames) o) (sym (seen_at false joined handed_to None at)) (by (runs_main M) refl)
       where
-        none : waits.frames ≡ []
-        none = none_last waits.frames at
-
-        k : AtRest primitives false M T
-        k = record { solid = solid; waits = waits; joined = joined }
-
-        seen : (b : Bool) → runs_main M ≡ b → run (act see_top (λ _ top. handed_to top)) [] M ≡ run (handed_to (no_top b)) [] M
-        seen b e = see_is primitives M T false k (λ _ top. handed_to top) [] ∙ ap (λ o. run (handed_to (top_shape M o)) [] M) at ∙ ap (λ b. run (handed_to (no_top b)) [] M) e
-
-        by : (b : Bool) → runs_main M ≡ b → Leads library M.printed (calls.handed codes_run T M.moving T.frames) (run (act see_top (λ _ top. handed_to top)) [] M)
-        by true e = subst (λ o. Leads library M.printed (calls.handed codes_run T M.moving T.frames) o) (sym (seen true e)) (main_returns primitives M T false solid waits joined e library none)
+        by : (b : Bool) → runs_main M ≡ b → Leads library M.printed (calls.handed codes_run T M.moving T.frames) (run (handed_to (no_top b)) [] M)
+        by true e = main_returns primitives M T false solid waits joined e library (none_last waits.frames at)
         by false e =
-            subst (λ o. Leads library M.printed (calls.handed codes_run T M.moving T.frames) o) (sym (seen false e))
-            (gives_leads library M.printed (run (handed_to (no_top false)) [] M) (calls.handed codes_run T M.moving T.frames) (ends_joined primitives M T (record { solid = solid; waits = waits; resumed = e; joined = joined }) none))
+            gives_leads library M.printed (run (handed_to (no_top false)) [] M) (calls.handed codes_run T M.moving T.frames)
+            (ends_joined primitives M T (record { solid = solid; waits = waits; resumed = e; joined = joined }) (none_last waits.frames at))
 
     returns : Stands returned M T → Leads library M.printed (tick codes_run library T) (step_by rows returned M)
     returns (results_come _ _ _ reached now joined) =
         (subst (λ X. Leads library M.printed X (step_by rows returned M)) (sym (ap (λ nw. tick_by codes_run library nw T) now)) (hands_on (last waits.frames) refl (no_lua (last waits.frames) (handed_ending returned joined reached)) joined))
       where
         no_lua : (o : Option Frame) → Some (ending_of (top_shape M o)) ≡ Some returned → LuaIn o → ⊥
-        no_lua None e i = i
         no_lua (Some (lua f)) e i = only_go lua_top e refl
-        no_lua (Some pcall) e i = i
-        no_lua (Some (xpcall h)) e i = i
-        no_lua (Some handler) e i = i
-        no_lua (Some (closing v us)) e i = i
+        no_lua _ e i = i
 
     -- an error was raised
     raises : Stands raised M T → Leads library M.printed (tick codes_run library T) (step_by rows raised M)
@@ -107,28 +97,17 @@ module _ (primitives : ℕ) (rows : ℕ → Row) (library : Primitives Prototype
     -- an error leaves frames
     unwinds_on : (joined : Joined true M T) (e : Value) → M.moving ≡ e ∷ [] → (o : Option Frame) → last waits.frames ≡ o → (LuaIn o → ⊥) → Leads library M.printed (calls.unwound codes_run T e T.frames) (run (act see_top (λ _ top. unwound top)) [] M)
     unwinds_on joined e moves (Some m) at n =
-        let k : AtRest primitives true M T = record { solid = solid; waits = waits; joined = joined } in
-        let seen : run (act see_top (λ _ top. unwound top)) [] M ≡ run (unwound (top_shape M (Some m))) [] M = see_is primitives M T true k (λ _ top. unwound top) [] ∙ ap (λ o. run (unwound (top_shape M o)) [] M) at in
+        let seen = seen_at true joined unwound (Some m) at in
         subst (λ o. Leads library M.printed (calls.unwound codes_run T e T.frames) o) (sym seen)
         (comes_leads library M.printed (unwound (top_shape M (Some m))) [] M (calls.unwound codes_run T e T.frames) (unwound_free (top_shape M (Some m)) (not_lua M (Some m) n) (not_none M m))
-        (subst (λ o. ComesTo o (calls.unwound codes_run T e T.frames)) seen (errors_reach primitives M T k m at (λ l. n l) e moves)))
-    unwinds_on joined e moves None at n = by (runs_main M) refl
+        (subst (λ o. ComesTo o (calls.unwound codes_run T e T.frames)) seen (errors_reach primitives M T (record { solid = solid; waits = waits; joined = joined }) m at (λ l. n l) e moves)))
+    unwinds_on joined e moves None at n = subst (λ o. Leads library M.printed (calls.unwound codes_run T e T.frames) o) (sym (seen_at true joined unwound None at)) (by (runs_main M) refl)
       where
-        none : waits.frames ≡ []
-        none = none_last waits.frames at
-
-        k : AtRest primitives true M T
-        k = record { solid = solid; waits = waits; joined = joined }
-
-        seen : (b : Bool) → runs_main M ≡ b → run (act see_top (λ _ top. unwound top)) [] M ≡ run (unwound (no_top b)) [] M
-        seen b e = see_is primitives M T true k (λ _ top. unwound top) [] ∙ ap (λ o. run (unwound (top_shape M o)) [] M) at ∙ ap (λ b. run (unwound (no_top b)) [] M) e
-
-        by : (b : Bool) → runs_main M ≡ b → Leads library M.printed (calls.unwound codes_run T e T.frames) (run (act see_top (λ _ top. unwound top)) [] M)
-        by true q = subst (λ o. Leads library M.printed (calls.unwound codes_run T e T.frames) o) (sym (seen true q)) (main_fails primitives M T true solid waits joined q library none e moves)
+        by : (b : Bool) → runs_main M ≡ b → Leads library M.printed (calls.unwound codes_run T e T.frames) (run (unwound (no_top b)) [] M)
+        by true q = main_fails primitives M T true solid waits joined q library (none_last waits.frames at) e moves
         by false q =
-            subst (λ o. Leads library M.printed (calls.unwound codes_run T e T.frames) o) (sym (seen false q))
-            (subst (λ X. Leads library M.printed X (run (unwound (no_top false)) [] M)) (sym (ap (calls.unwound codes_run T e) (no_talks primitives M T solid waits true joined none)))
-            (gives_leads library M.printed (run (unwound (no_top false)) [] M) (calls.fails_all codes_run T e) (fails_joined primitives M T (record { solid = solid; waits = waits; resumed = q; joined = joined }) e moves)))
+            subst (λ X. Leads library M.printed X (run (unwound (no_top false)) [] M)) (sym (ap (calls.unwound codes_run T e) (no_talks primitives M T solid waits true joined (none_last waits.frames at))))
+            (gives_leads library M.printed (run (unwound (no_top false)) [] M) (calls.fails_all codes_run T e) (fails_joined primitives M T (record { solid = solid; waits = waits; resumed = q; joined = joined }) e moves))
 
     leaves : Stands unwinding M T → Leads library M.printed (tick codes_run library T) (step_by rows unwinding M)
     leaves (error_leaves _ _ e moves now joined) = by (last waits.frames) refl
@@ -139,11 +118,7 @@ module _ (primitives : ℕ) (rows : ℕ → Row) (library : Primitives Prototype
 
         by : (o : Option Frame) → last waits.frames ≡ o → Leads library M.printed (tick codes_run library T) (step_by rows unwinding M)
         by (Some (lua fr)) at = error_heard rows library primitives M T solid waits.coroutine waits.frames waits.last waits.running fr at joined e moves now
-        by None at = rest None at (λ z. z)
-        by (Some pcall) at = rest (Some pcall) at (λ z. z)
-        by (Some (xpcall v)) at = rest (Some (xpcall v)) at (λ z. z)
-        by (Some handler) at = rest (Some handler) at (λ z. z)
-        by (Some (closing v us)) at = rest (Some (closing v us)) at (λ z. z)
+        by o at = rest o at (λ z. z)
     leaves (results_come _ _ _ reached now joined) = absurd (not_unwinding (top_shape M (last waits.frames)) (handed_ending unwinding joined reached))
 
     -- a primitive is called

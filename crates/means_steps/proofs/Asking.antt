@@ -5,7 +5,7 @@ use Rattle.std.proofs.Common.{ℕ, ◌≡◌, List, [], ◌∷◌, ◌++◌, Opt
 use Rattle.int_core.specs.Value.{Value, last}
 use Rattle.int_core.specs.Limits.{stack_overflow}
 use Rattle.int_core.specs.Operations.{callee_of, greatest_chain}
-use Rattle.machine_core.specs.World.{Frame, lua, pcall, xpcall, handler, closing, World}
+use Rattle.machine_core.specs.World.{Frame, lua, World}
 use Rattle.machine_core.specs.Text.{read}
 use Rattle.machine_core.specs.Moves.{call_value, TopShape, lua_top, not_entered, called, asks, Outcome, trapped, Row, act, run}
 use Rattle.machine_core.specs.FrameRows.{refused_under as machine_refuses, after_asked, asked_row}
@@ -48,11 +48,7 @@ module _ (rows : ℕ → Row) (known : Primitives Prototype) (primitives : ℕ) 
 
       by : (o : Option Frame) → last waits.frames ≡ o → Leads known M.printed (refused_under U.frames text (record U { fuel = m })) (run (after_asked (not_entered text)) env (record M { fuel = m; moving = [] }))
       by (Some (lua fr)) e = refusal_heard rows known primitives M U solid waits.coroutine waits.frames waits.last waits.running fr e joined text m env
-      by None e = rest None e (λ z. z)
-      by (Some pcall) e = rest (Some pcall) e (λ z. z)
-      by (Some (xpcall v)) e = rest (Some (xpcall v)) e (λ z. z)
-      by (Some handler) e = rest (Some handler) e (λ z. z)
-      by (Some (closing v us)) e = rest (Some (closing v us)) e (λ z. z)
+      by o e = rest o e (λ z. z)
 
   -- what moves is called
   module _ (U : TalkWorld) (joined : Joined false M U) (f : Value) (vs : List Value) (moves : M.moving ≡ f ∷ vs) where
