@@ -166,14 +166,10 @@ module _ (celling : Celling) where
       let t = under W.chain _ below W.coroutines m p in let one = t.2 in let s = t.4 in
       heard_goes b n t.1 t.0 W asker _ below h t.3 one (omega (arith, s, less))
   handed_goes b n m W vs (raising asker ∷ below) h can p less = has_end refl can
-  handed_goes b n m W vs (protected ∷ below) h can p less =
-      let t = under W.chain _ below W.coroutines m p in let one = t.2 in let s = t.4 in gets_less h refl t.1 t.3 (omega (arith, one, s, less))
-  handed_goes b n m W vs (handled_by g ∷ below) h can p less =
-      let t = under W.chain _ below W.coroutines m p in let one = t.2 in let s = t.4 in gets_less h refl t.1 t.3 (omega (arith, one, s, less))
-  handed_goes b n m W vs (handling ∷ below) h can p less =
-      let t = under W.chain _ below W.coroutines m p in let one = t.2 in let s = t.4 in gets_less h refl t.1 t.3 (omega (arith, one, s, less))
   handed_goes b n m W vs (closing e vs_left ∷ below) h can p less =
       let t = under W.chain _ below W.coroutines m p in let one = t.2 in let s = t.4 in closes_on_go b n t.1 W e vs_left below h t.3 (omega (arith, one, s, less))
+  handed_goes b n m W vs (_ ∷ below) h can p less =
+      let t = under W.chain _ below W.coroutines m p in let one = t.2 in let s = t.4 in gets_less h refl t.1 t.3 (omega (arith, one, s, less))
 
   raised_goes : (b n m : ℕ) (W : Run) (e : Value) (frames : List (Frame State)) → W.fuel ≤ b → CanEnd W → Fits W.chain W.frames W.coroutines m → m + 3 ≤ n
       → Goes b n (raised_to system W e frames)
@@ -187,9 +183,7 @@ module _ (celling : Celling) where
       (calls_go b n (on_frames W (handling ∷ W.frames)) g (e ∷ []) (λ why V. now_in V (unwinds error_in_handler)) h (1 + m, q)
       (λ why fuel le. gets_less le refl (1 + m) q (omega (arith, less))))
       (gets_less h refl m p (omega (arith, less)))
-  raised_goes b n m W e (protected ∷ frames) h can p less = gets_less h refl m p (omega (arith, less))
-  raised_goes b n m W e (handling ∷ frames) h can p less = gets_less h refl m p (omega (arith, less))
-  raised_goes b n m W e (closing error vs_left ∷ frames) h can p less = gets_less h refl m p (omega (arith, less))
+  raised_goes b n m W e (_ ∷ frames) h can p less = gets_less h refl m p (omega (arith, less))
 
   unwound_goes : (b n m : ℕ) (W : Run) (e : Value) (frames : List (Frame State)) → W.fuel ≤ b → CanEnd W → Fits W.chain frames W.coroutines m → m + 1 ≤ n
       → Goes b n (unwound system W e frames)
@@ -201,14 +195,10 @@ module _ (celling : Celling) where
   unwound_goes b n m W e (raising asker ∷ below) h can p less =
       let t = under W.chain _ below W.coroutines m p in let one = t.2 in let s = t.4 in
       left_goes b n t.1 t.0 W asker e below h t.3 one (omega (arith, s, less))
-  unwound_goes b n m W e (protected ∷ below) h can p less =
-      let t = under W.chain _ below W.coroutines m p in let one = t.2 in let s = t.4 in gets_less h refl t.1 t.3 (omega (arith, one, s, less))
-  unwound_goes b n m W e (handled_by g ∷ below) h can p less =
-      let t = under W.chain _ below W.coroutines m p in let one = t.2 in let s = t.4 in gets_less h refl t.1 t.3 (omega (arith, one, s, less))
-  unwound_goes b n m W e (handling ∷ below) h can p less =
-      let t = under W.chain _ below W.coroutines m p in let one = t.2 in let s = t.4 in gets_less h refl t.1 t.3 (omega (arith, one, s, less))
   unwound_goes b n m W e (closing error vs_left ∷ below) h can p less =
       let t = under W.chain _ below W.coroutines m p in let one = t.2 in let s = t.4 in closes_on_go b n t.1 W (Some e) vs_left below h t.3 (omega (arith, one, s, less))
+  unwound_goes b n m W e (_ ∷ below) h can p less =
+      let t = under W.chain _ below W.coroutines m p in let one = t.2 in let s = t.4 in gets_less h refl t.1 t.3 (omega (arith, one, s, less))
 
   -- asks
 
