@@ -1,10 +1,10 @@
 -- Turns and whole runs of both worlds.
-use Rattle.std.proofs.Common.{◌≡◌, ℕ, zero, suc, ◌+◌, ◌<◌, ◌≤◌, Bool, true, false, List, [], ◌∷◌, Option, Some, None, refl, sym, ◌∙◌, ap, subst, arith}
+use Rattle.std.proofs.Common.{◌≡◌, ℕ, zero, suc, ◌<◌, ◌≤◌, Bool, true, false, List, [], ◌∷◌, Option, Some, None, refl, sym, ◌∙◌, ap, subst, arith}
 use Rattle.int_core.specs.Value.{string, known}
 use Rattle.tree_core.specs.Tree.{Body}
 use Rattle.tree_activation.specs.Work.{State}
 use Rattle.load_rows.specs.Loading.{Builds}
-use Rattle.lua_meaning.specs.World.{System, yielded, returned, failed_with, spent, broken, ends, gives_back, World}
+use Rattle.lua_meaning.specs.World.{System, yielded, ends, gives_back, World}
 use Rattle.lua_meaning.specs.Step.{has_ended, tick, ticks}
 use Rattle.lua_meaning.specs.Meaning.{Meaning, at_end, suspends, handed_line, run_from, onward}
 use Rattle.lua_meaning.specs.Opening.{primitives}
@@ -172,102 +172,58 @@ module _ (builds : Builds Body) (budget : ℕ) where
   abbrev no_more : World Body State → Option (Meaning Body State)
   no_more W = None
 
-  -- a turn's end on both sides
-  first_end : (k : ℕ) (line : List ℕ) (input : List (List ℕ)) (J : Joint) → Stands J → (m : Meaning Body State)
-      → at_end J.now (one J) (λ U. run_from first_form (primitives builds) k (handed_line first_form (primitives builds) U line budget) input budget) ≡ Some m → OnLines one two first_form second_form k input
-      → Later (AreWaiting one two) m (λ z. at_end J.now (two J) (λ U. run_from second_form (primitives builds) z (handed_line second_form (primitives builds) U line budget) input budget))
-  first_end k line input _ (quiet J q) m given more =
-      turn_end (AreWaiting one two) J.now (one J) (two J) (λ U. run_from first_form (primitives builds) k (handed_line first_form (primitives builds) U line budget) input budget)
-      (λ z U. run_from second_form (primitives builds) z (handed_line second_form (primitives builds) U line budget) input budget) m refl given
-      (λ y e. more (handed J line) (quiet (handed J line) q) y e)
-  first_end k line input _ (stopped J (yielded vs) l) m given more = absurd l
-  first_end k line input _ (stopped J (returned vs) l) m given more =
-      turn_end (AreWaiting one two) (ends (returned vs)) (one (record J { now = ends (returned vs) })) (two (record J { now = ends (returned vs) })) no_more (λ z. no_more) m refl given (λ y e. absurd (none_some y e))
-  first_end k line input _ (stopped J (failed_with e) l) m given more =
-      turn_end (AreWaiting one two) (ends (failed_with e)) (one (record J { now = ends (failed_with e) })) (two (record J { now = ends (failed_with e) })) no_more (λ z. no_more) m refl given (λ y e. absurd (none_some y e))
-  first_end k line input _ (stopped J spent l) m given more =
-      turn_end (AreWaiting one two) (ends spent) (one (record J { now = ends spent })) (two (record J { now = ends spent })) no_more (λ z. no_more) m refl given (λ y e. absurd (none_some y e))
-  first_end k line input _ (stopped J broken l) m given more =
-      turn_end (AreWaiting one two) (ends broken) (one (record J { now = ends broken })) (two (record J { now = ends broken })) no_more (λ z. no_more) m refl given (λ y e. absurd (none_some y e))
-  first_end k line input _ (busy J f s t below tk) m given more = absurd (cc)
-
-  second_end : (k : ℕ) (line : List ℕ) (input : List (List ℕ)) (J : Joint) → Stands J → (m : Meaning Body State)
-      → at_end J.now (two J) (λ U. run_from second_form (primitives builds) k (handed_line second_form (primitives builds) U line budget) input budget) ≡ Some m → OnLines two one second_form first_form k input
-      → Later (AreWaiting two one) m (λ z. at_end J.now (one J) (λ U. run_from first_form (primitives builds) z (handed_line first_form (primitives builds) U line budget) input budget))
-  second_end k line input _ (quiet J q) m given more =
-      turn_end (AreWaiting two one) J.now (two J) (one J) (λ U. run_from second_form (primitives builds) k (handed_line second_form (primitives builds) U line budget) input budget)
-      (λ z U. run_from first_form (primitives builds) z (handed_line first_form (primitives builds) U line budget) input budget) m refl given
-      (λ y e. more (handed J line) (quiet (handed J line) q) y e)
-  second_end k line input _ (stopped J (yielded vs) l) m given more = absurd l
-  second_end k line input _ (stopped J (returned vs) l) m given more =
-      turn_end (AreWaiting two one) (ends (returned vs)) (two (record J { now = ends (returned vs) })) (one (record J { now = ends (returned vs) })) no_more (λ z. no_more) m refl given (λ y e. absurd (none_some y e))
-  second_end k line input _ (stopped J (failed_with e) l) m given more =
-      turn_end (AreWaiting two one) (ends (failed_with e)) (two (record J { now = ends (failed_with e) })) (one (record J { now = ends (failed_with e) })) no_more (λ z. no_more) m refl given (λ y e. absurd (none_some y e))
-  second_end k line input _ (stopped J spent l) m given more =
-      turn_end (AreWaiting two one) (ends spent) (two (record J { now = ends spent })) (one (record J { now = ends spent })) no_more (λ z. no_more) m refl given (λ y e. absurd (none_some y e))
-  second_end k line input _ (stopped J broken l) m given more =
-      turn_end (AreWaiting two one) (ends broken) (two (record J { now = ends broken })) (one (record J { now = ends broken })) no_more (λ z. no_more) m refl given (λ y e. absurd (none_some y e))
-  second_end k line input _ (busy J f s t below tk) m given more = absurd (cc)
-
-  -- and where the lines have run out
-  first_last : (J : Joint) → Stands J → (m : Meaning Body State) → at_end J.now (one J) suspends ≡ Some m → Later (AreWaiting one two) m (λ z. at_end J.now (two J) suspends)
-  first_last _ (quiet J q) m given =
-      turn_end (AreWaiting one two) J.now (one J) (two J) suspends (λ z. suspends) m refl given
-      (λ z e. suspends_out (AreWaiting one two) (one J) (two J) (record { joint = J; waits = q; is = refl; is_too = refl }) z e)
-  first_last _ (stopped J (yielded vs) l) m given = absurd l
-  first_last _ (stopped J (returned vs) l) m given =
-      turn_end (AreWaiting one two) (ends (returned vs)) (one (record J { now = ends (returned vs) })) (two (record J { now = ends (returned vs) })) no_more (λ z. no_more) m refl given (λ z e. absurd (none_some z e))
-  first_last _ (stopped J (failed_with e) l) m given =
-      turn_end (AreWaiting one two) (ends (failed_with e)) (one (record J { now = ends (failed_with e) })) (two (record J { now = ends (failed_with e) })) no_more (λ z. no_more) m refl given (λ z e. absurd (none_some z e))
-  first_last _ (stopped J spent l) m given =
-      turn_end (AreWaiting one two) (ends spent) (one (record J { now = ends spent })) (two (record J { now = ends spent })) no_more (λ z. no_more) m refl given (λ z e. absurd (none_some z e))
-  first_last _ (stopped J broken l) m given =
-      turn_end (AreWaiting one two) (ends broken) (one (record J { now = ends broken })) (two (record J { now = ends broken })) no_more (λ z. no_more) m refl given (λ z e. absurd (none_some z e))
-  first_last _ (busy J f s t below tk) m given = absurd (cc)
-
-  second_last : (J : Joint) → Stands J → (m : Meaning Body State) → at_end J.now (two J) suspends ≡ Some m → Later (AreWaiting two one) m (λ z. at_end J.now (one J) suspends)
-  second_last _ (quiet J q) m given =
-      turn_end (AreWaiting two one) J.now (two J) (one J) suspends (λ z. suspends) m refl given
-      (λ z e. suspends_out (AreWaiting two one) (two J) (one J) (record { joint = J; waits = q; is = refl; is_too = refl }) z e)
-  second_last _ (stopped J (yielded vs) l) m given = absurd l
-  second_last _ (stopped J (returned vs) l) m given =
-      turn_end (AreWaiting two one) (ends (returned vs)) (two (record J { now = ends (returned vs) })) (one (record J { now = ends (returned vs) })) no_more (λ z. no_more) m refl given (λ z e. absurd (none_some z e))
-  second_last _ (stopped J (failed_with e) l) m given =
-      turn_end (AreWaiting two one) (ends (failed_with e)) (two (record J { now = ends (failed_with e) })) (one (record J { now = ends (failed_with e) })) no_more (λ z. no_more) m refl given (λ z e. absurd (none_some z e))
-  second_last _ (stopped J spent l) m given =
-      turn_end (AreWaiting two one) (ends spent) (two (record J { now = ends spent })) (one (record J { now = ends spent })) no_more (λ z. no_more) m refl given (λ z e. absurd (none_some z e))
-  second_last _ (stopped J broken l) m given =
-      turn_end (AreWaiting two one) (ends broken) (two (record J { now = ends broken })) (one (record J { now = ends broken })) no_more (λ z. no_more) m refl given (λ z e. absurd (none_some z e))
-  second_last _ (busy J f s t below tk) m given = absurd (cc)
-
   abbrev ends_on : (World Body State → Option (Meaning Body State)) → World Body State → Option (Meaning Body State)
   ends_on goes W = at_end W.now W goes
 
+  -- one of the two worlds
+  record IsSide (side : Joint → World Body State) (system : System Body State) : Type 0 where
+    now : (J : Joint) → (side J).now ≡ J.now
+    printed : (J : Joint) → (side J).printed ≡ J.printed
+    handed_so : (J : Joint) (line : List ℕ) → handed_line system (primitives builds) (side J) line budget ≡ side (handed J line)
+
+  is_first : IsSide one first_form
+  is_first = record { now = λ J. refl; printed = λ J. refl; handed_so = λ J line. refl }
+
+  is_second : IsSide two second_form
+  is_second = record { now = λ J. refl; printed = λ J. refl; handed_so = λ J line. refl }
+
+  module _ {side other : Joint → World Body State} {system to : System Body State} (s : IsSide side system) (o : IsSide other to)
+      (turns : (k : ℕ) (J : Joint) → Stands J → has_ended (some_ticks builds system k (side J)).now ≡ true → Turn (some_ticks builds system k (side J)) side other to (other J)) where
+    same_printed : (J : Joint) → (side J).printed ≡ (other J).printed
+    same_printed J = s.printed J ∙ sym (o.printed J)
+
+    -- a turn's end on both sides; `on` is how the other one goes on
+    ends_alike : (goes : World Body State → Option (Meaning Body State)) (on : ℕ → World Body State → Option (Meaning Body State)) (J : Joint) → Stands J → (m : Meaning Body State) → at_end J.now (side J) goes ≡ Some m
+        → ((K : Joint) → Quiet K → (y : Meaning Body State) → goes (side K) ≡ Some y → Later (AreWaiting side other) y (λ z. on z (other K))) → Later (AreWaiting side other) m (λ z. at_end J.now (other J) (on z))
+    ends_alike goes on _ (quiet J q) m given more = turn_end (AreWaiting side other) J.now (side J) (other J) goes on m (same_printed J) given (more J q)
+    ends_alike goes on _ (stopped J (yielded vs) l) m given more = absurd l
+    ends_alike goes on _ (stopped J w l) m given more =
+        let K : Joint = record J { now = ends w } in
+        turn_end (AreWaiting side other) (ends w) (side K) (other K) no_more (λ z. no_more) m (same_printed K) given (λ y e. absurd (none_some y e))
+    ends_alike goes on _ (busy J f a b below tk) m given more = absurd (cc)
+
+    turn_alike : (k : ℕ) (goes : World Body State → Option (Meaning Body State)) (on : ℕ → World Body State → Option (Meaning Body State)) (J : Joint) → Stands J → (m : Meaning Body State)
+        → ends_on goes (some_ticks builds system k (side J)) ≡ Some m
+        → ((K : Joint) → Quiet K → (y : Meaning Body State) → goes (side K) ≡ Some y → Later (AreWaiting side other) y (λ z. on z (other K))) → Later (AreWaiting side other) m (λ z. ends_on (on z) (some_ticks builds to z (other J)))
+    turn_alike k goes on J st m given more =
+        let t = turns k J st (gives_ended (some_ticks builds system k (side J)).now (some_ticks builds system k (side J)) goes m given) in
+        let K = t.there in
+        let l = ends_alike goes on K t.stands m (subst (λ n. at_end n (side K) goes ≡ Some m) (s.now K) (subst (λ U. ends_on goes U ≡ Some m) t.same given)) more in
+        later_on (AreWaiting side other) m t.count (subst (λ n. Later (AreWaiting side other) m (λ z. at_end n (other K) (on z))) (sym (o.now K)) l) (λ z within. ap (ends_on (on z)) (t.gives z within))
+
+    runs_so : (k : ℕ) (input : List (List ℕ)) → OnLines side other system to k input
+    runs_so k [] J st m given = turn_alike k suspends (λ z. suspends) J st m given (λ K q y e. suspends_out (AreWaiting side other) (side K) (other K) (record { joint = K; waits = q; is = refl; is_too = refl }) y e)
+    runs_so k (line ∷ input) J st m given =
+        turn_alike k (λ U. run_from system (primitives builds) k (handed_line system (primitives builds) U line budget) input budget) (λ z U. run_from to (primitives builds) z (handed_line to (primitives builds) U line budget) input budget) J st m given
+        (λ K q y e.
+        subst (λ (X : World Body State). Later (AreWaiting side other) y (λ z. run_from to (primitives builds) z X input budget)) (sym (o.handed_so K line))
+        (runs_so k input (handed K line) (quiet (handed K line) q) y (subst (λ (X : World Body State). run_from system (primitives builds) k X input budget ≡ Some y) (s.handed_so K line) e)))
+
   pub first_runs : (k : ℕ) (input : List (List ℕ)) → OnLines one two first_form second_form k input
-  first_runs k [] J st m given =
-      let t = first_turn k J st (gives_ended (some_ticks builds first_form k (one J)).now (some_ticks builds first_form k (one J)) suspends m given) in
-      let K = t.there in
-      let l = first_last K t.stands m (subst (λ U. ends_on suspends U ≡ Some m) t.same given) in
-      later_on (AreWaiting one two) m t.count l (λ z within. ap (ends_on suspends) (t.gives z within))
-  first_runs k (line ∷ input) J st m given =
-      let goes = λ (U : World Body State). run_from first_form (primitives builds) k (handed_line first_form (primitives builds) U line budget) input budget in
-      let on = λ (z : ℕ) (U : World Body State). run_from second_form (primitives builds) z (handed_line second_form (primitives builds) U line budget) input budget in
-      let t = first_turn k J st (gives_ended (some_ticks builds first_form k (one J)).now (some_ticks builds first_form k (one J)) goes m given) in
-      let l = first_end k line input t.there t.stands m (subst (λ U. ends_on goes U ≡ Some m) t.same given) (first_runs k input) in
-      later_on (AreWaiting one two) m t.count l (λ z within. ap (ends_on (on z)) (t.gives z within))
+  first_runs k input = runs_so is_first is_second first_turn k input
 
   pub second_runs : (k : ℕ) (input : List (List ℕ)) → OnLines two one second_form first_form k input
-  second_runs k [] J st m given =
-      let t = second_turn k J st (gives_ended (some_ticks builds second_form k (two J)).now (some_ticks builds second_form k (two J)) suspends m given) in
-      let K = t.there in
-      let l = second_last K t.stands m (subst (λ U. ends_on suspends U ≡ Some m) t.same given) in
-      later_on (AreWaiting two one) m t.count l (λ z within. ap (ends_on suspends) (t.gives z within))
-  second_runs k (line ∷ input) J st m given =
-      let goes = λ (U : World Body State). run_from second_form (primitives builds) k (handed_line second_form (primitives builds) U line budget) input budget in
-      let on = λ (z : ℕ) (U : World Body State). run_from first_form (primitives builds) z (handed_line first_form (primitives builds) U line budget) input budget in
-      let t = second_turn k J st (gives_ended (some_ticks builds second_form k (two J)).now (some_ticks builds second_form k (two J)) goes m given) in
-      let l = second_end k line input t.there t.stands m (subst (λ U. ends_on goes U ≡ Some m) t.same given) (second_runs k input) in
-      later_on (AreWaiting two one) m t.count l (λ z within. ap (ends_on (on z)) (t.gives z within))
+  second_runs k input = runs_so is_second is_first second_turn k input
 
   -- the first form goes on as the second one does, with whatever budget both were suspended
   pub second_onward : (k : ℕ) (input : List (List ℕ)) (U V : World Body State) → AreWaiting two one U V → (m : Meaning Body State) → onward second_form (primitives builds) k U input budget ≡ Some m
