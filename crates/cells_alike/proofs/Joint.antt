@@ -1,5 +1,5 @@
 -- Two worlds at once, one in each form of cells: what both share stands once, and each of the two is made of it by a function.
-use Rattle.std.proofs.Common.{◌≡◌, ℕ, Bool, List, [], ◌∷◌, length, Option, Some}
+use Rattle.std.proofs.Common.{◌≡◌, ℕ, Bool, List, [], ◌∷◌, length, Option, Some, refl}
 use Rattle.std.specs.Prelude.{slice_get, map}
 use Rattle.int_core.specs.Value.{Value}
 use Rattle.int_core.specs.Heap.{Heap}
@@ -234,3 +234,6 @@ pub record Both (X Y : World Body State) : Type 0 where
   pub same : X ≡ one there
   pub same_too : Y ≡ two there
   pub stands : Stands there
+
+pub both_of : (J : Joint) → Stands J → Both (one J) (two J)
+both_of J st = record { there = J; same = refl; same_too = refl; stands = st }

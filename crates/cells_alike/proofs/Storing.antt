@@ -96,6 +96,20 @@ base_pass_any S T fs cs chain p b = record {
 pub waits_any : (S T : Store) (o : Place) (w : Waiting) → Passes S T IsAny → WaitsAt S o w → WaitsAt T o w
 waits_any S T o w p a = waits_pass S T IsAny o w p tt a
 
+-- other values in as many cells
+same_cells : (S : Store) (cells too : List Value) → IsStore S → length cells ≡ length S.cells → length too ≡ length S.cells_too → IsStore (record S { cells = cells; cells_too = too })
+same_cells S cells too s size size_too = record {
+  are = record {
+    one_way = s.are.one_way;
+    other_way = s.are.other_way;
+    there = λ c d h. let l = s.are.there c d h in omega (arith, l, size);
+    there_too = λ c d h. let l = s.are.there_too c d h in omega (arith, l, size_too);
+    own_there = λ c m. absurd m;
+  };
+  count = s.count ∙ sym size;
+  lowest = s.lowest;
+}
+
 -- asks carry values into own cells
 
 abbrev pub flushed : Store → (shared also : List (ℕ × Value)) → Store
@@ -108,24 +122,12 @@ not_carried S p o own shared c owned carries at other v h = other (some_same o p
 
 pub flush_pass : (S : Store) (p : Place) (own : List ℕ) (shared also : List (ℕ × Value)) → IsStore S → OwnedAt S p own → CarriesOwn (cells_for S own) shared
     → Passes S (flushed S shared also) (IsOther p)
-flush_pass S p own shared also s owned carries =
-    let size = in_size shared S.cells in
-    let size_too = in_size also S.cells_too in record {
-      store = record {
-        are = record {
-          one_way = s.are.one_way;
-          other_way = s.are.other_way;
-          there = λ c d h. let l = s.are.there c d h in omega (arith, l, size);
-          there_too = λ c d h. let l = s.are.there_too c d h in omega (arith, l, size_too);
-          own_there = λ c m. absurd m;
-        };
-        count = s.count ∙ sym size;
-        lowest = s.lowest;
-      };
-      more = λ c d h. h;
-      owners = λ c o e. e;
-      still = λ c o e other u. (u, in_other shared S.cells c (not_carried S p o own shared c owned carries e other));
-    }
+flush_pass S p own shared also s owned carries = record {
+  store = same_cells S (shared_in shared S.cells) (shared_in also S.cells_too) s (in_size shared S.cells) (in_size also S.cells_too);
+  more = λ c d h. h;
+  owners = λ c o e. e;
+  still = λ c o e other u. (u, in_other shared S.cells c (not_carried S p o own shared c owned carries e other));
+}
 
 -- a cell that is a pair is written
 
@@ -133,24 +135,12 @@ abbrev pub written : Store → (c d : ℕ) → Value → Store
 written S c d v = record S { cells = slice_set S.cells c v; cells_too = slice_set S.cells_too d v }
 
 pub write_pass : (S : Store) (c d : ℕ) (v : Value) → IsStore S → Has c d S.pairs → Passes S (written S c d v) IsAny
-write_pass S c d v s h =
-    let size = set_size c v S.cells in
-    let size_too = set_size d v S.cells_too in record {
-      store = record {
-        are = record {
-          one_way = s.are.one_way;
-          other_way = s.are.other_way;
-          there = λ x y k. let l = s.are.there x y k in omega (arith, l, size);
-          there_too = λ x y k. let l = s.are.there_too x y k in omega (arith, l, size_too);
-          own_there = λ x m. absurd m;
-        };
-        count = s.count ∙ sym size;
-        lowest = s.lowest;
-      };
-      more = λ x y k. k;
-      owners = λ x o e. e;
-      still = λ x o e is u. (u, nth_set_other c v S.cells x (λ z. u d (subst (λ w. Has w d S.pairs) (sym z) h)));
-    }
+write_pass S c d v s h = record {
+  store = same_cells S (slice_set S.cells c v) (slice_set S.cells_too d v) s (set_size c v S.cells) (set_size d v S.cells_too);
+  more = λ x y k. k;
+  owners = λ x o e. e;
+  still = λ x o e is u. (u, nth_set_other c v S.cells x (λ z. u d (subst (λ w. Has w d S.pairs) (sym z) h)));
+}
 
 pub write_even : (S : Store) (c d : ℕ) (v : Value) → IsStore S → Has c d S.pairs → AreEven (cells_for S []) → AreEven (cells_for (written S c d v) [])
 write_even S c d v s h even x y k = ⊎_elim

@@ -24,7 +24,7 @@ use Rattle.meaning_cells.specs.Alike.{Member, Pairs, Cells, AreEven, Onward, Ans
 use Rattle.meaning_cells.proofs.Relation.{Rel, same, early, steps_behind}
 use Rattle.meaning_cells.proofs.Lists.{in_size}
 use Rattle.meaning_cells.proofs.Steps.{Behind, early_like, same_like}
-use Rattle.cells_alike.proofs.Joint.{Made, Waiting, Layer, is_talking, is_waiting, is_raising, is_protected, is_handled, is_handling, is_closing, Thread, is_fresh, Joint, function_one, function_two, frame_one, frame_two, coroutine_one, coroutine_two, one, two, cells_for, OwnedAt, LayersAt, layers_in, head, Quiet, TalksIn, talking_in, Stands, quiet, stopped, busy, Both}
+use Rattle.cells_alike.proofs.Joint.{Made, Waiting, Layer, is_talking, is_waiting, is_raising, is_protected, is_handled, is_handling, is_closing, Thread, is_fresh, Joint, function_one, function_two, frame_one, frame_two, coroutine_one, coroutine_two, one, two, cells_for, OwnedAt, LayersAt, layers_in, head, Quiet, TalksIn, talking_in, Stands, quiet, stopped, busy, Both, both_of}
 use Rattle.cells_alike.proofs.Moving.{more_map, get_more, where_same, either_by, stay_both, now_both, breaks_both, raises_both, yields_both}
 use Rattle.cells_alike.proofs.Answering.{first_form, second_form, calls_over_both, handed_both, raised_both, unwound_both, resumes_both, closes_both}
 use Rattle.cells_alike.proofs.Storing.{IsOther, cells_with, layers_pass, place_below, base_pass, flushed, flush_pass, rel_cells, opened_early, opened_late, opened_both, owned_more, early_pass, late_pass, both_pass}
@@ -191,8 +191,8 @@ module _ (J : Joint) (f : ℕ) (s t : State) (below : List Layer) (tk : TalksIn 
   goes_both u v like = busy J f u v below (record { base = tk.base; own = tk.own; owned = tk.owned; like = like; layers = tk.layers })
 
   moves_both : (l : Bool) (x y : Next Body State) → Moves Rel (cells_for J.store tk.own) x y → both_turn l x y
-  moves_both true (goes_on u) (goes_on v) m = record { there = talking_in J f u v below; same = refl; same_too = refl; stands = goes_both u v m }
-  moves_both false (goes_on u) (goes_on v) m = record { there = talking_in J f u v below; same = refl; same_too = refl; stands = goes_both u v m }
+  moves_both true (goes_on u) (goes_on v) m = both_of (talking_in J f u v below) (goes_both u v m)
+  moves_both false (goes_on u) (goes_on v) m = both_of (talking_in J f u v below) (goes_both u v m)
   moves_both true (says q line shared k) (says r other also h) m =
       subst (λ z. both_turn true (says q line shared k) (says r z also h)) m.1 (asks_both q r line shared also k h m.0 m.2 m.3 m.4)
   moves_both false (says q line shared k) (says r other also h) m =
@@ -222,10 +222,10 @@ module _ (J : Joint) (f : ℕ) (s t : State) (below : List Layer) (tk : TalksIn 
   second_opens_both : (l : Bool) (x y : Next Body State) → SecondOpens Rel (cells_for J.store tk.own) x y → both_turn l x y
   second_opens_both true (goes_on u) (says (opens w) line also h) m =
       let b = opened_once also J.store.cells_too in
-      record { there = talking_in (record J { store = opened_late J.store m.0 b.cell also w }) f u (h b) below; same = refl; same_too = refl; stands = late_stands u (h b) m.0 b.cell also w m.1 (m.3 b refl refl) }
+      both_of (talking_in (record J { store = opened_late J.store m.0 b.cell also w }) f u (h b) below) (late_stands u (h b) m.0 b.cell also w m.1 (m.3 b refl refl))
   second_opens_both false (goes_on u) (says (opens w) line also h) m =
       let b = opened_once also J.store.cells_too in
-      record { there = talking_in (record J { store = opened_late J.store m.0 b.cell also w }) f u (h b) below; same = refl; same_too = refl; stands = late_stands u (h b) m.0 b.cell also w m.1 (m.3 b refl refl) }
+      both_of (talking_in (record J { store = opened_late J.store m.0 b.cell also w }) f u (h b) below) (late_stands u (h b) m.0 b.cell also w m.1 (m.3 b refl refl))
   second_opens_both l x y m = absurd m
 
   new_is : (shared : List (ℕ × Value)) → new_cell shared J.store.cells ≡ length J.store.owners
@@ -248,21 +248,13 @@ module _ (J : Joint) (f : ℕ) (s t : State) (below : List Layer) (tk : TalksIn 
   both_open_both true (says (opens w) line shared k) (says (opens z) other also h) m =
       let a = opened_once shared J.store.cells in
       let b = opened_once also J.store.cells_too in
-      record {
-        there = talking_in (record J { store = opened_both J.store place a.cell b.cell shared also w z }) f (k a) (h b) below;
-        same = refl;
-        same_too = refl;
-        stands = both_stands (k a) (h b) a.cell b.cell shared also w z m.2 (new_is shared) (m.3 a b refl refl refl refl);
-      }
+      both_of (talking_in (record J { store = opened_both J.store place a.cell b.cell shared also w z }) f (k a) (h b) below)
+      (both_stands (k a) (h b) a.cell b.cell shared also w z m.2 (new_is shared) (m.3 a b refl refl refl refl))
   both_open_both false (says (opens w) line shared k) (says (opens z) other also h) m =
       let a = opened_once shared J.store.cells in
       let b = opened_once also J.store.cells_too in
-      record {
-        there = talking_in (record J { store = opened_both J.store place a.cell b.cell shared also w z }) f (k a) (h b) below;
-        same = refl;
-        same_too = refl;
-        stands = both_stands (k a) (h b) a.cell b.cell shared also w z m.2 (new_is shared) (m.3 a b refl refl refl refl);
-      }
+      both_of (talking_in (record J { store = opened_both J.store place a.cell b.cell shared also w z }) f (k a) (h b) below)
+      (both_stands (k a) (h b) a.cell b.cell shared also w z m.2 (new_is shared) (m.3 a b refl refl refl refl))
   both_open_both l x y m = absurd m
 
 -- how many steps the first world is behind at most
