@@ -11,7 +11,7 @@ use Rattle.int_core.specs.Value.{Value, Shape}
 use Rattle.machine_core.specs.World.{World, Wait, running, for_call, for_iterator, for_value, for_truth, dropped, for_concat, for_close, returning, leaving}
 use Rattle.machine_core.specs.Text.{Arg, read, Own, Text, trap, raise, own, open_cell, quick, read_upvalue, write_upvalue, make_table, make_function, fill_table, pay, go_by, operate, call, tail_call, close, closable, leave, results, thrown}
 use Rattle.machine_core.specs.InstructionRows.{value_comes, rest, rest_by, rest_at, is_true, joins, write_values, to_register, to_register_before, closes, returns, fails}
-use Rattle.machine_core.specs.FrameRows.{goes_on_by, prepares, handed, handed_to, unwound, raises, closing_by, raised_row, raised_to, coroutine_fails, then, gives_up}
+use Rattle.machine_core.specs.FrameRows.{When, at_once, by_asking, expand_by, goes_on_by, prepares, handed, handed_to, unwound, raises, closing_by, raised_row, raised_to, coroutine_fails, then, gives_up}
 use Rattle.machine_core.specs.Moves.{Move, Told, move, give_with, Made, Ending, go, asks, SettledShape, is_found, is_asked, is_fault, TopShape, lua_top, pcall_top, xpcall_top, handler_top, closing_top, no_top, ClosingShape, one_left, all_closed, closed_with_error, Row, traps, stop, only, act, Outcome, trapped, ends, run}
 use Rattle.move_laws.proofs.Order.{is_spent}
 
@@ -36,17 +36,26 @@ never_spent (stop d) env W V e h q s = h (subst is_spent (sym (ap ending_in q)) 
 never_spent (only slot r) env W V e h q s = never_spent r (drop slot env) W V e h q s
 never_spent (act m k) env W V e h q s = by_move e m k env V (λ t vs U q. never_spent (k (length env) t) (env ++ vs) U V e (h (length env) t) q s) (move m env W) q
 
--- texts that pay for nothing, and end no frame by a call
+-- texts that pay for nothing, and end no frame by a call; where calls are done at once they ask for none
+
+abbrev pub IfAsked : When → Type 0 → Type 0
+IfAsked at_once A = ⊥
+IfAsked by_asking A = A
+
+abbrev pub PaysNone : When → Text → Type 0
+PaysNone when (own m k) = (n : ℕ) (s : Shape) → PaysNone when (k n s)
+PaysNone when (open_cell r t) = PaysNone when t
+PaysNone when (quick pay k) = ⊥
+PaysNone when (quick q k) = (n : ℕ) → PaysNone when (k n)
+PaysNone when (operate op xs wait prepared t) = IfAsked when (PaysNone when t)
+PaysNone when (call f slot wait prepared) = IfAsked when (Unit {0})
+PaysNone when (tail_call f slot) = ⊥
+PaysNone when (close v e wait prepared) = IfAsked when (Unit {0})
+PaysNone when (closable v name t) = PaysNone when t
+PaysNone when _ = Unit {0}
 
 abbrev pub IsFree : Text → Type 0
-IsFree (own m k) = (n : ℕ) (s : Shape) → IsFree (k n s)
-IsFree (open_cell r t) = IsFree t
-IsFree (quick pay k) = ⊥
-IsFree (quick q k) = (n : ℕ) → IsFree (k n)
-IsFree (operate op xs wait prepared t) = IsFree t
-IsFree (tail_call f slot) = ⊥
-IsFree (closable v name t) = IsFree t
-IsFree _ = Unit {0}
+IsFree t = PaysNone by_asking t
 
 prepares_never : (ms : List Own) (r : Row) → NeverSpends r → NeverSpends (prepares ms r)
 prepares_never [] r h = h
@@ -68,29 +77,30 @@ settled_never t wait prepared h n is_found = prepares_never prepared (only n (go
 settled_never t wait prepared h n is_asked = λ m u s. s
 settled_never t wait prepared h n (is_fault text) = prepares_never prepared (raises text) (raises_never text)
 
-closable_never : (t : Text) (name : List ℕ) → NeverSpends (goes_on_by t) → (n : ℕ) (b : Bool) → NeverSpends (cond b (goes_on_by t) (raises (codes "variable '" ++ name ++ codes "' got a non-closable value")))
-closable_never t name h n true = h
-closable_never t name h n false = raises_never (codes "variable '" ++ name ++ codes "' got a non-closable value")
+closable_never : (r : Row) (name : List ℕ) → NeverSpends r → (n : ℕ) (b : Bool) → NeverSpends (cond b r (raises (codes "variable '" ++ name ++ codes "' got a non-closable value")))
+closable_never r name h n true = h
+closable_never r name h n false = raises_never (codes "variable '" ++ name ++ codes "' got a non-closable value")
 
-pub free_never : (t : Text) → IsFree t → NeverSpends (goes_on_by t)
-free_never (go_by z) h = λ n t s. s
-free_never (own m k) h = λ n s. free_never (k n s) (h n s)
-free_never (open_cell r t) h = λ n s. free_never t h
-free_never (quick (read_upvalue u) k) h = λ n b. free_never (k n) (h n)
-free_never (quick (write_upvalue u x) k) h = λ n b. free_never (k n) (h n)
-free_never (quick make_table k) h = λ n b. free_never (k n) (h n)
-free_never (quick (make_function m) k) h = λ n b. free_never (k n) (h n)
-free_never (quick (fill_table x last slot) k) h = λ n b. free_never (k n) (h n)
-free_never (quick pay k) h = absurd h
-free_never (operate op xs wait prepared t) h = settled_never t wait prepared (free_never t h)
-free_never (call f slot wait prepared) h = λ n t s. s
-free_never (tail_call f slot) h = absurd h
-free_never (close v e wait prepared) h = λ n t m u s. s
-free_never (closable v name t) h = closable_never t name (free_never t h)
-free_never (raise text) h = raises_never text
-free_never (leave (results slot)) h = λ n top. handed_never top
-free_never (leave (thrown x)) h = λ n top s. s
-free_never trap h = tt
+pub none_paid : (when : When) (t : Text) → PaysNone when t → NeverSpends (expand_by when t)
+none_paid when (go_by z) h = λ n t s. s
+none_paid when (own m k) h = λ n s. none_paid when (k n s) (h n s)
+none_paid when (open_cell r t) h = λ n s. none_paid when t h
+none_paid when (quick (read_upvalue u) k) h = λ n b. none_paid when (k n) (h n)
+none_paid when (quick (write_upvalue u x) k) h = λ n b. none_paid when (k n) (h n)
+none_paid when (quick make_table k) h = λ n b. none_paid when (k n) (h n)
+none_paid when (quick (make_function m) k) h = λ n b. none_paid when (k n) (h n)
+none_paid when (quick (fill_table x last slot) k) h = λ n b. none_paid when (k n) (h n)
+none_paid when (quick pay k) h = absurd h
+none_paid by_asking (operate op xs wait prepared t) h = settled_never t wait prepared (none_paid by_asking t h)
+none_paid by_asking (call f slot wait prepared) h = λ n t s. s
+none_paid when (tail_call f slot) h = absurd h
+none_paid by_asking (close v e wait prepared) h = λ n t m u s. s
+none_paid when (closable v name t) h = closable_never (expand_by when t) name (none_paid when t h)
+none_paid when (raise text) h = raises_never text
+none_paid when (leave (results slot)) h = λ n top. handed_never top
+none_paid when (leave (thrown x)) h = λ n top s. s
+none_paid when trap h = tt
+none_paid at_once _ h = absurd h
 
 -- what is left of an instruction
 
@@ -172,7 +182,7 @@ coroutine_fails_never : NeverSpends coroutine_fails
 coroutine_fails_never = λ e t n u m w. hand_over_never
 
 pub unwound_never : (top : TopShape) → NeverSpends (unwound top)
-unwound_never lua_top = λ n t. free_never fails fails_free
+unwound_never lua_top = λ n t. none_paid by_asking fails fails_free
 unwound_never pcall_top = λ e t n u m w. hand_over_never
 unwound_never xpcall_top = λ e t n u m w. hand_over_never
 unwound_never handler_top = λ n t m u s. s

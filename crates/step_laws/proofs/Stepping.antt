@@ -8,7 +8,7 @@ use Rattle.code_core.specs.Instruction.{opcode_of}
 use Rattle.machine_core.specs.World.{LuaFrame, Stack, stack_of, Place, place_of, World, Wait, running}
 use Rattle.machine_core.specs.Text.{Text, trap}
 use Rattle.machine_core.specs.InstructionRows.{text_at, text_by, rest_at, rest_by, told_values}
-use Rattle.machine_core.specs.FrameRows.{expand, goes_on_by, asked_row, raised_row, unwound, handed_to, results_row, unwinding_row}
+use Rattle.machine_core.specs.FrameRows.{at_once, by_asking, expand, goes_on_by, asked_row, raised_row, unwound, handed_to, results_row, unwinding_row}
 use Rattle.machine_core.specs.Moves.{Ending, go, spent, main_yielded, main_returned, main_failed, see_top, Row, act, Outcome, trapped, run}
 use Rattle.machine_core.specs.MachineStep.{woken, lua_step, top_step, from_world}
 use Rattle.machine_sound.specs.Sound.{Solid, StackWaits}
@@ -29,8 +29,8 @@ use Rattle.move_laws.proofs.Places.{place_is}
 use Rattle.move_laws.proofs.Rows.{first, safe_after}
 use Rattle.step_laws.specs.Steps.{Does, RunsAt, HasForm}
 use Rattle.step_laws.specs.Law.{InstructionIsSafe, InstructionIsStep, AnswerIsSafe, AnswerIsStep, AnswerHasForm, ReturnedIsSafe, ReturnedIsStep, UnwindingIsSafe, UnwindingIsStep, ResultsAreSafe, ResultsAreStep, ErrorIsSafe, ErrorIsStep, RaisedIsSafe, RaisedIsStep, AskedIsSafe, AskedIsStep, PrimitiveIsSafe, PrimitiveIsStep, EndStays}
-use Rattle.step_laws.proofs.Unpaid.{IsUnpaid, unpaid_never}
-use Rattle.step_laws.proofs.Free.{never_spent, free_never, rest_at_free, handed_to_never, unwound_never, raised_never}
+use Rattle.step_laws.proofs.Unpaid.{IsUnpaid}
+use Rattle.step_laws.proofs.Free.{never_spent, none_paid, rest_at_free, handed_to_never, unwound_never, raised_never}
 use Rattle.step_laws.proofs.Ready.{solid_by, sound_by, waits_by}
 
 -- the step of the Lua frame on top
@@ -71,7 +71,7 @@ pub unpaid_is_step : (rows : ℕ → Row) (old new : Memory) (fuel : ℕ) (to : 
     → IsUnpaid (text_of k.place.function.code k.place.top.own.pc form) → Leads (expand (text_of k.place.function.code k.place.top.own.pc form)) [] old new to → Does rows go old fuel new fuel to
 unpaid_is_step rows old new fuel to form k f u l =
     let t = text_of k.place.function.code k.place.top.own.pc form in
-    instruction_is_step rows old new fuel fuel to form k f (steps_of fuel (never_spent (expand t) [] (plain old 0) (plain new 0) to (unpaid_never t u) (l.is 0)) l)
+    instruction_is_step rows old new fuel fuel to form k f (steps_of fuel (never_spent (expand t) [] (plain old 0) (plain new 0) to (none_paid at_once t u) (l.is 0)) l)
 
 -- a frame that goes on with what came
 
@@ -99,7 +99,7 @@ answer_is_step rows old awake new fuel to k w l = record {
   is =
       let W = plain old fuel in
       let p = k.place in
-      let free = never_spent (answer_row p) (answer_of old p) (plain awake 0) (plain new 0) to (free_never (rest_at p.top.wait p.function.code p.top.own.pc) (rest_at_free p.top.wait p.function.code p.top.own.pc)) (l.is 0) in
+      let free = never_spent (answer_row p) (answer_of old p) (plain awake 0) (plain new 0) to (none_paid by_asking (rest_at p.top.wait p.function.code p.top.own.pc) (rest_at_free p.top.wait p.function.code p.top.own.pc)) (l.is 0) in
       ap (λ o. from_world W (elim o as (λ _. Outcome) [ None ↦ trapped | Some o ↦ o ])) (frame_step_is W p k.is)
       ∙ ap (from_world W) (waiting_step_is W p.stack p.top p.function.code p.top.wait k.waits)
       ∙ ap (λ V. from_world W (run (answer_row p) (answer_of old p) V)) (sym (w.plain fuel))

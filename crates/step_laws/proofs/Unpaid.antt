@@ -1,53 +1,24 @@
 -- Rows of instructions that pay for nothing.
-use Rattle.std.proofs.Common.{ℕ, zero, suc, ◌+◌, ◌++◌, [], ◌∷◌, Option, Some, None, Bool, true, false, cond}
-use Rattle.std.specs.Prelude.{ℤ, pos, codes, List, ◌*◌}
+use Rattle.std.proofs.Common.{ℕ, zero, suc, ◌+◌, [], ◌∷◌, Option, Some, None, Bool, true, false, cond}
+use Rattle.std.specs.Prelude.{ℤ, pos, List, ◌*◌}
 use Rattle.code_core.specs.declared.proto.UpDesc.{UpDesc}
 use Rattle.code_core.specs.Prototype.{Prototype}
 use Rattle.code_core.specs.Check.{extra_at}
 use Rattle.int_core.specs.Operations.{Event, computed, by_zero}
 use Rattle.int_core.specs.Value.{Shape, is_object, a_table, integer, holds, same_integer}
-use Rattle.machine_core.specs.Text.{read, written, write_register, mark_pending, Text, trap, raise, own, open_cell, quick, read_upvalue, write_upvalue, make_table, make_function, fill_table, pay, go_by, operate, call, tail_call, close, closable, leave, results, thrown}
+use Rattle.machine_core.specs.Text.{read, written, write_register, mark_pending, Text, trap, raise, open_cell, quick, make_function, go_by, closable}
 use Rattle.machine_core.specs.InstructionRows.{next, skip, then, fast, integer_of_shape, prepares, runs, rounds, starts, writes_integer, write_values, variable_name, opens, fills_each, fills_from, to_register, upvalues_of_inner, with_extra}
-use Rattle.machine_core.specs.FrameRows.{expand, raises}
+use Rattle.machine_core.specs.FrameRows.{at_once}
 use Rattle.instruction_forms.specs.declared.operand.Operand.{Operand}
 use Rattle.instruction_forms.specs.declared.operand.Operand.TheVariants.{Register, Constant, Upvalue, Integer, Truth}
 use Rattle.instruction_forms.specs.declared.operand.Operator.{Operator}
 use Rattle.instruction_forms.specs.declared.form.Form.TheVariants.{Arithmetic, ExtraArguments, FillTable, Mark, NewFunction, StartLoop}
 use Rattle.instruction_forms.specs.Forms.{event_of, fills_behind, fills_registers, text_of, with_integer}
-use Rattle.step_laws.proofs.Free.{NeverSpends, handed_never, raises_never}
+use Rattle.step_laws.proofs.Free.{PaysNone}
 
 -- texts that pay for nothing, and ask for no call
 abbrev pub IsUnpaid : Text → Type 0
-IsUnpaid (own m k) = (n : ℕ) (s : Shape) → IsUnpaid (k n s)
-IsUnpaid (open_cell r t) = IsUnpaid t
-IsUnpaid (quick pay k) = ⊥
-IsUnpaid (quick q k) = (n : ℕ) → IsUnpaid (k n)
-IsUnpaid (operate op xs wait prepared t) = ⊥
-IsUnpaid (call f slot wait prepared) = ⊥
-IsUnpaid (tail_call f slot) = ⊥
-IsUnpaid (close v e wait prepared) = ⊥
-IsUnpaid (closable v name t) = IsUnpaid t
-IsUnpaid _ = Unit {0}
-
-closable_never : (t : Text) (name : List ℕ) → NeverSpends (expand t) → (n : ℕ) (b : Bool) → NeverSpends (cond b (expand t) (raises (codes "variable '" ++ name ++ codes "' got a non-closable value")))
-closable_never t name h n true = h
-closable_never t name h n false = raises_never (codes "variable '" ++ name ++ codes "' got a non-closable value")
-
-pub unpaid_never : (t : Text) → IsUnpaid t → NeverSpends (expand t)
-unpaid_never (go_by z) h = λ n t s. s
-unpaid_never (own m k) h = λ n s. unpaid_never (k n s) (h n s)
-unpaid_never (open_cell r t) h = λ n s. unpaid_never t h
-unpaid_never (quick (read_upvalue u) k) h = λ n b. unpaid_never (k n) (h n)
-unpaid_never (quick (write_upvalue u x) k) h = λ n b. unpaid_never (k n) (h n)
-unpaid_never (quick make_table k) h = λ n b. unpaid_never (k n) (h n)
-unpaid_never (quick (make_function m) k) h = λ n b. unpaid_never (k n) (h n)
-unpaid_never (quick (fill_table x last slot) k) h = λ n b. unpaid_never (k n) (h n)
-unpaid_never (closable v name t) h = closable_never t name (unpaid_never t h)
-unpaid_never (raise text) h = raises_never text
-unpaid_never (leave (results slot)) h = λ n top. handed_never top
-unpaid_never (leave (thrown x)) h = λ n top s. s
-unpaid_never trap h = tt
-unpaid_never _ h = absurd h
+IsUnpaid t = PaysNone at_once t
 
 -- the forms that are so
 
