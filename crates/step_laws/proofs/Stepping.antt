@@ -49,10 +49,9 @@ text_is W form k f =
 pub instruction_is_safe : InstructionIsSafe
 instruction_is_safe W form k s f = record {
   never = λ fuel e.
-      let n = s.primitives in
-      let b = sound_by n W 0 fuel s.sound in
-      let g = running_text_good n (plain W fuel) k.place b.solid (settles n (plain W fuel) k.place b k.is) k.is k.running in
-      subst (Good n) (ap (λ t. run (expand t) [] (plain W fuel)) (text_is W form k f) ∙ e) g;
+      let b = sound_by s.primitives W 0 fuel s.sound in
+      let g = running_text_good s.primitives (plain W fuel) k.place b.solid (settles s.primitives (plain W fuel) k.place b k.is) k.is k.running in
+      subst (Good s.primitives) (ap (λ t. run (expand t) [] (plain W fuel)) (text_is W form k f) ∙ e) g;
 }
 
 pub instruction_is_step : InstructionIsStep
@@ -84,10 +83,9 @@ answer_of W p = told_values p.top.wait (values (map (value W.strings) W.moving.i
 pub answer_is_safe : AnswerIsSafe
 answer_is_safe old woken k s w = record {
   never = λ fuel e.
-      let n = s.primitives in
-      let b = sound_by n old 0 fuel s.sound in
-      let g = waiting_text_good n (plain old fuel) k.place b.solid (settles n (plain old fuel) k.place b k.is) k.is k.waits in
-      subst (Good n) (ap (run (answer_row k.place) (answer_of old k.place)) (sym (w.plain fuel)) ∙ e) g;
+      let b = sound_by s.primitives old 0 fuel s.sound in
+      let g = waiting_text_good s.primitives (plain old fuel) k.place b.solid (settles s.primitives (plain old fuel) k.place b k.is) k.is k.waits in
+      subst (Good s.primitives) (ap (run (answer_row k.place) (answer_of old k.place)) (sym (w.plain fuel)) ∙ e) g;
 }
 
 waiting_step_is : (W : World) (s : Stack) (f : LuaFrame) (p : Prototype) (wait : Wait Value) → (wait ≡ running → ⊥) → lua_step W s f p wait ≡ run (goes_on_by (rest_at wait p f.own.pc)) (told_values wait (values W.moving)) (woken W s f)
