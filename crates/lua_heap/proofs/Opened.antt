@@ -2,6 +2,7 @@
 use Rattle.std.proofs.Common.{ℕ, zero, suc, [], ◌∷◌, None, refl, subst, arith, lit≤}
 use Rattle.int_core.specs.Heap.{Table}
 use Rattle.machine_sound.specs.Sound.{Sizes, Each, TableOk, Sound, idle}
+use Rattle.machine_sound.proofs.Chains.{chain_none}
 use Rattle.list_laws.proofs.Items.{some_same}
 use Rattle.lua_heap.specs.Opening.{opened_world}
 
@@ -24,15 +25,7 @@ opened_sound primitives fuel = record {
     cells = λ i c e. absurd (cc);
     one_each = λ i j co frame register e f. absurd (cc);
     coroutines = λ i c e. absurd (cc);
-    chain = record {
-      first = λ co e. absurd (cc);
-      last_runs = λ i co e l. absurd (cc);
-      before = λ i co e l. absurd (cc);
-      running_in = λ co e. absurd (cc);
-      normal_in = λ co e. absurd (cc);
-      once = λ i j co e f. absurd (cc);
-      bound = lit≤ tt;
-    };
+    chain = chain_none None [] (λ co e. cc) (λ co e. cc);
     moving = λ i v e. absurd (cc);
     roots = record {
       string_metatable = tt;

@@ -1,5 +1,5 @@
 -- The world of the libraries is sound, and stays so where a script begins in it and lines are handed over.
-use Rattle.std.proofs.Common.{ℕ, zero, suc, ◌+◌, ◌<◌, ◌≤◌, ◌≡◌, List, [], ◌∷◌, ◌++◌, Some, refl, subst, sym, ap, length, map, filter, arith, Bool, true, false, cond, length-append}
+use Rattle.std.proofs.Common.{ℕ, zero, suc, ◌+◌, ◌<◌, ◌≤◌, ◌≡◌, List, [], ◌∷◌, ◌++◌, Some, None, refl, subst, sym, ap, length, map, filter, arith, Bool, true, false, cond, length-append}
 use Rattle.std.specs.Prelude.{slice_get, IsTrue, nat_le, nat_lt, codes, ◌&&◌}
 use Rattle.std.specs.List.{list_all, list_any}
 use Rattle.std.proofs.lemmas.List.{map-append}
@@ -14,7 +14,7 @@ use Rattle.machine_sound.specs.Sound.{Each, Sizes, sizes, Valid, TableOk, Functi
 use Rattle.machine_sound.proofs.Lists.{each_none, each_one, each_cons, each_tail, each_append, each_push, each_filter, each_on, get_push_old, get_push_new, get_front, each_eight}
 use Rattle.machine_sound.proofs.Values.{le_of, lt_of, both_of}
 use Rattle.machine_sound.proofs.Grow.{Grows, table_on, function_on, coroutine_on, valid_on}
-use Rattle.machine_sound.proofs.Chains.{chain_beside}
+use Rattle.machine_sound.proofs.Chains.{chain_none, chain_beside}
 use Rattle.machine_sound.proofs.Waits.{moving_solid}
 use Rattle.machine_sound.proofs.NewCoroutines.{coroutine_within}
 use Rattle.lua_meaning.specs.Libraries.{library_tables, plain_value, primitives_from, functions_from, primitive_values, constant_values, function_values, library_values, put_by_name, by_name, row_of_entry, table_of, is_in, library_table, is_named, first_of_each, environment, strings_meta}
@@ -191,15 +191,7 @@ opening_solid prelude p =
       cells = each_one (CellOk z []) (closed (object a_table 1)) (omega arith);
       one_each = λ i j co f r a b. absurd (no_open i co f r a);
       coroutines = each_none (CoroutineOk z);
-      chain = record {
-        first = λ co e. absurd (cc);
-        last_runs = λ i co e l. absurd (cc);
-        before = λ i co e l. absurd (cc);
-        running_in = λ co e. absurd (cc);
-        normal_in = λ co e. absurd (cc);
-        once = λ i j co a b. absurd (cc);
-        bound = omega arith;
-      };
+      chain = chain_none None [] (λ co e. cc) (λ co e. cc);
       moving = each_none (Valid z);
       roots = record {
         string_metatable = omega arith;

@@ -11,6 +11,18 @@ pub last_get : (ch : List ℕ) (r : ℕ) → last ch ≡ Some r → (slice_get c
 last_get [] r h = absurd (cc)
 last_get (x ∷ xs) r h = let e : length (x ∷ xs) - 1 ≡ length xs = omega arith in (rw e h, omega arith)
 
+-- none, where no coroutine runs or resumed another one
+pub chain_none : (main : Option ℕ) (st : List Standing) → ((co : ℕ) → slice_get st co ≡ Some runs → ⊥) → ((co : ℕ) → slice_get st co ≡ Some resumed_another → ⊥) → ChainOk main st []
+chain_none main st none_runs none_waits = record {
+  first = λ co e. absurd (cc);
+  last_runs = λ i co e l. absurd (cc);
+  before = λ i co e l. absurd (cc);
+  running_in = λ co e. absurd (none_runs co e);
+  normal_in = λ co e. absurd (none_waits co e);
+  once = λ i j co e l. absurd (cc);
+  bound = omega arith;
+}
+
 -- one more, which was in none of its places
 module _ (main : Option ℕ) (st : List Standing) (ch : List ℕ) (r n : ℕ) (h : ChainOk main st ch) (l : last ch ≡ Some r) (a : slice_get st r ≡ Some runs) (b : slice_get st n ≡ Some apart) (k : length ch ≤ greatest_resumes) where
   abbrev new : List Standing
@@ -120,19 +132,13 @@ module _ (main : Option ℕ) (st : List Standing) (ch : List ℕ) (co : ℕ) (h 
 
   -- there is none left
   pub chain_empty : ch ≡ [] → ChainOk main (slice_set st co apart) []
-  chain_empty e = record {
-    first = λ x q. absurd (cc);
-    last_runs = λ i x q l. absurd (cc);
-    before = λ i x q l. absurd (cc);
-    running_in = λ x q. ⊎_elim
-        (λ (p : x ≡ co). absurd (let c : Some apart ≡ Some runs = sym (ap (slice_get (slice_set st co apart)) p ∙ not_co) ∙ q in cc))
-        (λ p. absurd (no_other x p (sym (get_set_other st co x apart (λ e. p (sym e))) ∙ q))) (cases_eq x co);
-    normal_in = λ x q. ⊎_elim
-        (λ (p : x ≡ co). absurd (let c : Some apart ≡ Some resumed_another = sym (ap (slice_get (slice_set st co apart)) p ∙ not_co) ∙ q in cc))
-        (λ p. let y = within_front x p (sym (get_set_other st co x apart (λ e. p (sym e))) ∙ q) in absurd (let z : slice_get [] y.0 ≡ Some x = ap (λ l. slice_get l y.0) (sym e) ∙ y.1 in cc)) (cases_eq x co);
-    once = λ i j x q l. absurd (cc);
-    bound = omega arith;
-  }
+  chain_empty e = chain_none main (slice_set st co apart)
+      (λ x q. ⊎_elim
+      (λ (p : x ≡ co). let c : Some apart ≡ Some runs = sym (ap (slice_get (slice_set st co apart)) p ∙ not_co) ∙ q in cc)
+      (λ p. no_other x p (sym (get_set_other st co x apart (λ e. p (sym e))) ∙ q)) (cases_eq x co))
+      (λ x q. ⊎_elim
+      (λ (p : x ≡ co). let c : Some apart ≡ Some resumed_another = sym (ap (slice_get (slice_set st co apart)) p ∙ not_co) ∙ q in cc)
+      (λ p. let y = within_front x p (sym (get_set_other st co x apart (λ e. p (sym e))) ∙ q) in let z : slice_get [] y.0 ≡ Some x = ap (λ l. slice_get l y.0) (sym e) ∙ y.1 in cc) (cases_eq x co))
 
   -- the one before it runs again
   module _ (r : ℕ) (l : last ch ≡ Some r) where
