@@ -142,18 +142,10 @@ module _ (rows : ℕ → Row) where
       → CodeRun rows W (input ++ more) budget (behind x.printed y)
   run_cut W input more budget x y a suspended b =
       let n = a.count + b.count in
-      record {
-        count = n;
-        gives = cut_within n W input more budget x y (given_within a.count n W input budget x a.gives (omega arith)) suspended
-            (onward_within b.count n x.last more budget y b.gives (omega arith));
-      }
+      record { count = n; gives = cut_within n W input more budget x y (given_within a.count n W input budget x a.gives (omega arith)) suspended (onward_within b.count n x.last more budget y b.gives (omega arith)) }
 
   pub onward_run_cut : (W : World) (input more : List (List ℕ)) (budget : ℕ) (x y : Run) → CodeOnward rows W input budget x → x.close ≡ is_suspended → CodeOnward rows x.last more budget y
       → CodeOnward rows W (input ++ more) budget (behind x.printed y)
   onward_run_cut W input more budget x y a suspended b =
       let n = a.count + b.count in
-      record {
-        count = n;
-        gives = onward_cut n W input more budget x y (onward_within a.count n W input budget x a.gives (omega arith)) suspended
-            (onward_within b.count n x.last more budget y b.gives (omega arith));
-      }
+      record { count = n; gives = onward_cut n W input more budget x y (onward_within a.count n W input budget x a.gives (omega arith)) suspended (onward_within b.count n x.last more budget y b.gives (omega arith)) }
