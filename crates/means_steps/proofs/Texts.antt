@@ -86,14 +86,8 @@ named_front env vs _ l = refl
 
 pub effect_front : (m : Own) (p : Prototype) (env vs : List Value) (a : Activation) → OwnReach (length env) m → effect m p (env ++ vs) a ≡ effect m p env a
 effect_front (write_register r x) p env vs a l = ap (λ v. record a { registers = Rattle.int_core.specs.Value.write r v a.registers }) (arg_front env vs x l)
-effect_front (read_register r) p env vs a l = absurd l
-effect_front (read_registers from count) p env vs a l = absurd l
-effect_front (read_list from) p env vs a l = absurd l
-effect_front (read_constant n) p env vs a l = absurd l
-effect_front read_varargs p env vs a l = absurd l
 effect_front (write_registers at count slot) p env vs a l = absurd l
 effect_front (write_list at slot) p env vs a l = absurd l
-effect_front (see_pending r) p env vs a l = absurd l
 effect_front _ p env vs a l = refl
 
 pub reads_nothing : (m : Own) (p : Prototype) (len : ℕ) (env : List Value) (a : Activation) → OwnReach len m → reads m p env a ≡ []
@@ -102,8 +96,6 @@ reads_nothing (read_registers from count) p len env a l = absurd l
 reads_nothing (read_list from) p len env a l = absurd l
 reads_nothing (read_constant n) p len env a l = absurd l
 reads_nothing read_varargs p len env a l = absurd l
-reads_nothing (write_registers at count slot) p len env a l = absurd l
-reads_nothing (write_list at slot) p len env a l = absurd l
 reads_nothing (see_pending r) p len env a l = absurd l
 reads_nothing _ p len env a l = refl
 
