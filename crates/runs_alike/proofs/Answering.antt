@@ -8,7 +8,7 @@ use Rattle.int_core.specs.Ask.{Reply, values, left, Answer, IsLeft}
 use Rattle.lua_meaning.specs.World.{System, Asker, Frame, talking, waiting, raising, protected, handled_by, handling, closing, Coroutine, fresh, suspended, running, normal, dead, failed, Now, gives_back, unwinds, World, now_in, on_frames, has_room, runs_main, raises_text, shared_out, second, given_to, answered}
 use Rattle.lua_meaning.specs.Calls.{error_in_handler, put_coroutine, all_pending, all_closed, enters, pays_with, pays_for, calls_value, calls_over, closes_on, handed, raised_to, unwound, goes_along, goes_into, resumes, closes_in, closes_coroutine}
 use Rattle.runs_alike.proofs.Dressed.{Part, state, goes, nothing, dressed_asker, dress_frame, dress, dress_coroutine, dress_world, AskerLike, Any, FrameLike, FramesLike, CoroutineLike, Like, Out, count_out, pending_same, Found, is_none, is_some, found, AsksAreMid, BeginAlike}
-use Rattle.runs_alike.proofs.Moving.{set_same, set_like, room_same, either_out, either_by, frames_like, now_out, raises_out, then_out, returns_out, fails_out}
+use Rattle.runs_alike.proofs.Moving.{same_out, set_same, set_like, room_same, either_out, either_by, frames_like, now_out, raises_out, then_out, returns_out, fails_out}
 
 module _ {A B S T : Type 0} (Sa : System A S) (Sb : System B T) (R : Bool → A → B → Type 0) (Q : Bool → A → B → S → T → Type 0) (asks : AsksAreMid Sa Sb R Q) (begins : BeginAlike Sa Sb R Q) where
   abbrev Both : World A S → World B T → Type 0
@@ -52,17 +52,10 @@ module _ {A B S T : Type 0} (Sa : System A S) (Sb : System B T) (R : Bool → A 
   given_out : (P : Reply → Type 0) (W : World A S) (bs : List B) (xss : List (List (Part T))) (xs : List (Part T)) (k : Asker S) (g : Answer → T) (x : Answer) (below : List (Frame S)) (ys : List (Part T))
       → Alike W bs xss xs → AskerLike Sa Sb R Q P W.functions bs k g → P x.reply → length x.shared ≡ length k.shared → FramesLike Sa Sb R Q W.functions bs below ys
       → Both (given_to W k x below) (given_to (dress_world W bs xss xs) (dressed_asker k g) x (dress below ys))
-  given_out P W bs xss xs k g x below ys like one fits count rest = record {
-    bs = bs;
-    xss = xss;
-    xs = state (g x) ∷ ys;
-    same = refl;
-    like = record {
-      functions = like.functions;
-      coroutines = like.coroutines;
-      frames = (record { body = one.body; mid = asks one.body.function.has_lines one.body.function.made_of one.body.code (k.goes x) (g x) (one.on x fits count) }, rest);
-    };
-  }
+  given_out P W bs xss xs k g x below ys like one fits count rest =
+      let f = one.body.function in
+      same_out Sa Sb R Q (given_to W k x below) bs xss (state (g x) ∷ ys)
+      (record { functions = like.functions; coroutines = like.coroutines; frames = (record { body = one.body; mid = asks f.has_lines f.made_of one.body.code (k.goes x) (g x) (one.on x fits count) }, rest) })
 
   pub answered_out : (P : Reply → Type 0) (W : World A S) (bs : List B) (xss : List (List (Part T))) (xs : List (Part T)) (k : Asker S) (g : Answer → T) (reply : Reply) (below : List (Frame S)) (ys : List (Part T))
       → Alike W bs xss xs → AskerLike Sa Sb R Q P W.functions bs k g → P reply → FramesLike Sa Sb R Q W.functions bs below ys

@@ -8,7 +8,7 @@ use Rattle.int_core.specs.Ask.{CellName, of_local, of_upvalue, returns, throws, 
 use Rattle.lua_meaning.specs.World.{System, Function, Asker, Frame, waiting, raising, World, on_frames, second, cell_of, answered, answered_at_once}
 use Rattle.lua_meaning.specs.Asks.{one, none, cells_named, of_maker, made_in, gets_function, pays_unit, calls_for, calls_in_place, settled, handle}
 use Rattle.runs_alike.proofs.Dressed.{Part, state, goes, dress_functions, dressed_asker, dress, dress_world, FunctionsLike, Body, AskerLike, Any, FramesLike, Like, Out, AsksAreMid, BeginAlike}
-use Rattle.runs_alike.proofs.Moving.{either_out, frames_like, now_out, raises_out}
+use Rattle.runs_alike.proofs.Moving.{same_out, either_out, frames_like, now_out, raises_out}
 use Rattle.runs_alike.proofs.Answering.{answered_out, calls_out, count_second, fuel_like}
 use Rattle.runs_alike.proofs.NewFunctions.{dress_more, functions_more, body_more, frames_more, coroutines_more}
 
@@ -37,23 +37,10 @@ module _ {A B S T : Type 0} (Sa : System A S) (Sb : System B T) (R : Bool → A 
       → Both (answered_at_once W k cell reply below) (answered_at_once (dress_world W bs xss xs) (dressed_asker k g) cell reply (dress below ys))
   once_out W bs xss xs q k g cell reply below ys like pair fits rest =
       let x : Answer = record { reply = reply; shared = map second k.shared; cell = cell } in
-      record {
-        bs = bs;
-        xss = xss;
-        xs = state (g x) ∷ ys;
-        same = refl;
-        like = record {
-          functions = like.functions;
-          coroutines = like.coroutines;
-          frames = (
-            record {
-              body = pair.body;
-              mid = asks pair.body.function.has_lines pair.body.function.made_of pair.body.code (k.goes x) (g x) (pair.on x (record { reply = fits; count = count_second Sa Sb R Q asks begins k.shared; kept = λ z. refl }));
-            },
-            rest,
-          );
-        };
-      }
+      let f = pair.body.function in
+      let next = pair.on x (record { reply = fits; count = count_second Sa Sb R Q asks begins k.shared; kept = λ z. refl }) in
+      same_out Sa Sb R Q (answered_at_once W k cell reply below) bs xss (state (g x) ∷ ys)
+      (record { functions = like.functions; coroutines = like.coroutines; frames = (record { body = pair.body; mid = asks f.has_lines f.made_of pair.body.code (k.goes x) (g x) next }, rest) })
 
   -- the heap or the cells have changed
   heap_like : (W : World A S) (bs : List B) (xss : List (List (Part T))) (xs : List (Part T)) (H : Heap) → Alike W bs xss xs → Alike (record W { heap = H }) bs xss xs
