@@ -2,6 +2,7 @@
 use Rattle.std.proofs.Common.{ℕ, List}
 use Rattle.machine_core.specs.World.{World}
 use Rattle.machine_sound.specs.Sound.{Solid, Rests, idle, on_top, all_wait, Sound}
+use Rattle.machine_sound.proofs.Tops.{same_top}
 
 pub solid_budget : (n : ℕ) (W : World) (printed : List ℕ) (fuel : ℕ) → Solid n W → Solid n (record W { printed = printed; fuel = fuel })
 solid_budget n W printed fuel s = record {
@@ -24,28 +25,10 @@ solid_budget n W printed fuel s = record {
 
 rests_budget : (n : ℕ) (W : World) (printed : List ℕ) (fuel : ℕ) → Rests n W → Rests n (record W { printed = printed; fuel = fuel })
 rests_budget n W printed fuel (idle e) = idle e
-rests_budget n W printed fuel (on_top s) = on_top (record {
-  top = s.top;
-  is_top = record {
-    coroutine = s.is_top.coroutine;
-    base = s.is_top.base;
-    top = s.is_top.top;
-    function = s.is_top.function;
-    last = s.is_top.last;
-    frames = s.is_top.frames;
-    there = s.is_top.there;
-    below = s.is_top.below;
-    code = s.is_top.code;
-    pc = s.is_top.pc;
-    size = s.is_top.size;
-    opened = s.is_top.opened;
-    pending = s.is_top.pending;
-    cells = s.is_top.cells;
-    captured = s.is_top.captured;
-    wait = s.is_top.wait;
-  };
-  fits = s.fits;
-})
+rests_budget n W printed fuel (on_top s) =
+    let t = s.top in
+    let h = s.is_top in
+    on_top (record { top = t; is_top = same_top n t W (record W { printed = printed; fuel = fuel }) h t.pending t.cells t.captured h.last h.frames h.there h.below h.pending h.cells h.captured h.wait; fits = s.fits })
 rests_budget n W printed fuel (all_wait w) = all_wait (record { coroutine = w.coroutine; frames = w.frames; last = w.last; running = w.running; waits = w.waits })
 
 pub sound_refuelled : (n fuel : ℕ) (W : World) → Sound n W → Sound n (record W { fuel = fuel })

@@ -16,7 +16,7 @@ use Rattle.machine_sound.specs.Safe.{on_lua, waiting, Is, IsPhase, TopReady, Wai
 use Rattle.machine_sound.proofs.Lists.{each_none, each_cons, each_one, each_push, each_front, each_drop, each_on, bind_at, without_push}
 use Rattle.machine_sound.proofs.Values.{arg_valid, le_of}
 use Rattle.machine_sound.proofs.Grow.{Grows, grows_then, values_on, valid_on, each_waits_on}
-use Rattle.machine_sound.proofs.Own.{OwnIs, all_good, close_length, close_open, close_closed}
+use Rattle.machine_sound.proofs.Own.{OwnIs, known_so, all_good, close_length, close_open, close_closed}
 use Rattle.machine_sound.proofs.Frames.{set_stack, CellsFit, stack_grows, stack_solid, stack_there, the_place, place_is, frames_ok, top_ok, own_known, with_own_is, frame_so, new_grows, new_solid, new_top, new_world}
 use Rattle.machine_sound.proofs.Moves.{made_so}
 use Rattle.machine_sound.proofs.Heaps.{callee_ok, CalleeOk}
@@ -43,23 +43,8 @@ error_named z env _ h k = tt
 
 -- an activation that is known, of a frame that waits now
 own_waits : (z : Sizes) (old : List Cell) (p : Prototype) (co k : ℕ) (t : Top) (own : Activation) (cells : List Cell) → OwnIs z old p co k t own cells → OwnIs z old p co k (record t { runs = false }) own cells
-own_waits z old p co k t own cells h = record {
-  code = h.code;
-  pc = h.pc;
-  size = h.size;
-  opened = h.opened;
-  bound = h.bound;
-  stack = h.stack;
-  registers = h.registers;
-  varargs = h.varargs;
-  pending = h.pending;
-  cells_below = h.cells_below;
-  cells_there = h.cells_there;
-  still_open = h.still_open;
-  closed_ok = h.closed_ok;
-  count = h.count;
-  captured = h.captured;
-}
+own_waits z old p co k t own cells h =
+    known_so z old p co k [] (each_none (Valid z)) t own cells h own.pc t.pc false t.size t.opened own.opened t.pending own.registers own.pending h.pc h.opened h.size h.stack h.registers h.cells_there h.bound h.pending
 
 -- all frames wait, where the one on top does
 pub top_waits : (n : ℕ) (t : Top) (W : World) → t.runs ≡ false → TopIs n t W → StackWaits n W

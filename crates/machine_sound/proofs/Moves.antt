@@ -16,7 +16,7 @@ use Rattle.machine_sound.specs.Safe.{Phase, on_lua, IsPhase, Is, TopReady, IfCha
 use Rattle.machine_sound.proofs.Lists.{each_none, each_append, each_on, bind_at}
 use Rattle.machine_sound.proofs.Values.{all_get, both_of, le_of}
 use Rattle.machine_sound.proofs.Grow.{Grows, values_on, lua_waits_on}
-use Rattle.machine_sound.proofs.Own.{OwnIs, own_good}
+use Rattle.machine_sound.proofs.Own.{OwnIs, known_so, own_good}
 use Rattle.machine_sound.proofs.OwnReads.{own_read}
 use Rattle.machine_sound.proofs.Frames.{the_place, place_is, own_known, function_ok, top_ok, with_own_is, frame_so, new_grows, new_solid, new_top, new_world, top_put}
 
@@ -100,24 +100,10 @@ own_move n m t env W i r =
 
 other_place : (n : ℕ) (t : Top) (W : World) (h : TopIs n t W) (s : Solid n W) (pc : ℕ) → OwnIs (sizes n W) W.cells h.function.code h.coroutine (length h.base) (record t { pc = pc }) (record h.top.own { pc = pc }) W.cells
 other_place n t W h s pc =
+    let z = sizes n W in
+    let own = h.top.own in
     let k = own_known n t W h s in
-    record {
-      code = k.code;
-      pc = refl;
-      size = k.size;
-      opened = k.opened;
-      bound = k.bound;
-      stack = k.stack;
-      registers = k.registers;
-      varargs = k.varargs;
-      pending = k.pending;
-      cells_below = k.cells_below;
-      cells_there = k.cells_there;
-      still_open = k.still_open;
-      closed_ok = k.closed_ok;
-      count = k.count;
-      captured = k.captured;
-    }
+    known_so z W.cells h.function.code h.coroutine (length h.base) [] (each_none (Valid z)) t own W.cells k pc pc t.runs t.size t.opened own.opened t.pending own.registers own.pending refl k.opened k.size k.stack k.registers k.cells_there k.bound k.pending
 
 pub some_of : {A : Type 0} (o : Option A) → IsSome o → (a : A) × (o ≡ Some a)
 some_of None h = absurd (cc)

@@ -87,13 +87,13 @@ module _ (z : Sizes) (old : List Cell) (p : Prototype) (co k : ℕ) (env : List 
   abbrev pub Known : Top → Activation → List Cell → Type 0
   Known t own cells = OwnIs z old p co k t own cells
 
-  -- other registers, another end of the list, and other pending registers
-  changed : (t : Top) (own : Activation) (cells : List Cell) (h : Known t own cells) (size end opened n : ℕ) (vs : List Value) (qs : List ℕ) → opened ≡ end
+  -- another place, other registers, another end of the list, and other pending registers
+  pub known_so : (t : Top) (own : Activation) (cells : List Cell) (h : Known t own cells) (at pc : ℕ) (runs : Bool) (size end opened n : ℕ) (vs : List Value) (qs : List ℕ) → at ≡ pc → opened ≡ end
       → length vs ≡ size → p.own.stack ≤ size → Each (Valid z) vs → ((i r : ℕ) → slice_get cells i ≡ Some (open_at co k r) → r < size) → Each (λ r. r < n) qs → Each (λ r. r < p.own.stack) qs
-      → Known (record t { size = size; opened = end; pending = n }) (record own { registers = vs; opened = opened; pending = qs }) cells
-  changed t own cells h size end opened n vs qs e l s v c b q = record {
+      → Known (record t { pc = pc; size = size; opened = end; pending = n; runs = runs }) (record own { pc = at; registers = vs; opened = opened; pending = qs }) cells
+  known_so t own cells h at pc runs size end opened n vs qs here e l s v c b q = record {
     code = h.code;
-    pc = h.pc;
+    pc = here;
     size = l;
     opened = e;
     bound = b;
@@ -108,6 +108,11 @@ module _ (z : Sizes) (old : List Cell) (p : Prototype) (co k : ℕ) (env : List 
     count = h.count;
     captured = h.captured;
   }
+
+  changed : (t : Top) (own : Activation) (cells : List Cell) (h : Known t own cells) (size end opened n : ℕ) (vs : List Value) (qs : List ℕ) → opened ≡ end
+      → length vs ≡ size → p.own.stack ≤ size → Each (Valid z) vs → ((i r : ℕ) → slice_get cells i ≡ Some (open_at co k r) → r < size) → Each (λ r. r < n) qs → Each (λ r. r < p.own.stack) qs
+      → Known (record t { size = size; opened = end; pending = n }) (record own { registers = vs; opened = opened; pending = qs }) cells
+  changed t own cells h size end opened n vs qs e l s v c b q = known_so t own cells h own.pc t.pc t.runs size end opened n vs qs h.pc e l s v c b q
 
   -- other registers
   other : (t : Top) (own : Activation) (cells : List Cell) (h : Known t own cells) (size opened : ℕ) (vs : List Value)
