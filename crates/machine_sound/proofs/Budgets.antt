@@ -1,7 +1,8 @@
 -- The budget, and what is printed, are no part of what makes a world sound.
-use Rattle.std.proofs.Common.{ℕ, List}
+use Rattle.std.proofs.Common.{ℕ, List, refl}
 use Rattle.machine_core.specs.World.{World}
-use Rattle.machine_sound.specs.Sound.{Solid, Rests, idle, on_top, all_wait, Sound}
+use Rattle.machine_sound.specs.Sound.{sizes, Solid, Rests, idle, on_top, all_wait, Sound}
+use Rattle.machine_sound.proofs.Grow.{grows_self, roots_on}
 use Rattle.machine_sound.proofs.Tops.{same_top}
 
 pub solid_budget : (n : ℕ) (W : World) (printed : List ℕ) (fuel : ℕ) → Solid n W → Solid n (record W { printed = printed; fuel = fuel })
@@ -13,14 +14,7 @@ solid_budget n W printed fuel s = record {
   coroutines = s.coroutines;
   chain = s.chain;
   moving = s.moving;
-  roots = record {
-    string_metatable = s.roots.string_metatable;
-    globals = s.roots.globals;
-    prelude_environment = s.roots.prelude_environment;
-    prelude_functions = s.roots.prelude_functions;
-    special_key = s.roots.special_key;
-    main = s.roots.main;
-  };
+  roots = roots_on (sizes n W) (sizes n W) (grows_self (sizes n W)) W (record W { printed = printed; fuel = fuel }) s.roots refl refl refl refl refl refl;
 }
 
 rests_budget : (n : ℕ) (W : World) (printed : List ℕ) (fuel : ℕ) → Rests n W → Rests n (record W { printed = printed; fuel = fuel })
