@@ -13,7 +13,7 @@ use Rattle.code_means.specs.Means.{Means}
 use Rattle.code_means.specs.Runs.{codes_run, EndAlike, RunAlike}
 use Rattle.runs_alike.specs.Alike.{BuildsAlike, IsMeantBy, script, CodeEnds, WorldsAlike}
 use Rattle.runs_alike.proofs.Endings.{WaitAlike}
-use Rattle.runs_alike.proofs.Sides.{TreeWaits, run_flip, code_ends, tree_ends, tree_goes_on}
+use Rattle.runs_alike.proofs.Sides.{TreeWaits, TreeGoesOn, run_flip, code_ends, tree_ends, tree_goes_on}
 use Rattle.cells_alike.specs.Alike.{IsReady, LetterEnds}
 use Rattle.cells_alike.proofs.Joint.{one, two}
 use Rattle.cells_alike.proofs.Runs.{AreWaiting, second_onward}
@@ -47,13 +47,8 @@ wait_then (is_suspended V) y (is_suspended W) alike tree letter = absurd alike
 wait_then x y z alike tree letter = tt
 
 -- what the code means further on, the tree means by the letter
-pub record LetterGoesOn (trees_built : Builds Body) (W : World Body State) (input : List (List ℕ)) (budget : ℕ) (m : Meaning Prototype CodeState) : Type 0 where
-  pub meaning : Meaning Body State
-  pub goes : IsOnward (trees when_declared) (primitives trees_built) W input budget meaning
-  pub alike : RunAlike meaning m
-
 pub letter_goes_on : (trees_built : Builds Body) (code_built : Builds Prototype) → BuildsAlike IsMeantBy trees_built code_built → (V : World Prototype CodeState) (W : World Body State) → LetterWaits V W
-    → (input : List (List ℕ)) (budget : ℕ) (m : Meaning Prototype CodeState) → IsOnward codes_run (primitives code_built) V input budget m → LetterGoesOn trees_built W input budget m
+    → (input : List (List ℕ)) (budget : ℕ) (m : Meaning Prototype CodeState) → IsOnward codes_run (primitives code_built) V input budget m → TreeGoesOn when_declared trees_built W input budget m
 letter_goes_on trees_built code_built builds V W waits input budget m given =
     let t = tree_goes_on trees_built code_built builds V waits.between waits.tree input budget m given in
     let l = second_onward trees_built budget t.goes.steps input waits.between W waits.letter t.meaning t.goes.gives in

@@ -13,7 +13,7 @@ use Rattle.lua_meaning.specs.Opening.{primitives}
 use Rattle.lua_meaning.specs.TreeMeaning.{trees, tree_opening}
 use Rattle.code_means.specs.Means.{Means}
 use Rattle.code_means.specs.Runs.{codes_run, RunAlike}
-use Rattle.runs_alike.specs.Alike.{BuildsAlike, IsMeantBy, script, CodeEnds, WorldsAlike}
+use Rattle.runs_alike.specs.Alike.{BuildsAlike, IsMeantBy, script, CodeEnds, TreeEnds, WorldsAlike}
 
 abbrev pub AreThere : List ℕ → (size : ℕ) → Type 0
 AreThere [] size = Unit {0}
@@ -42,10 +42,8 @@ OpeningsAreReady = (prelude : List (Entry Body)) → IsReady (tree_opening prelu
 
 -- code, and the tree by the letter of the manual
 
-pub record LetterEnds (trees_built : Builds Body) (W : World Body State) (s : Script Body) (input : List (List ℕ)) (budget : ℕ) (m : Meaning Prototype CodeState) : Type 0 where
-  pub meaning : Meaning Body State
-  pub is_meant : IsMeaning (trees when_declared) (primitives trees_built) W s input budget meaning
-  pub alike : RunAlike meaning m
+abbrev pub LetterEnds : Builds Body → World Body State → Script Body → List (List ℕ) → ℕ → Meaning Prototype CodeState → Type 0
+LetterEnds trees_built W s input budget m = TreeEnds when_declared trees_built W s input budget m
 
 -- where code means the main function and the functions that are there before the script, the tree's meaning by the letter is the code's, and the
 -- other way round

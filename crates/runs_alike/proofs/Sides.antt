@@ -3,7 +3,7 @@ use Rattle.std.proofs.Common.{◌≡◌, ℕ, Bool, true, false, List, [], ◌�
 use Rattle.int_core.specs.Value.{Value}
 use Rattle.int_core.specs.Ask.{Ask, reads_upvalue, writes_upvalue, makes_table, makes_function, fills_table, pays, opens, operates, calls, calls_last, marks, closes, raises, leaves, Reply, values, faulted, left, Answer, Next, goes_on, says, stuck, runs, AskLike, NextLike, IsReplyTo, IsLeft, IsQuiet, FitsAsk}
 use Rattle.tree_core.specs.Tree.{Body}
-use Rattle.tree_activation.specs.Work.{when_captured, State as TreeState}
+use Rattle.tree_activation.specs.Work.{Celling, when_captured, State as TreeState}
 use Rattle.tree_activation.specs.Activation.{start, step}
 use Rattle.code_core.specs.Prototype.{Prototype}
 use Rattle.machine_core.specs.Talk.{State as CodeState, talk_start, talk_step}
@@ -239,14 +239,14 @@ TreeWaits V W = Out codes_run (trees when_captured) MeansBack TalkBack V W
 back_alike : (trees_built : Builds Body) (code_built : Builds Prototype) → BuildsAlike IsMeantBy trees_built code_built → PrimitivesAlike MeansBack (primitives code_built) (primitives trees_built)
 back_alike trees_built code_built builds = record { numbered = λ n. refl; builds = λ given source. built_flip (trees_built given source) (code_built given source) (builds given source) }
 
--- what the code means further on the tree means too
-pub record TreeGoesOn (trees_built : Builds Body) (W : World Body TreeState) (input : List (List ℕ)) (budget : ℕ) (m : Meaning Prototype CodeState) : Type 0 where
+-- what the code means further on a tree means too whose locals get their cells in this form
+pub record TreeGoesOn (celling : Celling) (trees_built : Builds Body) (W : World Body TreeState) (input : List (List ℕ)) (budget : ℕ) (m : Meaning Prototype CodeState) : Type 0 where
   pub meaning : Meaning Body TreeState
-  pub goes : IsOnward (trees when_captured) (primitives trees_built) W input budget meaning
+  pub goes : IsOnward (trees celling) (primitives trees_built) W input budget meaning
   pub alike : RunAlike meaning m
 
 pub tree_goes_on : (trees_built : Builds Body) (code_built : Builds Prototype) → BuildsAlike IsMeantBy trees_built code_built → (V : World Prototype CodeState) (W : World Body TreeState) → TreeWaits V W
-    → (input : List (List ℕ)) (budget : ℕ) (m : Meaning Prototype CodeState) → IsOnward codes_run (primitives code_built) V input budget m → TreeGoesOn trees_built W input budget m
+    → (input : List (List ℕ)) (budget : ℕ) (m : Meaning Prototype CodeState) → IsOnward codes_run (primitives code_built) V input budget m → TreeGoesOn when_captured trees_built W input budget m
 tree_goes_on trees_built code_built builds V W waits input budget m given =
     let l = onward_out codes_run (trees when_captured) MeansBack TalkBack asks_code begins_code pends_code (primitives code_built) (primitives trees_built) (back_alike trees_built code_built builds) input given.steps budget V W m waits given.gives in
     record { meaning = l.other; goes = record { steps = l.count; gives = l.gives l.count (itself l.count) }; alike = run_flip m l.other l.alike }
@@ -285,7 +285,7 @@ module _ (trees_built : Builds Body) (code_built : Builds Prototype) (builds : B
 
   -- and where both are suspended their worlds wait alike
   pub record TreeEndsSo (m : Meaning Prototype CodeState) : Type 0 where
-    pub ends : TreeEnds trees_built W (script main name lines) input budget m
+    pub ends : TreeEnds when_captured trees_built W (script main name lines) input budget m
     pub waits : WaitAlike TreeWaits m.outcome ends.meaning.outcome
 
   pub tree_ends : (m : Meaning Prototype CodeState) → IsMeaning codes_run (primitives code_built) V (script code name lines) input budget m → TreeEndsSo m

@@ -1,7 +1,7 @@
 -- Runs of a script's tree and of code that means it: both print the same and end alike, whatever the lines and the budget are.
 use Rattle.std.specs.Prelude.{◌≡◌, ℕ, Bool, true, false, List, [], ◌∷◌}
 use Rattle.tree_core.specs.Tree.{Body}
-use Rattle.tree_activation.specs.Work.{when_captured, State as TreeState}
+use Rattle.tree_activation.specs.Work.{Celling, when_captured, State as TreeState}
 use Rattle.code_core.specs.Prototype.{Prototype}
 use Rattle.machine_core.specs.Talk.{State as CodeState}
 use Rattle.load_rows.specs.Loading.{Built, built, refused_at, Builds}
@@ -75,10 +75,10 @@ pub record CodeEnds (code_built : Builds Prototype) (W : World Prototype CodeSta
   pub is_meant : IsMeaning codes_run (primitives code_built) W s input budget meaning
   pub alike : RunAlike m meaning
 
--- and the other way round
-pub record TreeEnds (trees_built : Builds Body) (W : World Body TreeState) (s : Script Body) (input : List (List ℕ)) (budget : ℕ) (m : Meaning Prototype CodeState) : Type 0 where
+-- and the other way round, of a tree whose locals get their cells in this form
+pub record TreeEnds (celling : Celling) (trees_built : Builds Body) (W : World Body TreeState) (s : Script Body) (input : List (List ℕ)) (budget : ℕ) (m : Meaning Prototype CodeState) : Type 0 where
   pub meaning : Meaning Body TreeState
-  pub is_meant : IsMeaning (trees when_captured) (primitives trees_built) W s input budget meaning
+  pub is_meant : IsMeaning (trees celling) (primitives trees_built) W s input budget meaning
   pub alike : RunAlike meaning m
 
 abbrev pub WholeRunsEndAlike : Type 0
@@ -87,7 +87,7 @@ WholeRunsEndAlike =
     → (W : World Body TreeState) (V : World Prototype CodeState) → WorldsAlike IsMeantBy W V
     → (main : Body) (code : Prototype) (name : List ℕ) (lines : Bool) → Means lines code main → (input : List (List ℕ)) (budget : ℕ)
     → ((m : Meaning Body TreeState) → IsMeaning (trees when_captured) (primitives trees_built) W (script main name lines) input budget m → CodeEnds code_built V (script code name lines) input budget m)
-    × ((m : Meaning Prototype CodeState) → IsMeaning codes_run (primitives code_built) V (script code name lines) input budget m → TreeEnds trees_built W (script main name lines) input budget m)
+    × ((m : Meaning Prototype CodeState) → IsMeaning codes_run (primitives code_built) V (script code name lines) input budget m → TreeEnds when_captured trees_built W (script main name lines) input budget m)
 
 -- functions of the prelude of the same name and library, whose lines are not known, and that name as many outer variables
 pub record EntryAlike (x : Entry Body) (y : Entry Prototype) : Type 0 where
