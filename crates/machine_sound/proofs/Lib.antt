@@ -7,6 +7,7 @@ pub mod Frames
 pub mod Tops
 pub mod Moves
 pub mod TableRows
+pub mod Settling
 pub mod Heaps
 pub mod Outside
 pub mod Cells

@@ -12,7 +12,7 @@ use Rattle.machine_sound.specs.Safe.{on_lua, Is, TopReady, QuickReady, has_found
 use Rattle.machine_sound.proofs.Lists.{each_none, each_cons, each_one, each_push, each_set, each_drop, each_on, bind_at, get_there, length_set}
 use Rattle.machine_sound.proofs.Values.{args_valid, arg_valid, count_args, nth_ok}
 use Rattle.machine_sound.proofs.Grow.{Grows, grows_self, values_on, table_on, function_on, coroutine_on, cell_on, roots_on, lua_waits_on, each_waits_on}
-use Rattle.machine_sound.proofs.Heaps.{HeapOk, HeapStays, does_ok, handler_ok, SettledOk}
+use Rattle.machine_sound.proofs.Heaps.{HeapOk, HeapStays, does_ok, closer_ok, SettledOk}
 use Rattle.machine_sound.proofs.TableRows.{filled_has}
 use Rattle.machine_sound.proofs.Frames.{the_place, place_is}
 use Rattle.machine_sound.proofs.Moves.{made_so}
@@ -112,7 +112,7 @@ find_close_move n v e t env W i r =
       world = W;
       is = refl;
       holds = goes_still n t env (handler_in W.heap of_close (arg env v) ∷ arg env v ∷ arg env e ∷ []) W i
-          (each_cons (Valid z) (handler_in W.heap of_close (arg env v)) (arg env v ∷ arg env e ∷ []) (handler_ok z W.heap (heap_of n W i.solid) of_close (arg env v)) (each_cons (Valid z) (arg env v) (arg env e ∷ []) (arg_valid z env v i.valid r.0) (each_one (Valid z) (arg env e) (arg_valid z env e i.valid r.1))));
+          (closer_ok z W.heap (heap_of n W i.solid) (arg env v) (arg env e) (arg_valid z env v i.valid r.0) (arg_valid z env e i.valid r.1));
     }
 
 pub is_closable_move : (n : ℕ) (v : Arg) (t : Top) (env : List Value) (W : World) → Is n (on_lua t) env W → MoveGood n (on_lua t) env (is_closable v) W

@@ -13,7 +13,7 @@ use Rattle.machine_sound.proofs.Lists.{each_none, each_cons, each_one, each_push
 use Rattle.machine_sound.proofs.Values.{arg_valid, args_valid, le_of}
 use Rattle.machine_sound.proofs.Grow.{Grows, grows_self, grows_then, values_on, valid_on, each_waits_on}
 use Rattle.machine_sound.proofs.Frames.{set_stack, CellsFit, stack_grows, stack_solid, stack_there}
-use Rattle.machine_sound.proofs.Heaps.{handler_ok, callee_ok, CalleeOk}
+use Rattle.machine_sound.proofs.Heaps.{closer_ok, callee_ok, CalleeOk}
 use Rattle.machine_sound.proofs.Outside.{heap_of}
 use Rattle.machine_sound.proofs.Waits.{with_moving, moving_grows, moving_solid, moving_waits, waits_stack, registers_here, pushed, pushed_grows, pushed_solid, pushed_there, push_is, EnteredAs, enters_good}
 use Rattle.machine_sound.proofs.Held.{held_top, held_waits, held_is, held_place}
@@ -71,13 +71,9 @@ place_text_waits n x level s env W i r =
 pub find_close_waits : (n : ℕ) (v e : Arg) → WaitingGood n (find_close v e)
 find_close_waits n v e s env W i r =
     let z = sizes n W in
-    record {
-      event = handler_in W.heap of_close (arg env v);
-      world = W;
-      is = refl;
-      holds = stays n s env (handler_in W.heap of_close (arg env v) ∷ arg env v ∷ arg env e ∷ []) W i
-          (each_cons (Valid z) (handler_in W.heap of_close (arg env v)) (arg env v ∷ arg env e ∷ []) (handler_ok z W.heap (heap_of n W i.solid) of_close (arg env v)) (each_cons (Valid z) (arg env v) (arg env e ∷ []) (arg_valid z env v i.valid r.0) (each_one (Valid z) (arg env e) (arg_valid z env e i.valid r.1))));
-    }
+    let h = handler_in W.heap of_close (arg env v) in
+    let ok = closer_ok z W.heap (heap_of n W i.solid) (arg env v) (arg env e) (arg_valid z env v i.valid r.0) (arg_valid z env e i.valid r.1) in
+    record { event = h; world = W; is = refl; holds = stays n s env (h ∷ arg env v ∷ arg env e ∷ []) W i ok }
 
 -- what is on top
 

@@ -169,7 +169,7 @@ module _ (y : Home) (gs : List Guard) (W : World) (k : Keeps y gs W) where
     where
       by : (n : ℕ) → MadeKeeps y (elim n [ zero ↦ made W [] not_paid | suc fuel ↦ enters (record P { fuel = fuel }) f vs ])
       by zero = (gs, k, each_none (Apart y.table))
-      by (suc fuel) = enters_keeps y gs (record P { fuel = fuel }) (fuel_keeps y gs P fuel h) f vs a
+      by (suc fuel) = enters_keeps y gs (record P { fuel = fuel }) (fuel_keeps y gs P fuel h) f vs a.2
 
   pub called_keeps : (P : World) → Keeps y gs P → (f : Value) (vs : List Value) → Apart y.table f → Each (Apart y.table) vs → MadeKeeps y (called W P f vs)
   called_keeps P h f vs a v = paid_keeps P h (callee_of greatest_chain W.heap f vs) (callee_ok y W.heap k.heap greatest_chain f vs a v)
@@ -183,4 +183,4 @@ module _ (y : Home) (gs : List Guard) (W : World) (k : Keeps y gs W) where
         where
           paid : (n : ℕ) → MadeKeeps y (elim n [ zero ↦ made W [] not_paid | suc fuel ↦ enters (record (popped W p) { fuel = fuel }) f vs ])
           paid zero = (gs, k, each_none (Apart y.table))
-          paid (suc fuel) = enters_keeps y gs (record (popped W p) { fuel = fuel }) (fuel_keeps y gs (popped W p) fuel (popped_keeps y gs W k p o)) f vs a
+          paid (suc fuel) = enters_keeps y gs (record (popped W p) { fuel = fuel }) (fuel_keeps y gs (popped W p) fuel (popped_keeps y gs W k p o)) f vs a.2

@@ -3,7 +3,7 @@ use Rattle.std.proofs.Common.{ℕ, zero, ◌≡◌, List, [], ◌∷◌, ◌++�
 use Rattle.std.specs.Prelude.{slice_get, flat_map}
 use Rattle.std.proofs.lemmas.List.{reverse-append}
 use Rattle.int_core.specs.Value.{primitive, a_function, a_coroutine, Value, known, object, bind, last, without_last, error_or_nil}
-use Rattle.int_core.specs.Operations.{handler_in, of_close, is_function}
+use Rattle.int_core.specs.Operations.{is_function}
 use Rattle.library_rows.specs.Look.{Done, done as came, refused as was_refused, raised as was_raised, looked}
 use Rattle.code_core.specs.Check.{at}
 use Rattle.machine_core.specs.World.{leaving, Frame, lua, pcall, xpcall, handler, closing, dead, failed, World, Stack, stack_of, Place, place_of, put_top, put_frames}
@@ -13,7 +13,7 @@ use Rattle.machine_sound.specs.Sound.{Each, OptionOk}
 use Rattle.machine_sound.proofs.Lists.{each_none, each_cons, each_one, each_tail, each_append, each_push, each_take, each_drop}
 use Rattle.prelude_stays.specs.Guards.{Guard, unguarded}
 use Rattle.prelude_stays.specs.Kept.{Home, Apart, FrameOk, Keeps}
-use Rattle.prelude_stays.proofs.Heaps.{handler_ok}
+use Rattle.prelude_stays.proofs.Heaps.{closer_ok}
 use Rattle.prelude_stays.proofs.Looks.{DoneOk, looked_ok}
 use Rattle.prelude_stays.proofs.Own.{arg_apart, args_apart}
 use Rattle.prelude_stays.proofs.Worlds.{MadeKeeps, made_bind, made_cond, OnStack, stack_there, OnPlace, place_there, top_ok, frames_ok, moving_keeps, heap_keeps, changed}
@@ -119,12 +119,7 @@ module _ (y : Home) (gs : List Guard) (W : World) (k : Keeps y gs W) where
   pub free_keeps : (m : Move) (env : List Value) → IsFree m → Each (Apart y.table) env → MadeKeeps y (move m env W)
   free_keeps (move_pc z) env i v = made_bind y (place_of W) _ (λ p e. made_bind y (place_from p.top.own.pc z) _ (λ pc _. made_bind y (at p.function.code pc) _ (λ _ _. (gs, pc_keeps p (place_there W p e) pc, none))))
   free_keeps (enter_tail f slot) env i v = made_bind y (place_of W) _ (λ p e. tail_keeps y gs W k p (place_there W p e) (arg env f) (drop slot env) (arg_apart y.table env f v) (each_drop (Apart y.table) slot env v))
-  free_keeps (find_close x e) env i v = (
-    gs,
-    k,
-    each_cons (Apart y.table) (handler_in W.heap of_close (arg env x)) (arg env x ∷ arg env e ∷ []) (handler_ok y W.heap k.heap of_close (arg env x))
-        (each_cons (Apart y.table) (arg env x) (arg env e ∷ []) (arg_apart y.table env x v) (each_one (Apart y.table) (arg env e) (arg_apart y.table env e v))),
-  )
+  free_keeps (find_close x e) env i v = (gs, k, closer_ok y W.heap k.heap (arg env x) (arg env e) (arg_apart y.table env x v) (arg_apart y.table env e v))
   free_keeps (is_closable x) env i v = (gs, k, none)
   free_keeps (begin_leaving text) env i v = made_bind y (place_of W) _ (λ p e. (gs, leaving_keeps p (place_there W p e) text, none))
   free_keeps (leave_frame given) env i v =
