@@ -96,15 +96,9 @@ impl Walk<'_> {
     {
         match wait {
             Wait::Leaving(error) => self.meet(seen, error),
-            Wait::Running => Ok(()),
-            Wait::ForCall => Ok(()),
-            Wait::ForIterator => Ok(()),
-            Wait::ForValue => Ok(()),
-            Wait::ForTruth => Ok(()),
-            Wait::Dropped => Ok(()),
-            Wait::ForConcat(_) => Ok(()),
-            Wait::ForClose => Ok(()),
-            Wait::Returning(_) => Ok(()),
+            Wait::Running | Wait::Dropped => Ok(()),
+            Wait::ForCall | Wait::ForIterator | Wait::ForValue | Wait::ForTruth => Ok(()),
+            Wait::ForConcat(_) | Wait::ForClose | Wait::Returning(_) => Ok(()),
         }
     }
 
