@@ -6,14 +6,15 @@ use Rattle.int_core.specs.Value.{Value, bind, write}
 use Rattle.machine_core.specs.World.{Cell, closed, open_at, LuaFrame, Frame, lua, Coroutine, fresh, suspended, in_progress, normal, dead, failed, World, frames_of, lua_frame, with_frames, read_cell, write_in_frame, write_in_coroutine, write_cell, find_open}
 use Rattle.machine_core.specs.Text.{Arg, arg, write_upvalue}
 use Rattle.machine_core.specs.Moves.{outside, made, own_cell, move}
-use Rattle.machine_sound.specs.Sound.{Each, Sizes, sizes, Valid, TableOk, FunctionOk, LuaOk, FrameOk, LuaWaits, FrameWaits, FramesOk, CoroutineOk, standing, ChainOk, registers_in, registers_of, CellOk, Solid, Top, RunsOrWaits, TopIs}
+use Rattle.machine_sound.specs.Sound.{Each, Sizes, sizes, Valid, LuaOk, FrameOk, LuaWaits, FrameWaits, FramesOk, CoroutineOk, standing, ChainOk, registers_in, registers_of, CellOk, Solid, Top, RunsOrWaits, TopIs}
 use Rattle.machine_sound.specs.Safe.{on_lua, MoveGood}
-use Rattle.machine_sound.proofs.Lists.{each_none, each_set, each_on, bind_at, get_set_same, get_set_other, length_set, get_within, get_push_new, get_front, map_set, some_is}
+use Rattle.machine_sound.proofs.Lists.{each_none, each_set, bind_at, get_set_same, get_set_other, length_set, get_within, get_push_new, get_front, map_set, some_is}
 use Rattle.machine_sound.proofs.Values.{each_write, length_write, arg_valid}
-use Rattle.machine_sound.proofs.Grow.{Grows, values_on, valid_on, table_on, function_on, coroutine_on, cell_on, roots_on, lua_waits_on, each_waits_on}
+use Rattle.machine_sound.proofs.Grow.{Grows, lua_waits_on, each_waits_on}
 use Rattle.machine_sound.proofs.Frames.{the_place}
 use Rattle.machine_sound.proofs.Moves.{made_so}
 use Rattle.machine_sound.proofs.Outside.{quick_is, QuickGood}
+use Rattle.machine_sound.proofs.Coroutines.{coroutines_solid}
 use Rattle.machine_sound.proofs.Cells.{Stands, stands, cell_read, own_cell_there}
 use Rattle.machine_sound.proofs.Tops.{same_top}
 
@@ -34,21 +35,10 @@ closed_open (c ∷ cs) (suc m) v zero d g r h = h
 closed_open (c ∷ cs) (suc m) v (suc i) d g r h = closed_open cs m v i d g r h
 
 closed_solid : (n : ℕ) (W : World) (m : ℕ) (v : Value) → Solid n W → Valid (sizes n W) v → Solid n (closed_world W m v)
-closed_solid n W m v s p =
-    let V = closed_world W m v in
-    let z = sizes n W in
-    let y = sizes n V in
-    let g = closed_grows n W m v in
-    record {
-      tables = each_on (TableOk z) (TableOk y) (table_on z y g) W.heap.tables s.tables;
-      functions = each_on (FunctionOk z) (FunctionOk y) (function_on z y g) W.functions s.functions;
-      cells = each_set (CellOk y W.coroutines) W.cells m (closed v) (each_on (CellOk z W.coroutines) (CellOk y W.coroutines) (cell_on z y g W.coroutines) W.cells s.cells) (valid_on z y g v p);
-      one_each = λ i j d h r a b. s.one_each i j d h r (closed_open W.cells m v i d h r a) (closed_open W.cells m v j d h r b);
-      coroutines = each_on (CoroutineOk z) (CoroutineOk y) (coroutine_on z y g) W.coroutines s.coroutines;
-      chain = s.chain;
-      moving = values_on z y g W.moving s.moving;
-      roots = roots_on z y g W V s.roots refl refl refl refl refl refl;
-    }
+closed_solid n W m v s p = coroutines_solid n W s (slice_set W.cells m (closed v)) W.coroutines W.chain (length_set W.cells m (closed v)) refl
+    (each_set (CellOk (sizes n W) W.coroutines) W.cells m (closed v) s.cells p)
+    (λ i j d h r a b. s.one_each i j d h r (closed_open W.cells m v i d h r a) (closed_open W.cells m v j d h r b))
+    s.coroutines s.chain
 
 waits_on' : (z y : Sizes) (g : Grows z y) (b : Bool) (f : LuaFrame) → RunsOrWaits b z f → RunsOrWaits b y f
 waits_on' z y g true f k = k
@@ -181,22 +171,12 @@ module _ (n : ℕ) (W : World) (co f r : ℕ) (v : Value) (p : Stands W co f r) 
   pub written_solid : Solid n written_world
   written_solid =
       let z = sizes n W in
-      let y = sizes n written_world in
-      let g = written_grows in
-      record {
-        tables = each_on (TableOk z) (TableOk y) (table_on z y g) W.heap.tables s.tables;
-        functions = each_on (FunctionOk z) (FunctionOk y) (function_on z y g) W.functions s.functions;
-        cells = cells;
-        one_each = s.one_each;
-        coroutines = each_set (CoroutineOk y) W.coroutines co (with_frames p.of new) (each_on (CoroutineOk z) (CoroutineOk y) (coroutine_on z y g) W.coroutines s.coroutines)
-            (with_ok y p.of p.frames new p.are (frames_ok y (valid_on z y g v ok)) (frames_wait y) (coroutine_on z y g p.of (s.coroutines co p.of p.is)));
-        chain = subst (λ st. ChainOk W.main st W.chain) (sym (map_set standing W.coroutines co p.of (with_frames p.of new) p.is (standing_same p.of p.frames new p.are))) s.chain;
-        moving = values_on z y g W.moving s.moving;
-        roots = roots_on z y g W written_world s.roots refl refl refl refl refl refl;
-      }
+      coroutines_solid n W s W.cells written_world.coroutines W.chain refl (length_set W.coroutines co (with_frames p.of new)) cells s.one_each
+      (each_set (CoroutineOk z) W.coroutines co (with_frames p.of new) s.coroutines (with_ok z p.of p.frames new p.are (frames_ok z ok) (frames_wait z) (s.coroutines co p.of p.is)))
+      (subst (λ st. ChainOk W.main st W.chain) (sym (map_set standing W.coroutines co p.of (with_frames p.of new) p.is (standing_same p.of p.frames new p.are))) s.chain)
     where
-      cells : Each (CellOk (sizes n written_world) written_world.coroutines) W.cells
-      cells i (closed w) e = valid_on (sizes n W) (sizes n written_world) written_grows w (s.cells i (closed w) e)
+      cells : Each (CellOk (sizes n W) written_world.coroutines) W.cells
+      cells i (closed w) e = s.cells i (closed w) e
       cells i (open_at d g q) e = subst (λ m. q < m) (sym (registers_same d g)) (s.cells i (open_at d g q) e)
 
   -- the frame on top is the one that is written in, or another one
