@@ -11,11 +11,11 @@ use Rattle.machine_arms_tables.specs.Frame.{Code}
 use Rattle.machine_loop.specs.Running.{Running}
 use Rattle.running_frame.specs.Calling.{AreFunctions}
 use Rattle.running_frame.specs.Crossing.{LeavesFrame}
-use Rattle.running_frame.specs.Returning.{CallsOrReturns}
+use Rattle.running_frame.specs.Spreading.{CrossesOver}
 use Rattle.running_frame.specs.Standing.{RunsAt, standing}
 use Rattle.running_frame.specs.Storing.{StoresOpen}
 use Rattle.running_frame.proofs.Chained.{reaches_none}
-use Rattle.running_frame.proofs.Returned.{called_or_not}
+use Rattle.running_frame.proofs.SpreadCalls.{crossed_over_or_not}
 use Rattle.running_frame.proofs.Stored.{stored_so}
 
 left_so : (g : Running) (k : Code) (s : KeptStack) (ts : List Contents) (cs : List KeptCell) (fuel pc : ℕ) → RunsAt g k s ts cs fuel pc → (u : KeptStack) (size : ℕ) (funcs : List Func) (codes : Codes) (left co : ℕ)
@@ -23,8 +23,8 @@ left_so : (g : Running) (k : Code) (s : KeptStack) (ts : List Contents) (cs : Li
     → Reaches g.around.rows (standing g s ts cs fuel) (standing g u ts cs left)
 left_so g k s ts cs fuel pc r u size funcs codes left co a e own x = by x.leaves
   where
-    by : CallsOrReturns s u size funcs codes x.word fuel left ⊎ (StoresOpen co k.upvalues k.words s u cs pc x.word × (left ≡ fuel)) → Reaches g.around.rows (standing g s ts cs fuel) (standing g u ts cs left)
-    by (inl c) = called_or_not g k s ts cs fuel pc r u size funcs codes x.word left a e x.at_pc (Some tt) c tt
+    by : CrossesOver s u size funcs codes k.words pc x.word fuel left ⊎ (StoresOpen co k.upvalues k.words s u cs pc x.word × (left ≡ fuel)) → Reaches g.around.rows (standing g s ts cs fuel) (standing g u ts cs left)
+    by (inl c) = crossed_over_or_not g k s ts cs fuel pc r u size funcs codes x.word left a e x.at_pc (Some tt) c tt
     by (inr z) =
         subst (λ (n : ℕ). Reaches g.around.rows (standing g s ts cs fuel) (standing g u ts cs n)) (sym z.1)
         (stored_so g k s ts cs fuel pc r u x.word (subst (λ n. StoresOpen n k.upvalues k.words s u cs pc x.word) own z.0) x.at_pc)

@@ -20,9 +20,9 @@ mod FilledOne
 mod Takers
 mod BelowTop
 mod Returned
-mod Left
 mod ListReturned
 mod SpreadCalls
+mod Left
 mod Apart
 mod Taken
 mod Crossed

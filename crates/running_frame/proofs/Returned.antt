@@ -3,7 +3,6 @@ use Rattle.std.proofs.Common.{◌≡◌, inl, inr, ℕ, suc, ◌+◌, ◌-◌, L
 use Rattle.std.proofs.lemmas.Bool.Decides.{nat_tests}
 use Rattle.std.specs.Prelude.{IfNone, IfSome, ◌==◌, cond, nat_le, slice_get}
 use Rattle.std.proofs.lemmas.List.{length-map}
-use Rattle.std.proofs.lemmas.Option.{IfSome_then}
 use Rattle.code_core.specs.Check.{at}
 use Rattle.code_core.specs.Instruction.{a_of, b_of, opcode_of}
 use Rattle.code_core.specs.declared.instruction.Instruction.{Instruction}
@@ -208,15 +207,9 @@ crossed_or_not g k s ts cs fuel pc r u size funcs codes w left a e word None x y
     (subst (λ (u : KeptStack). Reaches g.around.rows (standing g s ts cs fuel) (standing g u ts cs fuel)) (sym y.0) (reaches_none g.around.rows (standing g s ts cs fuel)))
 crossed_or_not g k s ts cs fuel pc r u size funcs codes w left a e word (Some o) x y = crossed_so g k s ts cs fuel pc r u size funcs codes w left a e word x
 
--- a call or a return alone, or neither
+-- a call or a return is one of these
 
-crosses_so : (s u : KeptStack) (size : ℕ) (funcs : List Func) (codes : Codes) (words : List Instruction) (pc : ℕ) (w : Instruction) (fuel left : ℕ) → CallsOrReturns s u size funcs codes w fuel left
+pub crosses_so : (s u : KeptStack) (size : ℕ) (funcs : List Func) (codes : Codes) (words : List Instruction) (pc : ℕ) (w : Instruction) (fuel left : ℕ) → CallsOrReturns s u size funcs codes w fuel left
     → Crosses s u size funcs codes words pc w fuel left
 crosses_so s u size funcs codes words pc w fuel left (inl x) = inl (inl x)
 crosses_so s u size funcs codes words pc w fuel left (inr x) = inr (inr (inr x))
-
-pub called_or_not : (g : Running) (k : Code) (s : KeptStack) (ts : List Contents) (cs : List KeptCell) (fuel pc : ℕ) → RunsAt g k s ts cs fuel pc → (u : KeptStack) (size : ℕ) (funcs : List Func) (codes : Codes) (w : Instruction) (left : ℕ)
-    → AreFunctions g.around.context.base.functions funcs codes → size ≡ g.around.context.closure.code.own.stack → slice_get k.words pc ≡ Some w
-    → (o : Option (Unit {0})) → IfSome o (λ _. CallsOrReturns s u size funcs codes w fuel left) → IfNone o ((u ≡ s) × (left ≡ fuel)) → Reaches g.around.rows (standing g s ts cs fuel) (standing g u ts cs left)
-called_or_not g k s ts cs fuel pc r u size funcs codes w left a e word o x y =
-    crossed_or_not g k s ts cs fuel pc r u size funcs codes w left a e word o (IfSome_then o x (λ _ c. crosses_so s u size funcs codes k.words pc w fuel left c)) y

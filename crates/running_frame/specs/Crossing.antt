@@ -17,14 +17,14 @@ use Rattle.lua_heap.specs.declared.world.Func.{Func}
 use Rattle.lua_heap.specs.declared.world.World.{World as Memory}
 use Rattle.move_laws.specs.Memory.{Runs}
 use Rattle.step_laws.specs.Steps.{IsReady}
-use Rattle.running_frame.specs.Returning.{CallsOrReturns}
+use Rattle.running_frame.specs.Spreading.{CrossesOver}
 use Rattle.running_frame.specs.Storing.{StoresOpen}
 
--- the word at a place of the code is a CALL, a return, or a store to a variable of a frame below, and that is done
+-- the word at a place of the code is a call, a return, or a store to a variable of a frame below, and that is done
 pub record LeavesFrame (co : ℕ) (upvalues : List CellId) (words : List Instruction) (s u : KeptStack) (cells : List Cell) (size : ℕ) (funcs : List Func) (codes : Codes) (pc fuel left : ℕ) : Type 0 where
   pub word : Instruction
   pub at_pc : slice_get words pc ≡ Some word
-  pub leaves : CallsOrReturns s u size funcs codes word fuel left ⊎ (StoresOpen co upvalues words s u cells pc word × (left ≡ fuel))
+  pub leaves : CrossesOver s u size funcs codes words pc word fuel left ⊎ (StoresOpen co upvalues words s u cells pc word × (left ≡ fuel))
 
 -- rows of the library, and the world in which the stack was found
 pub record Ground : Type 0 where

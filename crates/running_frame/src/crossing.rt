@@ -1,4 +1,4 @@
-// Calls of Lua functions and returns from them, which most frames stop at (OP_CALL, OP_RETURN, OP_RETURN0 and OP_RETURN1 of lvm.c).
+// Calls of Lua functions and returns from them, which most frames stop at (OP_CALL, OP_TAILCALL, OP_RETURN, OP_RETURN0 and OP_RETURN1 of lvm.c).
 ghost use Rattle.std.specs.Prelude.{◌≡◌, ◌<◌, IfNone, IfSome, length};
 ghost use Rattle.code_core.specs.Instruction.{b_of, opcode_of};
 ghost use Rattle.lua_heap.specs.Plain.{plain};
@@ -9,13 +9,15 @@ ghost use Rattle.machine_loop.specs.Running.{Running};
 ghost use Rattle.running_frame.specs.Calling.{AreFunctions, CallsIn, HaveCode};
 ghost use Rattle.running_frame.specs.Crossing.{Ground, LeavesFrame, MayCross, runs_on, world_with};
 ghost use Rattle.running_frame.specs.Returning.{CallsOrReturns, ReturnsIn, said_of};
+ghost use Rattle.running_frame.specs.Spreading.{CrossesOver, Spreads};
 ghost use Rattle.running_frame.specs.Standing.{IsClosedFrom, MayRun, RunsAt, standing};
 ghost use Rattle.running_frame.specs.Upvalues.{ListsOpen};
 
 use crate::calling::{call_function, is_call, one_less};
-use crate::place::{here_at, is_none};
+use crate::place::{Here, here_at, is_none};
 use crate::returning::{return_counted, return_values};
-use crate::stack::{closed_from, run_round};
+use crate::spreading::spread;
+use crate::stack::{Stop, closed_from, run_round};
 use crate::storing::store_open;
 use crate::upvalues::read_open;
 use code_core::{Instruction, Opcode};
@@ -225,7 +227,7 @@ fn run_again(
     )
 }
 
-/// A CALL, a return or a store to a variable of a frame below, at which the frame on top stands. `None`, with all as before, at any other instruction, and where
+/// A call, a return or a store to a variable of a frame below, at which the frame on top stands. `None`, with all as before, at any other instruction, and where
 /// it takes more than the stack.
 #[inline(always)]
 fn leave_frame(
@@ -249,13 +251,79 @@ fn leave_frame(
     ensures listed { stack.new.open_cells ≡ stack.old.open_cells }
 {
     let here = here_at(words, pc, true);
-    match cross_at(stack, size, funcs, codes, budget, here.word) {
+    match cross_over_at(stack, size, funcs, codes, words, budget, pc, here.word) {
         Some(()) => Some(()),
         None => store_open(stack, words, upvalues, cells, co, here),
     }
 }
 
-/// A CALL or a return at which the frame on top stands. `None`, with all as before, at any other instruction, and where it takes more than the stack.
+/// A call or a return.
+#[inline(always)]
+fn cross_over_at(
+    stack: &mut Stack,
+    size: usize,
+    funcs: &Pool<Func>,
+    codes: &Codes,
+    words: &[Instruction],
+    budget: &mut u64,
+    pc: usize,
+    i: Instruction,
+) -> Option<()>
+    requires top { HasLuaTop stack.old }
+    requires codes { HaveCode funcs.now.objects codes.now }
+    ensures crosses { IfSome result (λ _. CrossesOver stack.old stack.new size funcs.now.objects codes.now words.now pc i budget.old budget.new) }
+    ensures kept { IfNone result ((stack.new ≡ stack.old) × (budget.new ≡ budget.old)) }
+    ensures listed { stack.new.open_cells ≡ stack.old.open_cells }
+{
+    match cross_at(stack, size, funcs, codes, budget, i) {
+        Some(()) => Some(()),
+        None => spread_at(stack, size, funcs, codes, words, budget, pc, i),
+    }
+}
+
+/// A call with an open list, or a return that opens one.
+#[inline(never)]
+fn spread_at(
+    stack: &mut Stack,
+    size: usize,
+    funcs: &Pool<Func>,
+    codes: &Codes,
+    words: &[Instruction],
+    budget: &mut u64,
+    pc: usize,
+    i: Instruction,
+) -> Option<()>
+    requires top { HasLuaTop stack.old }
+    requires codes { HaveCode funcs.now.objects codes.now }
+    ensures spreads { IfSome result (λ _. Spreads stack.old stack.new size funcs.now.objects codes.now words.now pc i budget.old budget.new) }
+    ensures kept { IfNone result ((stack.new ≡ stack.old) × (budget.new ≡ budget.old)) }
+    ensures listed { stack.new.open_cells ≡ stack.old.open_cells }
+{
+    if !may_spread(i) {
+        return None;
+    }
+    let closed = closed_from(stack);
+    let stop = Stop {
+        here: Here {
+            pc,
+            word: i,
+            runs: true,
+        },
+        closed,
+    };
+    spread(stack, size, funcs, codes, words, budget, stop)
+}
+
+/// Whether an instruction may be one of these.
+fn may_spread(i: Instruction) -> bool {
+    match i.opcode() {
+        Some(Opcode::Call) => i.b() == 0,
+        Some(Opcode::TailCall) => i.b() == 0,
+        _ => is_return(i),
+    }
+}
+
+/// A CALL or a return of values that are counted.
 #[inline(always)]
 fn cross_at(
     stack: &mut Stack,

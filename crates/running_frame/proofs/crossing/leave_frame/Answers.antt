@@ -2,7 +2,7 @@ use Rattle.std.proofs.Common.{◌≡◌, inl, inr, Some, sym, subst, ◌∙◌}
 use Rattle.std.specs.Prelude.{IfNone, IfSome, slice_get}
 use Rattle.std.proofs.lemmas.Option.{IfSome_then}
 use Rattle.lua_stack.specs.Frames.{HasLuaTop, KeptStack}
-use Rattle.running_frame.specs.Returning.{CallsOrReturns}
+use Rattle.running_frame.specs.Spreading.{CrossesOver}
 use Rattle.running_frame.specs.Storing.{StoresOpen}
 use Rattle.running_frame.specs.Upvalues.{ListsOpen}
 use Rattle.running_frame.proofs.Takers.{none_then}
@@ -13,22 +13,22 @@ returns-in-Some-clause-leaves c = record {
   word = c.here_at-here.result.word;
   at_pc = subst (λ n. slice_get c.args.words.now n ≡ Some c.here_at-here.result.word) c.here_at-here.ensures.place c.here_at-here.ensures.word;
   leaves =
-      inl (subst (λ o. IfSome o (λ _. CallsOrReturns c.args.stack.now c.cross_at.new.stack c.args.size c.args.funcs.now.objects c.args.codes.now c.here_at-here.result.word c.args.budget.now c.cross_at.new.budget)) c.in-Some.is c.cross_at.ensures.crosses);
+      inl (subst (λ o. IfSome o (λ _. CrossesOver c.args.stack.now c.cross_over_at.new.stack c.args.size c.args.funcs.now.objects c.args.codes.now c.args.words.now c.args.pc c.here_at-here.result.word c.args.budget.now c.cross_over_at.new.budget)) c.in-Some.is c.cross_over_at.ensures.crosses);
 }
 
 pub store_open-requires-clause-top : goal.store_open-requires-clause-top
 store_open-requires-clause-top c =
-    let k = subst (λ o. IfNone o ((c.cross_at.new.stack ≡ c.args.stack.now) × (c.cross_at.new.budget ≡ c.args.budget.now))) c.in-None.is c.cross_at.ensures.kept in
+    let k = subst (λ o. IfNone o ((c.cross_over_at.new.stack ≡ c.args.stack.now) × (c.cross_over_at.new.budget ≡ c.args.budget.now))) c.in-None.is c.cross_over_at.ensures.kept in
     subst HasLuaTop (sym k.0) c.requires.top
 
 pub store_open-requires-clause-cells : goal.store_open-requires-clause-cells
 store_open-requires-clause-cells c =
-    let k = subst (λ o. IfNone o ((c.cross_at.new.stack ≡ c.args.stack.now) × (c.cross_at.new.budget ≡ c.args.budget.now))) c.in-None.is c.cross_at.ensures.kept in
+    let k = subst (λ o. IfNone o ((c.cross_over_at.new.stack ≡ c.args.stack.now) × (c.cross_over_at.new.budget ≡ c.args.budget.now))) c.in-None.is c.cross_over_at.ensures.kept in
     subst (λ (s : KeptStack). ListsOpen c.args.co.0 s c.args.cells.now.objects) (sym k.0) c.requires.cells
 
 pub returns-in-None-clause-leaves : goal.returns-in-None-clause-leaves
 returns-in-None-clause-leaves c =
-    let k = subst (λ o. IfNone o ((c.cross_at.new.stack ≡ c.args.stack.now) × (c.cross_at.new.budget ≡ c.args.budget.now))) c.in-None.is c.cross_at.ensures.kept in
+    let k = subst (λ o. IfNone o ((c.cross_over_at.new.stack ≡ c.args.stack.now) × (c.cross_over_at.new.budget ≡ c.args.budget.now))) c.in-None.is c.cross_over_at.ensures.kept in
     IfSome_then c.store_open.result c.store_open.ensures.stores
     (λ o x. record {
       word = c.here_at-here.result.word;
@@ -43,8 +43,8 @@ returns-in-None-clause-leaves c =
 
 pub returns-in-None-clause-kept : goal.returns-in-None-clause-kept
 returns-in-None-clause-kept c =
-    let k = subst (λ o. IfNone o ((c.cross_at.new.stack ≡ c.args.stack.now) × (c.cross_at.new.budget ≡ c.args.budget.now))) c.in-None.is c.cross_at.ensures.kept in
-    none_then c.store_open.result (λ (e : c.store_open.new.stack ≡ c.cross_at.new.stack). (e ∙ k.0, k.1)) c.store_open.ensures.kept
+    let k = subst (λ o. IfNone o ((c.cross_over_at.new.stack ≡ c.args.stack.now) × (c.cross_over_at.new.budget ≡ c.args.budget.now))) c.in-None.is c.cross_over_at.ensures.kept in
+    none_then c.store_open.result (λ (e : c.store_open.new.stack ≡ c.cross_over_at.new.stack). (e ∙ k.0, k.1)) c.store_open.ensures.kept
 
 pub returns-in-None-clause-listed : goal.returns-in-None-clause-listed
-returns-in-None-clause-listed c = c.store_open.ensures.listed ∙ c.cross_at.ensures.listed
+returns-in-None-clause-listed c = c.store_open.ensures.listed ∙ c.cross_over_at.ensures.listed
