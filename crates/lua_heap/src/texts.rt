@@ -30,7 +30,7 @@ impl World {
     }
 
     /// The same where most likely there is none yet.
-    pub fn intern_new(&mut self, bytes: &[u8]) -> Result<StrId, AllocError>
+    pub fn intern_new(&mut self, bytes: &[u8]) -> Allocated<StrId>
         requires { length bytes.now ≤ greatest_string }
         ensures named { IfOk result (λ id. slice_get self.new.strings id.0 ≡ Some bytes.now) }
         ensures interned { OnOk result (Interns self.old self.new bytes.now) }

@@ -11,7 +11,7 @@ use io_edge::{Failed, FileFault};
 use lua_feed::FeedFault;
 use lua_saving::SaveFault;
 use prelude_code::PreludeFault;
-use std::alloc::AllocError;
+use std::alloc::{AllocError, AllocFailed};
 use thiserror::Error;
 
 /// Why a call has a line on standard error.
@@ -83,6 +83,16 @@ impl Fault {
             Fault::Absent => 11,
             Fault::Prelude => 12,
         }
+    }
+}
+
+impl<T: Drop> From<AllocFailed<T>> for Fault {
+    ghost use Rattle.program.specs.declared.fault.Fault.TheVariants.{Memory};
+
+    ghost from_gives = { λ _ made. made ≡ Memory };
+
+    fn from(_: AllocFailed<T>) -> Fault {
+        Fault::Memory
     }
 }
 
