@@ -74,9 +74,9 @@ fn cross_frames(world: &mut World, budget: &mut u64)
 /// Does so over the stack that runs, which is found once for all of them.
 #[inline(always)]
 fn cross_running(world: &mut World, budget: &mut u64)
-    ghost ground: { Ground }
-    requires { Grounds ground world.old }
-    ensures reaches { Reaches ground.rows (plain world.old budget.old) (plain world.new budget.new) }
+    ghost outside: { Ground }
+    requires { Grounds outside world.old }
+    ensures reaches { Reaches outside.rows (plain world.old budget.old) (plain world.new budget.new) }
     ensures ready { IsReady (length all_entries) go world.new }
     ensures still { world.new.moving ≡ world.old.moving }
 {

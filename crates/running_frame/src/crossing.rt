@@ -41,11 +41,11 @@ pub(crate) fn cross_stack(
     cells: &mut Pool<Cell>,
     budget: &mut u64,
 )
-    ghost ground: { Ground }
-    requires may { MayCross ground (world_with ground stack.old strings.now funcs.now codes.now tables.old cells.old) stack.old }
-    requires own { co ≡ runs_on ground }
-    ensures reaches { Reaches ground.rows (plain (world_with ground stack.old strings.now funcs.now codes.now tables.old cells.old) budget.old) (plain (world_with ground stack.new strings.now funcs.now codes.now tables.new cells.new) budget.new) }
-    ensures may { MayCross ground (world_with ground stack.new strings.now funcs.now codes.now tables.new cells.new) stack.new }
+    ghost outside: { Ground }
+    requires may { MayCross outside (world_with outside stack.old strings.now funcs.now codes.now tables.old cells.old) stack.old }
+    requires own { co ≡ runs_on outside }
+    ensures reaches { Reaches outside.rows (plain (world_with outside stack.old strings.now funcs.now codes.now tables.old cells.old) budget.old) (plain (world_with outside stack.new strings.now funcs.now codes.now tables.new cells.new) budget.new) }
+    ensures may { MayCross outside (world_with outside stack.new strings.now funcs.now codes.now tables.new cells.new) stack.new }
 {
     for _ in 0..u64::MAX {
         let crossed = cross_next(stack, co, strings, funcs, codes, tables, cells, budget);
@@ -68,11 +68,11 @@ fn cross_next(
     cells: &mut Pool<Cell>,
     budget: &mut u64,
 ) -> bool
-    ghost ground: { Ground }
-    requires may { MayCross ground (world_with ground stack.old strings.now funcs.now codes.now tables.old cells.old) stack.old }
-    requires own { co ≡ runs_on ground }
-    ensures reaches { Reaches ground.rows (plain (world_with ground stack.old strings.now funcs.now codes.now tables.old cells.old) budget.old) (plain (world_with ground stack.new strings.now funcs.now codes.now tables.new cells.new) budget.new) }
-    ensures may { MayCross ground (world_with ground stack.new strings.now funcs.now codes.now tables.new cells.new) stack.new }
+    ghost outside: { Ground }
+    requires may { MayCross outside (world_with outside stack.old strings.now funcs.now codes.now tables.old cells.old) stack.old }
+    requires own { co ≡ runs_on outside }
+    ensures reaches { Reaches outside.rows (plain (world_with outside stack.old strings.now funcs.now codes.now tables.old cells.old) budget.old) (plain (world_with outside stack.new strings.now funcs.now codes.now tables.new cells.new) budget.new) }
+    ensures may { MayCross outside (world_with outside stack.new strings.now funcs.now codes.now tables.new cells.new) stack.new }
 {
     checked_code_is_there();
     strings.len();

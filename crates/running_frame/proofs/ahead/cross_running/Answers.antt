@@ -18,15 +18,15 @@ get_mut-requires g c = within c.running-co.ensures
 pub cross_stack-requires : goal.cross_stack-requires
 cross_stack-requires g c =
     let r = found c.running-co.ensures c.get_mut.ensures.value c.in-Running.is in
-    (begins_so g.ground c.args.world.now c.requires c.running-co.result c.in-Running.stack r, own_co g.ground c.args.world.now c.requires c.running-co.result c.in-Running.stack r)
+    (begins_so g.outside c.args.world.now c.requires c.running-co.result c.in-Running.stack r, own_co g.outside c.args.world.now c.requires c.running-co.result c.in-Running.stack r)
 
 pub returns-clause-reaches : goal.returns-clause-reaches
 returns-clause-reaches g c =
     let r = found c.running-co.ensures c.get_mut.ensures.value c.in-Running.is in
-    reaches_so g.ground c.args.world.now c.requires c.running-co.result c.in-Running.stack r c.cross_stack.new.tables c.cross_stack.new.cells c.cross_stack.new.stack
+    reaches_so g.outside c.args.world.now c.requires c.running-co.result c.in-Running.stack r c.cross_stack.new.tables c.cross_stack.new.cells c.cross_stack.new.stack
     c.args.budget.now c.cross_stack.new.budget c.cross_stack.ensures.reaches
 
 pub returns-clause-ready : goal.returns-clause-ready
 returns-clause-ready g c =
     let r = found c.running-co.ensures c.get_mut.ensures.value c.in-Running.is in
-    ready_so g.ground c.args.world.now c.requires c.running-co.result c.in-Running.stack r c.cross_stack.new.tables c.cross_stack.new.cells c.cross_stack.new.stack c.cross_stack.ensures.may
+    ready_so g.outside c.args.world.now c.requires c.running-co.result c.in-Running.stack r c.cross_stack.new.tables c.cross_stack.new.cells c.cross_stack.new.stack c.cross_stack.ensures.may

@@ -5,4 +5,4 @@ use Rattle.running_frame.specs.Standing.{held_apart}
 use Rattle.running_frame.proofs.crossing.cross_next.Given as goal
 
 abbrev pub ghost-cross_frame : goal.ghost-cross_frame
-ghost-cross_frame g a = held_apart (length all_entries) g.ground.rows (world_with g.ground a.stack.now a.strings.now a.funcs.now a.codes.now a.tables.now a.cells.now)
+ghost-cross_frame g a = held_apart (length all_entries) g.outside.rows (world_with g.outside a.stack.now a.strings.now a.funcs.now a.codes.now a.tables.now a.cells.now)
