@@ -4,3 +4,4 @@ pub mod Meant
 pub mod Taken
 pub mod Resumed
 mod Unchanged
+mod Stood

@@ -1,8 +1,10 @@
 // The laws of calls of the program on one script.
 ghost use Rattle.calls_mean.specs.Law.{CallsMean, CallsMeanOne};
 ghost use Rattle.calls_mean.specs.Resumes.{ResumesAsMeant, SavedGoesOn, SavedIsNotRefused, SavedIsUnchanged};
+ghost use Rattle.calls_mean.specs.Stands.{SavedCallsStand};
 
 use images_joined::the_reader_knows;
+use images_mean::saved_images_stand;
 use loaded_code::loading_is_safe;
 use prelude_stays::runs_have_the_prelude;
 use scripts_mean::prelude_is_alike;
@@ -40,4 +42,13 @@ pub fn saved_calls_resume()
     runs_have_the_prelude();
     saved_sessions_load();
     sessions_keep_the_prelude();
+}
+
+/// Where a call of `run` on a script answers 3 and has saved the session, what the script means on the lines of the input is suspended, and the bytes in the
+/// file stand for that: they are read as a session that goes on, on all further lines and with every budget, as the script does by the letter of the manual.
+pub fn saved_calls_stand()
+    ensures { SavedCallsStand }
+{
+    prelude_is_alike();
+    saved_images_stand();
 }

@@ -36,11 +36,9 @@ use Rattle.program.proofs.Endings.{told_lines}
 use Rattle.program.proofs.Meant.{not_run_ends}
 use Rattle.program.proofs.MeaningLemmas.{read_of, name_is_short, tree_of}
 use Rattle.calls_mean.proofs.Ended.{saved_so}
-use Rattle.calls_stand.specs.Law.{IsSavingCall, StandFor, SavedCallsStand}
+use Rattle.calls_mean.specs.Stands.{IsSavingCall, StandFor, SavedCallsStand}
 use Rattle.program.proofs.CodeLemmas.{of_script}
 use Rattle.calls_mean.proofs.Meant.{all_there}
-
--- the prelude has a function for each key
 
 module _ (builds : Builds Body) (name content text image bytes : List ℕ) (budget : ℕ) (s : IsSavingCall builds name content text image bytes budget) where
   -- the run of the call
