@@ -2,14 +2,14 @@
 use Rattle.std.proofs.Common.{◌≡◌, ℕ, zero, suc, ◌+◌, ◌*◌, ◌==◌, Bool, true, false, cond, List, Option, Some, None, refl}
 use Rattle.std.specs.Prelude.{ℤ, pos, negsuc}
 use Rattle.code_core.specs.declared.opcode.Opcode.{Opcode}
-use Rattle.code_core.specs.declared.opcode.Opcode.TheVariants.{Move, LoadI, LoadF, LoadK, LoadKx, LoadFalse, LFalseSkip, LoadTrue, LoadNil, GetUpval, SetUpval, GetTabUp, GetTable, GetI, GetField, SetTabUp, SetTable, SetI, SetField, NewTable, OpSelf, AddI, PowK, DivK, ShrI, ShlI, Pow, Div, MmBin, MmBinI, MmBinK, Unm, BNot, Not, Len, Concat, Close, Tbc, Jmp, Eq, Lt, Le, EqK, EqI, LtI, LeI, GtI, GeI, Test, TestSet, Call, TailCall, Return, Return0, Return1, ForLoop, ForPrep, TForPrep, TForCall, TForLoop, SetList, Closure, VarArg, VarArgPrep, ExtraArg}
+use Rattle.code_core.specs.declared.opcode.Opcode.TheVariants.{Move, LoadI, LoadF, LoadK, LoadKx, LoadFalse, LFalseSkip, LoadTrue, LoadNil, GetUpval, SetUpval, GetTabUp, GetTable, GetI, GetField, SetTabUp, SetTable, SetI, SetField, NewTable, OpSelf, AddI, PowK, DivK, ShrI, ShlI, Pow, Div, MmBin, MmBinI, MmBinK, Unm, BNot, Not, Len, Concat, Close, Tbc, Jmp, Eq, Lt, Le, EqK, EqI, LtI, LeI, GtI, GeI, Test, TestSet, Call, TailCall, Return, Return0, Return1, ForLoop, ForPrep, TForPrep, TForCall, TForLoop, SetList, Closure, VarArg, VarArgPrep, ExtraArg, AddK, SubK, MulK, ModK, IDivK, BAndK, BOrK, BXorK, Add, Sub, Mul, Mod, IDiv, BAnd, BOr, BXor, Shl, Shr}
 use Rattle.code_core.specs.declared.instruction.Instruction.{Instruction}
 use Rattle.code_core.specs.Prototype.{Prototype}
 use Rattle.code_core.specs.Instruction.{a_of, b_of, c_of, sc_of, k_of, bx_of, sj_of}
 use Rattle.code_core.specs.Check.{in_front, extra_at}
 use Rattle.int_core.specs.Value.{a_table, Shape, is_known, is_object, holds, same_truth, same_plain, same_integer, nil, integer}
 use Rattle.machine_core.specs.World.{Wait, running, for_call, for_iterator, for_value, for_truth, dropped, for_concat, for_close, returning, leaving}
-use Rattle.int_core.specs.Operations.{Event, of_add, of_shl, of_shr, computed, by_zero}
+use Rattle.int_core.specs.Operations.{Event, of_add, of_shl, of_shr, of_sub, of_mul, of_mod, of_idiv, of_band, of_bor, of_bxor, computed, by_zero}
 use Rattle.machine_core.specs.Text.{Arg, read, written, Text, write_register, read_register, trap, raise, own, open_cell, quick, make_function, operate, call, close, closable, pay, go_by}
 use Rattle.machine_core.specs.InstructionRows.{row_of, value_comes, rest, counted, return_count, then, back, is_true, integer_of_shape, fast, event_numbered, handled, joins, starts, prepares, goes_round, runs, jumps, marks, fills_each, fills_from, fills_by, register_or_constant, read_values, write_values, to_register, to_register_before, closes, returns, fails, next, skip}
 use Rattle.machine_core.specs.RowFits.{IsWaiting}
@@ -224,4 +224,21 @@ row_plain p pc Div w = tt
 row_plain p pc ExtraArg w = tt
 row_plain p pc Closure w = tt
 -- two registers, or a register and a constant
-row_plain p pc op w = λ _ s _ t. fast_plain p pc op w _ (a_of w) (integer_of_shape s) (integer_of_shape t)
+row_plain p pc AddK w = λ _ s _ t. fast_plain p pc AddK w of_add (a_of w) (integer_of_shape s) (integer_of_shape t)
+row_plain p pc SubK w = λ _ s _ t. fast_plain p pc SubK w of_sub (a_of w) (integer_of_shape s) (integer_of_shape t)
+row_plain p pc MulK w = λ _ s _ t. fast_plain p pc MulK w of_mul (a_of w) (integer_of_shape s) (integer_of_shape t)
+row_plain p pc ModK w = λ _ s _ t. fast_plain p pc ModK w of_mod (a_of w) (integer_of_shape s) (integer_of_shape t)
+row_plain p pc IDivK w = λ _ s _ t. fast_plain p pc IDivK w of_idiv (a_of w) (integer_of_shape s) (integer_of_shape t)
+row_plain p pc BAndK w = λ _ s _ t. fast_plain p pc BAndK w of_band (a_of w) (integer_of_shape s) (integer_of_shape t)
+row_plain p pc BOrK w = λ _ s _ t. fast_plain p pc BOrK w of_bor (a_of w) (integer_of_shape s) (integer_of_shape t)
+row_plain p pc BXorK w = λ _ s _ t. fast_plain p pc BXorK w of_bxor (a_of w) (integer_of_shape s) (integer_of_shape t)
+row_plain p pc Add w = λ _ s _ t. fast_plain p pc Add w of_add (a_of w) (integer_of_shape s) (integer_of_shape t)
+row_plain p pc Sub w = λ _ s _ t. fast_plain p pc Sub w of_sub (a_of w) (integer_of_shape s) (integer_of_shape t)
+row_plain p pc Mul w = λ _ s _ t. fast_plain p pc Mul w of_mul (a_of w) (integer_of_shape s) (integer_of_shape t)
+row_plain p pc Mod w = λ _ s _ t. fast_plain p pc Mod w of_mod (a_of w) (integer_of_shape s) (integer_of_shape t)
+row_plain p pc IDiv w = λ _ s _ t. fast_plain p pc IDiv w of_idiv (a_of w) (integer_of_shape s) (integer_of_shape t)
+row_plain p pc BAnd w = λ _ s _ t. fast_plain p pc BAnd w of_band (a_of w) (integer_of_shape s) (integer_of_shape t)
+row_plain p pc BOr w = λ _ s _ t. fast_plain p pc BOr w of_bor (a_of w) (integer_of_shape s) (integer_of_shape t)
+row_plain p pc BXor w = λ _ s _ t. fast_plain p pc BXor w of_bxor (a_of w) (integer_of_shape s) (integer_of_shape t)
+row_plain p pc Shl w = λ _ s _ t. fast_plain p pc Shl w of_shl (a_of w) (integer_of_shape s) (integer_of_shape t)
+row_plain p pc Shr w = λ _ s _ t. fast_plain p pc Shr w of_shr (a_of w) (integer_of_shape s) (integer_of_shape t)
