@@ -1,12 +1,12 @@
 -- The row of every instruction that runs is safe in checked code.
 use Rattle.std.proofs.Common.{◌≡◌, [], Option, Some, None, refl, subst, sym, ap, ◌∙◌, true, false}
 use Rattle.code_core.specs.declared.opcode.Opcode.{Opcode}
-use Rattle.code_core.specs.declared.opcode.Opcode.TheVariants.{Move, LoadI, LoadF, LoadK, LoadKx, LoadFalse, LFalseSkip, LoadTrue, LoadNil, GetUpval, SetUpval, GetTabUp, GetTable, GetI, GetField, SetTabUp, SetTable, SetI, SetField, NewTable, OpSelf, AddI, AddK, SubK, MulK, ModK, PowK, DivK, IDivK, BAndK, BOrK, BXorK, ShrI, ShlI, Pow, Div, MmBin, MmBinI, MmBinK, Unm, BNot, Not, Len, Concat, Close, Tbc, Jmp, Eq, Lt, Le, EqK, EqI, LtI, LeI, GtI, GeI, Test, TestSet, Call, TailCall, Return, Return0, Return1, ForLoop, ForPrep, TForPrep, TForCall, TForLoop, SetList, Closure, VarArg, VarArgPrep, ExtraArg}
+use Rattle.code_core.specs.declared.opcode.Opcode.TheVariants.{Move, LoadI, LoadK, LoadKx, LoadFalse, LFalseSkip, LoadTrue, LoadNil, GetUpval, SetUpval, GetTabUp, GetTable, GetI, GetField, SetTabUp, SetTable, SetI, SetField, NewTable, OpSelf, AddI, AddK, SubK, MulK, ModK, IDivK, BAndK, BOrK, BXorK, ShrI, ShlI, Add, Sub, Mul, Mod, IDiv, BAnd, BOr, BXor, Shl, Shr, MmBin, MmBinI, MmBinK, Unm, BNot, Not, Len, Concat, Close, Tbc, Jmp, Eq, Lt, Le, EqK, EqI, LtI, LeI, GtI, GeI, Test, TestSet, Call, TailCall, Return, Return0, Return1, ForLoop, ForPrep, TForPrep, TForCall, TForLoop, SetList, Closure, VarArg, VarArgPrep, ExtraArg}
 use Rattle.code_core.specs.declared.instruction.Instruction.{Instruction}
 use Rattle.code_core.specs.Instruction.{opcode_of}
 use Rattle.code_core.specs.Fields.{takes_list}
 use Rattle.code_core.specs.Check.{CodeIsChecked}
-use Rattle.int_core.specs.Operations.{of_add, of_sub, of_mul, of_mod, of_idiv, of_band, of_bor, of_bxor}
+use Rattle.int_core.specs.Operations.{of_add, of_sub, of_mul, of_mod, of_idiv, of_band, of_bor, of_bxor, of_shl, of_shr}
 use Rattle.machine_core.specs.Text.{Text, trap}
 use Rattle.machine_core.specs.InstructionRows.{row_of, text_at, text_by}
 use Rattle.machine_core.specs.FrameRows.{expand}
@@ -53,6 +53,16 @@ row_safe BOrK t w h x l = constant_safe h of_bor refl (refl, refl, refl, refl) r
 row_safe BXorK t w h x l = constant_safe h of_bxor refl (refl, refl, refl, refl) refl (λ _. refl)
 row_safe ShrI t w h x l = shr_i_safe t w h
 row_safe ShlI t w h x l = shl_i_safe t w h
+row_safe Add t w h x l = registers_safe h of_add refl (refl, refl, refl, refl) refl
+row_safe Sub t w h x l = registers_safe h of_sub refl (refl, refl, refl, refl) refl
+row_safe Mul t w h x l = registers_safe h of_mul refl (refl, refl, refl, refl) refl
+row_safe Mod t w h x l = registers_safe h of_mod refl (refl, refl, refl, refl) refl
+row_safe IDiv t w h x l = registers_safe h of_idiv refl (refl, refl, refl, refl) refl
+row_safe BAnd t w h x l = registers_safe h of_band refl (refl, refl, refl, refl) refl
+row_safe BOr t w h x l = registers_safe h of_bor refl (refl, refl, refl, refl) refl
+row_safe BXor t w h x l = registers_safe h of_bxor refl (refl, refl, refl, refl) refl
+row_safe Shl t w h x l = registers_safe h of_shl refl (refl, refl, refl, refl) refl
+row_safe Shr t w h x l = registers_safe h of_shr refl (refl, refl, refl, refl) refl
 row_safe MmBin t w h x l = mm_bin_safe t w h
 row_safe MmBinI t w h x l = mm_bin_i_safe t w h
 row_safe MmBinK t w h x l = mm_bin_k_safe t w h
@@ -90,13 +100,7 @@ row_safe Closure t w h x l = closure_safe t w h
 row_safe VarArg t w h x l = var_arg_safe t w h
 row_safe VarArgPrep t w h x l = var_arg_prep_safe t w h
 row_safe ExtraArg t w h x l = absurd (cc)
-row_safe LoadF t w h x l = absurd (let e = h.rule.whole in cc)
-row_safe PowK t w h x l = absurd (let e = h.rule.whole in cc)
-row_safe DivK t w h x l = absurd (let e = h.rule.whole in cc)
-row_safe Pow t w h x l = absurd (let e = h.rule.whole in cc)
-row_safe Div t w h x l = absurd (let e = h.rule.whole in cc)
--- two registers
-row_safe op t w h x l = registers_safe h _ refl (refl, refl, refl, refl) refl
+row_safe _ t w h x l = absurd (let e = h.rule.whole in cc)
 
 -- the text of the instruction at hand
 pub text_safe : (t : Top) → CodeIsChecked t.code → Fits t → t.pending ≡ t.code.own.stack → t.cells ≡ t.code.own.stack → IsTrue t.runs → Safe (on_lua t) [] (expand (text_at t.code t.pc))
