@@ -4,9 +4,9 @@ use Rattle.std.specs.Prelude.{IsTrue, nat_le, ℤ, pos, negsuc, codes, not, ◌+
 use Rattle.std.proofs.Math.Nat.{mod-lt}
 use Rattle.int_core.specs.Value.{nil, boolean, integer, a_table, Shape, is_known, is_object, holds, same_truth, same_plain, same_integer}
 use Rattle.int_core.specs.Arithmetic.{add, sub}
-use Rattle.int_core.specs.Operations.{Event, of_add, of_shl, of_shr, of_unm, of_bnot, Operation, index, store, arithmetic, concat, length', equal, less, less_equal}
+use Rattle.int_core.specs.Operations.{Event, of_add, of_sub, of_mul, of_mod, of_idiv, of_band, of_bor, of_bxor, of_shl, of_shr, of_unm, of_bnot, Operation, index, store, arithmetic, concat, length', equal, less, less_equal}
 use Rattle.code_core.specs.declared.opcode.Opcode.{Opcode}
-use Rattle.code_core.specs.declared.opcode.Opcode.TheVariants.{Move, LoadI, LoadF, LoadK, LoadKx, LoadFalse, LFalseSkip, LoadTrue, LoadNil, GetUpval, SetUpval, GetTabUp, GetTable, GetI, GetField, SetTabUp, SetTable, SetI, SetField, NewTable, OpSelf, AddI, PowK, DivK, ShrI, ShlI, Pow, Div, MmBin, MmBinI, MmBinK, Unm, BNot, Not, Len, Concat, Close, Tbc, Jmp, Eq, Lt, Le, EqK, EqI, LtI, LeI, GtI, GeI, Test, TestSet, Call, TailCall, Return, Return0, Return1, ForLoop, ForPrep, TForPrep, TForCall, TForLoop, SetList, Closure, VarArg, VarArgPrep, ExtraArg}
+use Rattle.code_core.specs.declared.opcode.Opcode.TheVariants.{Move, LoadI, LoadK, LoadKx, LoadFalse, LFalseSkip, LoadTrue, LoadNil, GetUpval, SetUpval, GetTabUp, GetTable, GetI, GetField, SetTabUp, SetTable, SetI, SetField, NewTable, OpSelf, AddI, AddK, SubK, MulK, ModK, IDivK, BAndK, BOrK, BXorK, ShrI, ShlI, Add, Sub, Mul, Mod, IDiv, BAnd, BOr, BXor, Shl, Shr, MmBin, MmBinI, MmBinK, Unm, BNot, Not, Len, Concat, Close, Tbc, Jmp, Eq, Lt, Le, EqK, EqI, LtI, LeI, GtI, GeI, Test, TestSet, Call, TailCall, Return, Return0, Return1, ForLoop, ForPrep, TForPrep, TForCall, TForLoop, SetList, Closure, VarArg, VarArgPrep}
 use Rattle.code_core.specs.declared.instruction.Instruction.{Instruction}
 use Rattle.code_core.specs.declared.proto.UpDesc.{UpDesc}
 use Rattle.code_core.specs.Instruction.{opcode_of, a_of, b_of, c_of, k_of, bx_of, sbx_of, sj_of, sc_of}
@@ -245,8 +245,26 @@ row_falls p pc SetField w = (tt, λ o t. (tt, λ k s. either_falls w _ (λ v u. 
 row_falls p pc NewTable w = extra_falls p pc _ (λ ax. (tt, λ n t. (tt, λ m s. skip_falls at_once 30)))
 row_falls p pc OpSelf w = (tt, λ o t. either_falls w _ (λ k u. operate_kept 30 index (read o ∷ read k ∷ []) for_value (a_of w + 1) (read o) (to_register (a_of w) (read 0)) low refl (reg (a_of w) (read 0))))
 row_falls p pc AddI w = (tt, λ n s. fast_falls of_add (a_of w) _ _)
+row_falls p pc AddK w = (tt, λ n s. (tt, λ m t. fast_falls of_add (a_of w) _ _))
+row_falls p pc SubK w = (tt, λ n s. (tt, λ m t. fast_falls of_sub (a_of w) _ _))
+row_falls p pc MulK w = (tt, λ n s. (tt, λ m t. fast_falls of_mul (a_of w) _ _))
+row_falls p pc ModK w = (tt, λ n s. (tt, λ m t. fast_falls of_mod (a_of w) _ _))
+row_falls p pc IDivK w = (tt, λ n s. (tt, λ m t. fast_falls of_idiv (a_of w) _ _))
+row_falls p pc BAndK w = (tt, λ n s. (tt, λ m t. fast_falls of_band (a_of w) _ _))
+row_falls p pc BOrK w = (tt, λ n s. (tt, λ m t. fast_falls of_bor (a_of w) _ _))
+row_falls p pc BXorK w = (tt, λ n s. (tt, λ m t. fast_falls of_bxor (a_of w) _ _))
 row_falls p pc ShrI w = (tt, λ n s. fast_falls of_shr (a_of w) _ _)
 row_falls p pc ShlI w = (tt, λ n s. fast_falls of_shl (a_of w) (Some (sc_of w)) (integer_of_shape s))
+row_falls p pc Add w = (tt, λ n s. (tt, λ m t. fast_falls of_add (a_of w) _ _))
+row_falls p pc Sub w = (tt, λ n s. (tt, λ m t. fast_falls of_sub (a_of w) _ _))
+row_falls p pc Mul w = (tt, λ n s. (tt, λ m t. fast_falls of_mul (a_of w) _ _))
+row_falls p pc Mod w = (tt, λ n s. (tt, λ m t. fast_falls of_mod (a_of w) _ _))
+row_falls p pc IDiv w = (tt, λ n s. (tt, λ m t. fast_falls of_idiv (a_of w) _ _))
+row_falls p pc BAnd w = (tt, λ n s. (tt, λ m t. fast_falls of_band (a_of w) _ _))
+row_falls p pc BOr w = (tt, λ n s. (tt, λ m t. fast_falls of_bor (a_of w) _ _))
+row_falls p pc BXor w = (tt, λ n s. (tt, λ m t. fast_falls of_bxor (a_of w) _ _))
+row_falls p pc Shl w = (tt, λ n s. (tt, λ m t. fast_falls of_shl (a_of w) _ _))
+row_falls p pc Shr w = (tt, λ n s. (tt, λ m t. fast_falls of_shr (a_of w) _ _))
 row_falls p pc MmBin w = (tt, λ x s. (tt, λ y t. handled_falls p pc w _ _))
 row_falls p pc MmBinI w = (tt, λ x s. handled_falls p pc w _ _)
 row_falls p pc MmBinK w = (tt, λ x s. (tt, λ y t. handled_falls p pc w _ _))
@@ -283,14 +301,7 @@ row_falls p pc SetList w = list_falls p pc w
 row_falls p pc Closure w = opens_fall (upvalues_of_inner p (bx_of w)) _ (tt, λ n t. reg (a_of w) (read n))
 row_falls p pc VarArg w = (tt, λ v s. write_falls at_once 30 (a_of w) (c_of w) v)
 row_falls p pc VarArgPrep w = next_falls at_once 30
-row_falls p pc LoadF w = tt
-row_falls p pc PowK w = tt
-row_falls p pc DivK w = tt
-row_falls p pc Pow w = tt
-row_falls p pc Div w = tt
-row_falls p pc ExtraArg w = tt
--- two registers, or a register and a constant
-row_falls p pc op w = (tt, λ n s. (tt, λ m t. fast_falls _ (a_of w) _ _))
+row_falls p pc _ w = tt
 
 pub text_falls : (p : Prototype) (pc : ℕ) → Comes 30 (expand_by at_once (text_at p pc))
 text_falls p pc = by (at p pc)

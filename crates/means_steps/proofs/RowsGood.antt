@@ -3,7 +3,7 @@ use Rattle.std.proofs.Common.{◌≡◌, ℕ, zero, suc, ◌+◌, ◌*◌, ◌<�
 use Rattle.std.specs.Prelude.{ℤ, pos, negsuc, filter, slice_get, codes}
 use Rattle.int_core.specs.Value.{Value, nil, integer, a_table, Shape, is_known, is_object, holds, same_truth, same_plain, same_integer}
 use Rattle.code_core.specs.declared.opcode.Opcode.{Opcode}
-use Rattle.code_core.specs.declared.opcode.Opcode.TheVariants.{Move, LoadI, LoadF, LoadK, LoadKx, LoadFalse, LFalseSkip, LoadTrue, LoadNil, GetUpval, SetUpval, GetTabUp, GetTable, GetI, GetField, SetTabUp, SetTable, SetI, SetField, NewTable, OpSelf, AddI, PowK, DivK, ShrI, ShlI, Pow, Div, MmBin, MmBinI, MmBinK, Unm, BNot, Not, Len, Concat, Close, Tbc, Jmp, Eq, Lt, Le, EqK, EqI, LtI, LeI, GtI, GeI, Test, TestSet, Call, TailCall, Return, Return0, Return1, ForLoop, ForPrep, TForPrep, TForCall, TForLoop, SetList, Closure, VarArg, VarArgPrep, ExtraArg}
+use Rattle.code_core.specs.declared.opcode.Opcode.TheVariants.{Move, LoadF, LoadK, LoadKx, GetUpval, SetUpval, GetTabUp, GetTable, GetI, GetField, SetTabUp, SetTable, SetI, SetField, NewTable, OpSelf, AddI, AddK, SubK, MulK, ModK, PowK, DivK, IDivK, BAndK, BOrK, BXorK, ShrI, ShlI, Add, Sub, Mul, Mod, Pow, Div, IDiv, BAnd, BOr, BXor, Shl, Shr, MmBin, MmBinI, MmBinK, Unm, BNot, Not, Len, Concat, Close, Tbc, Jmp, Eq, Lt, Le, EqK, EqI, LtI, LeI, GtI, GeI, TestSet, Call, TailCall, Return, Return0, Return1, ForLoop, ForPrep, TForPrep, TForCall, TForLoop, SetList, Closure, VarArg, VarArgPrep, ExtraArg}
 use Rattle.code_core.specs.declared.instruction.Instruction.{Instruction}
 use Rattle.code_core.specs.declared.proto.UpDesc.{UpDesc}
 use Rattle.code_core.specs.declared.proto.LocVar.{LocVar}
@@ -11,9 +11,9 @@ use Rattle.code_core.specs.Prototype.{Prototype}
 use Rattle.code_core.specs.Instruction.{opcode_of, a_of, b_of, c_of, sc_of, k_of, bx_of, sj_of}
 use Rattle.code_core.specs.Check.{at, in_front, extra_at}
 use Rattle.machine_core.specs.World.{Wait, running, for_call, for_iterator, for_value, for_truth, dropped, for_concat, for_close, returning, leaving}
-use Rattle.int_core.specs.Operations.{Event, of_add, of_shl, of_shr, computed, by_zero}
+use Rattle.int_core.specs.Operations.{Event, of_add, of_sub, of_mul, of_mod, of_idiv, of_band, of_bor, of_bxor, of_shl, of_shr, computed, by_zero}
 use Rattle.machine_core.specs.Text.{Arg, read, written, Text, write_register, read_register, trap, raise, own, quick, pay, go_by}
-use Rattle.machine_core.specs.InstructionRows.{text_at, text_by, rest_at, rest_by, row_of, value_comes, rest, counted, return_count, then, back, is_true, integer_of_shape, fast, event_numbered, handled, joins, starts, prepares, goes_round, runs, jumps, marks, is_alive, variable_name, opens, upvalues_of_inner, fills_each, fills_from, fills_by, register_or_constant, read_values, write_values, to_register, to_register_before, closes, returns, fails, next, skip}
+use Rattle.machine_core.specs.InstructionRows.{text_at, text_by, rest_at, rest_by, row_of, value_comes, rest, with_register, with_constant, counted, return_count, then, back, is_true, integer_of_shape, fast, event_numbered, handled, joins, starts, prepares, goes_round, runs, jumps, marks, is_alive, variable_name, opens, upvalues_of_inner, fills_each, fills_from, fills_by, register_or_constant, read_values, write_values, to_register, to_register_before, closes, returns, fails, next, skip}
 use Rattle.means_steps.proofs.Texts.{Good}
 
 -- a wait for which an error is known already
@@ -62,6 +62,12 @@ module _ (p : Prototype) (pc : ℕ) (op : Opcode) (w : Instruction) (E : (wait :
       ])
       by None = tt
       by (Some k) = λ s m l. refl
+
+  register_good : (len : ℕ) (event : Event) → G len (with_register event w)
+  register_good len event = λ s m l t n i. fast_good (len + m + n) event (a_of w) (integer_of_shape s) (integer_of_shape t)
+
+  constant_good : (len : ℕ) (event : Event) → G len (with_constant event w)
+  constant_good len event = λ s m l t n i. fast_good (len + m + n) event (a_of w) (integer_of_shape s) (integer_of_shape t)
 
   before_good : (len : ℕ) → G len (to_register_before p pc)
   before_good len = by (in_front p pc)
@@ -161,13 +167,8 @@ loop_good p pc w len (is_object kind) v = λ m s n l. refl
 
 row_good : (p : Prototype) (pc : ℕ) (op : Opcode) (w : Instruction) → ((wait : Wait Arg) → rest wait p pc op w ≡ rest_at wait p pc) → (len : ℕ) → Good p pc running len (row_of p pc op w)
 row_good p pc Move w E len = λ _ _ _ _ _ _. refl
-row_good p pc LoadI w E len = λ _ _ _. refl
 row_good p pc LoadK w E len = λ _ _ _ _ _ _. refl
 row_good p pc LoadKx w E len = extra_good p pc LoadKx w E len _ (λ ax _ _ _ _ _ _. refl) (extra_at p pc)
-row_good p pc LoadFalse w E len = λ _ _ _. refl
-row_good p pc LFalseSkip w E len = λ _ _ _. refl
-row_good p pc LoadTrue w E len = λ _ _ _. refl
-row_good p pc LoadNil w E len = λ _ _ _. refl
 row_good p pc GetUpval w E len = λ _ _ _ _. refl
 row_good p pc SetUpval w E len = λ _ _ _ _. refl
 row_good p pc GetTabUp w E len = λ _ _ _ _. (tt, tt, E for_value, λ _ _ _ _. refl)
@@ -181,8 +182,26 @@ row_good p pc SetField w E len = λ _ m1 _ _ m2 _. by_rk p pc SetField w E (len 
 row_good p pc NewTable w E len = extra_good p pc NewTable w E len _ (λ ax _ _ _ _. refl) (extra_at p pc)
 row_good p pc OpSelf w E len = λ _ m l. by_rk p pc OpSelf w E (len + m) _ (λ _ m2. (tt, (omega arith, tt), E for_value, λ _ _ _ _. refl))
 row_good p pc AddI w E len = λ s m _. fast_good p pc AddI w E (len + m) of_add (a_of w) (integer_of_shape s) (Some (sc_of w))
+row_good p pc AddK w E len = constant_good p pc AddK w E len of_add
+row_good p pc SubK w E len = constant_good p pc SubK w E len of_sub
+row_good p pc MulK w E len = constant_good p pc MulK w E len of_mul
+row_good p pc ModK w E len = constant_good p pc ModK w E len of_mod
+row_good p pc IDivK w E len = constant_good p pc IDivK w E len of_idiv
+row_good p pc BAndK w E len = constant_good p pc BAndK w E len of_band
+row_good p pc BOrK w E len = constant_good p pc BOrK w E len of_bor
+row_good p pc BXorK w E len = constant_good p pc BXorK w E len of_bxor
 row_good p pc ShrI w E len = λ s m _. fast_good p pc ShrI w E (len + m) of_shr (a_of w) (integer_of_shape s) (Some (sc_of w))
 row_good p pc ShlI w E len = λ s m _. fast_good p pc ShlI w E (len + m) of_shl (a_of w) (Some (sc_of w)) (integer_of_shape s)
+row_good p pc Add w E len = register_good p pc Add w E len of_add
+row_good p pc Sub w E len = register_good p pc Sub w E len of_sub
+row_good p pc Mul w E len = register_good p pc Mul w E len of_mul
+row_good p pc Mod w E len = register_good p pc Mod w E len of_mod
+row_good p pc IDiv w E len = register_good p pc IDiv w E len of_idiv
+row_good p pc BAnd w E len = register_good p pc BAnd w E len of_band
+row_good p pc BOr w E len = register_good p pc BOr w E len of_bor
+row_good p pc BXor w E len = register_good p pc BXor w E len of_bxor
+row_good p pc Shl w E len = register_good p pc Shl w E len of_shl
+row_good p pc Shr w E len = register_good p pc Shr w E len of_shr
 row_good p pc MmBin w E len = λ _ m1 _ _ m2 _. handled_good p pc MmBin w E (len + m1 + m2) (event_numbered (c_of w)) _ refl
 row_good p pc MmBinI w E len = λ _ m _. handled_good p pc MmBinI w E (len + m) (event_numbered (c_of w)) _ refl
 row_good p pc MmBinK w E len = λ _ m1 _ _ m2 _. handled_good p pc MmBinK w E (len + m1 + m2) (event_numbered (c_of w)) _ refl
@@ -203,7 +222,6 @@ row_good p pc LtI w E len = λ _ _ _. (tt, tt, E for_truth, λ _ _ _ _. refl)
 row_good p pc LeI w E len = λ _ _ _. (tt, tt, E for_truth, λ _ _ _ _. refl)
 row_good p pc GtI w E len = λ _ _ _. (tt, tt, E for_truth, λ _ _ _ _. refl)
 row_good p pc GeI w E len = λ _ _ _. (tt, tt, E for_truth, λ _ _ _ _. refl)
-row_good p pc Test w E len = λ _ _ _. refl
 row_good p pc TestSet w E len = λ s m _. by_cond p pc TestSet w E (len + m) (same_truth (holds s) (k_of w)) _ _ (λ _ _ _. refl) refl
 row_good p pc Call w E len = λ _ m _. read_good p pc Call w E (len + m) (a_of w + 1) (b_of w) _ (λ _ _. tt)
 row_good p pc TailCall w E len = λ _ m _. read_good p pc TailCall w E (len + m) (a_of w + 1) (b_of w) _ (λ _ _. tt)
@@ -225,8 +243,7 @@ row_good p pc DivK w E len = tt
 row_good p pc Pow w E len = tt
 row_good p pc Div w E len = tt
 row_good p pc ExtraArg w E len = tt
--- two registers, or a register and a constant
-row_good p pc op w E len = λ s m _ t n _. fast_good p pc op w E (len + m + n) _ (a_of w) (integer_of_shape s) (integer_of_shape t)
+row_good p pc _ w E len = λ _ _ _. refl
 
 -- what stands at a place
 
