@@ -93,6 +93,14 @@ module _ {A : Type 0} (text : List ℕ) (keys new : List (Vec ℕ A)) (k : Vec �
       by false true q = absurd (cc)
       by false false q = contents_more keys k
 
+  pub stored_so : {B E : Type 0} (r : Result (ℕ × B) E) → IfOk r (λ told. (x : Vec ℕ A) × (slice_get new told.0 ≡ Some x) × (bytes_eq k.items x.items ≡ true)) → IfOk r (λ told. slice_get (contents new) told.0 ≡ Some text)
+  stored_so (Ok told) h = stored_there text new k same told.0 h.0 h.1 h.2
+  stored_so (Err e) h = tt
+
+  pub interned_so : {B E : Type 0} (r : Result B E) → IfOk r (λ _. new ≡ insert_key (λ a b. bytes_eq a.items b.items) keys k) → OnOk r (contents new ≡ interned (contents keys) text)
+  interned_so (Ok b) h = put_or_there h
+  interned_so (Err e) h = tt
+
   pub short_put : {B E : Type 0} (r : Result B E) → IfOk r (λ _. new ≡ insert_key (λ a b. bytes_eq a.items b.items) keys k) → OnErr r (new ≡ keys) → AreShort (contents keys) → length text ≤ greatest_string → AreShort (contents new)
   short_put (Ok b) h n s l = subst AreShort (sym (put_or_there h)) (short_interned (contents keys) text s l)
   short_put (Err e) h n s l = subst (λ keys. AreShort (contents keys)) (sym n) s
