@@ -51,7 +51,9 @@ text_same p v w (same_object k i j h) = refl
 
 pub function_test : (p : Pairs) (v w : Value) → SameValue p v w → is_function v ≡ is_function w
 function_test p v w (same_known c) = refl
-function_test p v w _ = refl
+function_test p v w (same_object a_table i j h) = refl
+function_test p v w (same_object a_function i j h) = refl
+function_test p v w (same_object a_coroutine i j h) = refl
 
 cannot_compare_same : (p : Pairs) (v w x y : Value) → SameValue p v w → SameValue p x y → cannot_compare v x ≡ cannot_compare w y
 cannot_compare_same p v w x y h k = rw (shape_same p v w h, shape_same p x y k) refl

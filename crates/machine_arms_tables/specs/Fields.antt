@@ -41,7 +41,7 @@ abbrev pub table_named : List Contents → TableId → (name : StrId) → Option
 table_named tables id name = bind (slice_get tables id.0) (λ t. table_only (get lua_values t.rows (Str name)))
 
 abbrev pub table_above : List Contents → (name : StrId) → Value → Option Value
-table_above tables name object = bind (metatable_at tables object) (λ id. table_named tables id name)
+table_above tables name o = bind (metatable_at tables o) (λ id. table_named tables id name)
 
 -- nil is no key
 abbrev pub takes : Contents → Value → Bool
