@@ -1,7 +1,8 @@
-use Rattle.std.proofs.Common.{[]}
+use Rattle.std.proofs.Common.{[], map, ap, ◌∙◌}
+use Rattle.lua_heap.specs.Cells.{open_cells_in}
 use Rattle.move_laws.proofs.Running.{has_stack}
 use Rattle.move_laws.proofs.Order.{lists_same}
-use Rattle.machine_moves.proofs.OnRunning.{popped_on, runs_on}
+use Rattle.machine_moves.proofs.OnRunning.{changes_on, popped_on, runs_on}
 use Rattle.machine_calls.proofs.Left.{frame_there}
 use Rattle.machine_calls.proofs.leaving.pop_closed.Goals as goal
 
@@ -26,5 +27,6 @@ returns-clause-running c = runs_on c.running_stack_mut.ensures.runs c.pop.new.se
 
 pub returns-clause-listed : goal.returns-clause-listed
 returns-clause-listed c =
-    let r = c.running_stack_mut.ensures.runs.runs in
-    lists_same c.args.world.now.coros.objects c.running_stack_mut.ensures.runs.co.0 c.running_stack_mut.result.now c.pop.new.self r.there c.pop.ensures.cells
+    let r = c.running_stack_mut.ensures.runs in
+    ap (map open_cells_in) (changes_on r c.pop.new.self).objects
+    ∙ lists_same c.args.world.now.coros.objects r.co.0 c.running_stack_mut.result.now c.pop.new.self r.runs.there c.pop.ensures.cells
