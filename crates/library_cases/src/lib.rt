@@ -3,4 +3,12 @@
 #![tactic(auto)]
 
 #[cfg(test)]
-mod cases;
+mod answers;
+#[cfg(test)]
+mod arguments;
+#[cfg(test)]
+mod base;
+#[cfg(test)]
+mod strings;
+#[cfg(test)]
+mod utf8;

@@ -3,4 +3,12 @@
 #![tactic(auto)]
 
 #[cfg(test)]
-mod cases;
+mod characters;
+#[cfg(test)]
+mod formats;
+#[cfg(test)]
+mod integers;
+#[cfg(test)]
+mod matches;
+#[cfg(test)]
+mod texts;

@@ -1,6 +1,0 @@
-// Cases, by what they are of.
-mod characters;
-mod formats;
-mod integers;
-mod matches;
-mod texts;
