@@ -8,4 +8,3 @@ mod CallForm
 mod TailForm
 mod MakeForm
 mod ConcatForm
-mod FillForm

@@ -3,5 +3,4 @@ pub mod Calling
 pub mod TailCalling
 pub mod Making
 pub mod Concatenating
-pub mod Filling
 pub mod Returning

@@ -4,7 +4,6 @@
 
 mod calling;
 mod concatenating;
-mod filling;
 mod making;
 mod returning;
 mod running;

@@ -13,7 +13,6 @@ ghost use Rattle.lua_driver.specs.Turns.{GoesFurther};
 
 use crate::calling::{call_at, call_here};
 use crate::concatenating::{concat_at, concat_here};
-use crate::filling::{fill_at, fill_here};
 use crate::making::{make_at, make_here};
 use crate::tail_calling::{tail_call_at, tail_call_here};
 use code_core::Opcode;
@@ -97,19 +96,6 @@ fn concat_or_step(world: &mut World, budget: &mut u64, here: Here) -> Allocated<
 {
     match concat_at(here) {
         Some(at) => concat_here(world, budget, here, at),
-        None => fill_or_step(world, budget, here),
-    }
-}
-
-/// Does so where the word is no concatenation either.
-fn fill_or_step(world: &mut World, budget: &mut u64, here: Here) -> Allocated<Ending>
-    requires ready { IsReady (length all_entries) go world.old }
-    requires here { IsHere world.old here }
-    ensures goes { IfOk result (λ next. AsRead (λ builds. GoesFurther (library builds) go world.old budget.old world.new budget.new (ending_of next))) }
-    ensures order { InOrder world.new }
-{
-    match fill_at(here) {
-        Some(at) => fill_here(world, here, at),
         None => step_from(world, budget, here),
     }
 }
