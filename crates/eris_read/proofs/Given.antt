@@ -119,8 +119,8 @@ sound_image primitives V perms I roots met bytes there e =
 -- what is made of a record stands behind what was there
 below_new : {B : Type 0} (rs : List Record) (made : Record → Option B) (is : Record → Bool) → ((r : Record) (t : B) → made r ≡ Some t → is r ≡ true) → ((r : Record) → made r ≡ None → is r ≡ false)
     → (old : List B) (count n : ℕ) (r : Record) → count ≡ length old → slice_get rs n ≡ Some r → (t : B) × (made r ≡ Some t) → count + rank is rs n < length (old ++ chosen made rs)
-below_new rs made is yes no old count n r same g t =
-    let w = get_within (chosen made rs) (rank is rs n) t.0 (chosen_get is made yes no rs n r t.0 g t.1) in
+below_new rs made is made_is else_not old count n r same g t =
+    let w = get_within (chosen made rs) (rank is rs n) t.0 (chosen_get is made made_is else_not rs n r t.0 g t.1) in
     let l = length-append old (chosen made rs) in
     omega (arith, w, l, same)
 
