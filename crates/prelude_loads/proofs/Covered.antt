@@ -58,9 +58,9 @@ module _ (base : Pairs) (W V : World) (T : Target) (name : Value → Option Item
   -- what was made of a record of its sort
   made_paired : {A : Type 0} (kind : Kind) (made : Record → Option A) → ((r : Record) (x : A) → made r ≡ Some x → is_of kind r ≡ true) → ((r : Record) → made r ≡ None → is_of kind r ≡ false)
       → (old : List A) → count_in T kind ≡ length old → (j : ℕ) (x : A) → slice_get (old ++ chosen made records) j ≡ Some x → (slice_get old j ≡ Some x) ⊎ ((i : ℕ) × SameNumber q kind i j)
-  made_paired kind made yes no old count j x e = ⊎_elim (λ t. inl t.0)
-      (λ t. let c = chosen_from (is_of kind) made yes no records t.0 x t.2 in
-      let k = paired kind c.0 c.1 c.2 (yes c.1 x c.3) in
+  made_paired kind made made_is else_not old count j x e = ⊎_elim (λ t. inl t.0)
+      (λ t. let c = chosen_from (is_of kind) made made_is else_not records t.0 x t.2 in
+      let k = paired kind c.0 c.1 c.2 (made_is c.1 x c.3) in
       let number : new_number T records kind c.0 ≡ j = ap (λ n. n + rank (is_of kind) records c.0) count ∙ ap (λ m. length old + m) (sym c.4) ∙ sym t.1 in
       inr (k.0, subst (SameNumber q kind k.0) number k.1))
       (get_split old (chosen made records) j x e)
