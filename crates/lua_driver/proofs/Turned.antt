@@ -14,8 +14,9 @@ use Rattle.lua_heap.specs.declared.world.World.{World as Memory}
 use Rattle.lua_heap.specs.Plain.{plain}
 use Rattle.move_laws.specs.Memory.{InOrder, IsSound}
 use Rattle.step_laws.specs.Steps.{IsReady}
+use Rattle.step_laws.specs.Turns.{MayGoOn}
 use Rattle.lua_session.specs.Resuming.{Resumes}
-use Rattle.lua_driver.specs.Turns.{MayGoOn, Reaches, Turns}
+use Rattle.lua_driver.specs.Turns.{Reaches, Turns}
 
 -- nothing has been printed in this turn
 pub quiet_may : (old new : Memory) → MayGoOn old → new ≡ record old { printed = new.printed } → new.printed.items ≡ [] → MayGoOn new

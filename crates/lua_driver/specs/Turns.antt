@@ -3,12 +3,9 @@ use Rattle.std.specs.Prelude.{◌≡◌, ℕ, false, length}
 use Rattle.library_rows.specs.Library.{all_entries}
 use Rattle.machine_core.specs.Moves.{Ending, Row, ends}
 use Rattle.machine_core.specs.MachineStep.{steps}
-use Rattle.machine_sound.specs.Sound.{Sound}
-use Rattle.machine_runs.specs.Laws.{MayTurn}
 use Rattle.machine_runs.specs.Runs.{is_end, turn}
 use Rattle.lua_heap.specs.declared.world.World.{World as Memory}
 use Rattle.lua_heap.specs.Plain.{plain}
-use Rattle.move_laws.specs.Memory.{InOrder}
 use Rattle.step_laws.specs.Steps.{Does, IsReady}
 
 -- some steps lead from one world and budget to others, and end so
@@ -25,12 +22,6 @@ pub record GoesFurther (rows : ℕ → Row) (from : Ending) (old : Memory) (fuel
   pub reaches : Reaches rows from old fuel mid rest at
   pub ready : IsReady (length all_entries) at mid
   pub does : Does rows at mid rest new left to
-
--- the script may be resumed: it has not begun, or has yielded
-pub record MayGoOn (W : Memory) : Type 0 where
-  pub sound : Sound (length all_entries) (plain W 0)
-  pub order : InOrder W
-  pub may : MayTurn (plain W 0)
 
 -- a turn ends so
 pub record Turns (rows : ℕ → Row) (old new : Memory) (budget : ℕ) (ending : Ending) : Type 0 where

@@ -10,7 +10,8 @@ ghost use Rattle.machine_sound.specs.Sound.{Sound};
 ghost use Rattle.move_laws.specs.Memory.{InOrder};
 ghost use Rattle.loaded_code.specs.Laws.{library};
 ghost use Rattle.source_builds.specs.Readings.{AsRead};
-ghost use Rattle.lua_driver.specs.Turns.{MayGoOn, Turns};
+ghost use Rattle.step_laws.specs.Turns.{MayGoOn};
+ghost use Rattle.lua_driver.specs.Turns.{Turns};
 
 use crate::running::run;
 use int_core::Allocated;

@@ -5,7 +5,7 @@ ghost use Rattle.io_edge.specs.Lines.{ahead};
 ghost use Rattle.lua_heap.specs.Plain.{plain};
 ghost use Rattle.machine_moves.specs.Ending.{ending_of};
 ghost use Rattle.move_laws.specs.Memory.{InOrder};
-ghost use Rattle.lua_driver.specs.Turns.{MayGoOn};
+ghost use Rattle.step_laws.specs.Turns.{MayGoOn};
 ghost use Rattle.lua_feed.specs.Closes.{close_of, closing};
 ghost use Rattle.lua_feed.specs.Faults.{is_input_fault, is_output_fault};
 ghost use Rattle.lua_feed.specs.Feeding.{Does, GoesOn, IsBrokenOff, IsCutOff, IsFedFront, IsFedTo, OnlyGrows};

@@ -9,4 +9,4 @@ mod writing;
 
 pub use fault::FeedFault;
 pub use feeding::{Close, feed, feed_on};
-pub use script::{rules_hold, run_code, start};
+pub use script::{run_code, start};

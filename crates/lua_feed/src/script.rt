@@ -1,11 +1,10 @@
 // A script from its code (`handle_script` of Lua's lua.c).
 ghost use Rattle.std.specs.Prelude.{◌≡◌, IfOk, IsErrOf, OnErr, length};
-ghost use Rattle.code_core.specs.Check.{IsChecked};
 ghost use Rattle.code_core.specs.Prototype.{list_of};
 ghost use Rattle.io_edge.specs.Causes.{HasCause};
 ghost use Rattle.io_edge.specs.Lines.{ahead};
 ghost use Rattle.library_rows.specs.PreludeText.{prelude_functions};
-ghost use Rattle.lua_driver.specs.Turns.{MayGoOn};
+ghost use Rattle.step_laws.specs.Turns.{MayGoOn};
 ghost use Rattle.lua_heap.specs.Plain.{plain};
 ghost use Rattle.lua_feed.specs.Closes.{close_of};
 ghost use Rattle.lua_feed.specs.Faults.{is_input_fault, is_output_fault};
@@ -18,7 +17,7 @@ use code_core::Checked;
 use int_core::Allocated;
 use io_edge::{LineReader, Sink, Source};
 use lua_heap::World;
-use lua_opening::open;
+use lua_opening::{open, rules_hold};
 use lua_session::begin;
 use machine_runs::sessions_are_sound;
 use std::alloc::Global;
@@ -35,13 +34,6 @@ pub fn start(alloc: Global, prelude: Checked, code: Checked) -> Allocated<World>
     let mut world = open(alloc, prelude)?;
     begin(&mut world, code)?;
     Ok(world)
-}
-
-/// Checked code keeps all rules.
-pub fn rules_hold(code: &Checked)
-    ensures { IsChecked code.now }
-{
-    code.proto();
 }
 
 /// Runs a script from its code, and feeds it with the lines of an input. The prelude's code has its functions in the order of its text.

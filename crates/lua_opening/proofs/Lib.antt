@@ -5,4 +5,5 @@ pub mod Preludes
 pub mod Worlds
 pub mod Constants
 pub mod RowByRow
+pub mod SoundOpening
 mod Told

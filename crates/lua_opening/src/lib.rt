@@ -8,5 +8,5 @@ mod opening;
 mod rows;
 mod tables;
 
-pub use opening::open;
+pub use opening::{open, rules_hold};
 pub use tables::is_environment;

@@ -1,5 +1,6 @@
 // The world of the libraries.
 ghost use Rattle.std.specs.Prelude.{◌≡◌, ℕ, length, IfOk};
+ghost use Rattle.code_core.specs.Check.{IsChecked};
 ghost use Rattle.code_core.specs.Prototype.{list_of};
 ghost use Rattle.library_rows.specs.PreludeText.{prelude_functions};
 ghost use Rattle.lua_heap.specs.Cells.{CellsAreListed};
@@ -32,4 +33,11 @@ pub fn open(alloc: Global, prelude: Checked) -> Result<World, AllocError>
     world.tables = library_tables(&mut world.strings, alloc)?;
     world.string_meta = Some(STRING_METATABLE);
     Ok(world)
+}
+
+/// Checked code keeps all rules.
+pub fn rules_hold(code: &Checked)
+    ensures { IsChecked code.now }
+{
+    code.proto();
 }

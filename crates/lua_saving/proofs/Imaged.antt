@@ -12,7 +12,7 @@ use Rattle.table_core.specs.declared.value.Value.{Value as Kept}
 use Rattle.lua_heap.specs.declared.world.World.{World as Memory}
 use Rattle.lua_heap.specs.Plain.{plain}
 use Rattle.lua_heap.specs.Reading.{value}
-use Rattle.lua_driver.specs.Turns.{MayGoOn}
+use Rattle.step_laws.specs.Turns.{MayGoOn}
 use Rattle.image_core.specs.Image.{Perm}
 use Rattle.image_core.specs.Records.{named, image_of, visited, parts_in_order}
 use Rattle.image_core.specs.Visit.{greatest_count}

@@ -15,8 +15,8 @@ use Rattle.lua_heap.specs.declared.world.World.{World as Memory}
 use Rattle.lua_heap.specs.Plain.{plain}
 use Rattle.lua_heap.specs.Reading.{value}
 use Rattle.move_laws.specs.Memory.{InOrder}
-use Rattle.lua_driver.specs.Turns.{MayGoOn}
-use Rattle.lua_feed.proofs.Starting.{IsOpened, opened_sound, opened_idle}
+use Rattle.step_laws.specs.Turns.{MayGoOn}
+use Rattle.lua_opening.proofs.SoundOpening.{IsOpened, opened_sound, opened_idle}
 use Rattle.image_core.specs.Image.{Perm}
 use Rattle.image_core.specs.Loading.{value_made, loaded}
 use Rattle.image_core.proofs.Lists.{Every, every_get, every_both}

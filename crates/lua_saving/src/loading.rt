@@ -3,7 +3,7 @@ ghost use Rattle.std.specs.Prelude.{◌≡◌, IfErr, IfOk, false, length, true}
 ghost use Rattle.code_core.specs.Prototype.{list_of};
 ghost use Rattle.library_rows.specs.PreludeText.{prelude_functions};
 ghost use Rattle.lua_meaning.specs.Opening.{prelude_of};
-ghost use Rattle.lua_driver.specs.Turns.{MayGoOn};
+ghost use Rattle.step_laws.specs.Turns.{MayGoOn};
 ghost use Rattle.lua_heap.specs.Plain.{plain};
 ghost use Rattle.lua_saving.specs.Saving.{AreThere, HasYielded, IsNoSession, IsRefused, IsSession, TakesRoots};
 
@@ -12,9 +12,8 @@ use crate::roots::{has_yielded, roots_in};
 use code_core::Checked;
 use eris_read::unpersist;
 use image_reading::{ReadFault, Refusal};
-use lua_feed::rules_hold;
 use lua_heap::World;
-use lua_opening::open;
+use lua_opening::{open, rules_hold};
 use machine_runs::sessions_are_sound;
 use std::alloc::Global;
 use table_core::Value;

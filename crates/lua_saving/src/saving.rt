@@ -1,6 +1,6 @@
 // A session is saved.
 ghost use Rattle.std.specs.Prelude.{◌≡◌, IfOk, IsErrOf};
-ghost use Rattle.lua_driver.specs.Turns.{MayGoOn};
+ghost use Rattle.step_laws.specs.Turns.{MayGoOn};
 ghost use Rattle.lua_saving.specs.Saving.{IsImage, IsLarge, IsTouched};
 
 use crate::fault::SaveFault;

@@ -15,7 +15,7 @@ use chunk_format::read_chunk;
 use code_core::Checked;
 use io_edge::{Files, Sink, write_all};
 use itoa::Buffer;
-use lua_feed::rules_hold;
+use lua_opening::rules_hold;
 use std::alloc::{AllocError, Global};
 
 /// Writes how many functions and instructions the chunk in a file has, where its code may run.

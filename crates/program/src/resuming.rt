@@ -2,7 +2,7 @@
 ghost use Rattle.std.specs.Prelude.{◌≡◌, ◌+◌, ◌-◌, ◌≤◌, ◌⊎◌, List, ℕ, IfErr, IfOk, length, option_map, true};
 ghost use Rattle.code_core.specs.Prototype.{list_of};
 ghost use Rattle.library_rows.specs.PreludeText.{prelude_functions};
-ghost use Rattle.lua_driver.specs.Turns.{MayGoOn};
+ghost use Rattle.step_laws.specs.Turns.{MayGoOn};
 ghost use Rattle.lua_heap.specs.Plain.{plain};
 ghost use Rattle.lua_saving.specs.Saving.{HasYielded, IsSession};
 ghost use Rattle.program.specs.Devices.{Holds};

@@ -1,6 +1,6 @@
 // What is left of a session that closed.
 ghost use Rattle.std.specs.Prelude.{◌≡◌, ◌-◌, ◌≤◌, List, ℕ, Option, IfErr, IfOk, IfSome, option_map, true};
-ghost use Rattle.lua_driver.specs.Turns.{MayGoOn};
+ghost use Rattle.step_laws.specs.Turns.{MayGoOn};
 ghost use Rattle.lua_feed.specs.Closes.{close_of};
 ghost use Rattle.machine_runs.specs.Runs.{is_suspended};
 ghost use Rattle.program.specs.Faults.{status_of};

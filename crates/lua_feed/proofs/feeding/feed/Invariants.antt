@@ -1,6 +1,6 @@
 use Rattle.std.proofs.Common.{◌≡◌, ◌+◌, ◌-◌, ◌^◌}
 use Rattle.io_edge.specs.Lines.{ahead}
-use Rattle.lua_driver.specs.Turns.{MayGoOn}
+use Rattle.step_laws.specs.Turns.{MayGoOn}
 use Rattle.loaded_code.specs.Laws.{library}
 use Rattle.source_builds.specs.Readings.{AsRead}
 use Rattle.lua_feed.proofs.Fed.{Feeding}

@@ -1,4 +1,5 @@
-use Rattle.lua_feed.proofs.Starting.{opened, is_sound, begun_there, may_go_on}
+use Rattle.lua_opening.proofs.SoundOpening.{opened}
+use Rattle.lua_feed.proofs.Starting.{is_sound, begun_there, may_go_on}
 use Rattle.lua_feed.proofs.script.start.Goals as goal
 
 pub begin-requires : goal.begin-requires

@@ -7,7 +7,7 @@ use Rattle.image_reading.specs.declared.fault.ReadFault.TheVariants.{Memory as N
 use Rattle.table_core.specs.declared.value.Value.{Value as Kept}
 use Rattle.lua_heap.specs.declared.world.World.{World as Memory}
 use Rattle.graph_core.specs.Permanents.{permanents}
-use Rattle.lua_feed.proofs.Starting.{opened}
+use Rattle.lua_opening.proofs.SoundOpening.{opened}
 use Rattle.lua_saving.specs.Saving.{AreThere, IsRefused, no_memory, TakesRoots, IsNoSession}
 use Rattle.lua_saving.proofs.Resumed.{may_read, refusal, roots_there, no_session, goes_on, session}
 use Rattle.lua_saving.proofs.loading.load_session.Goals as goal
