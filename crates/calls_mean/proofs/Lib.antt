@@ -4,4 +4,5 @@ pub mod Meant
 pub mod Taken
 pub mod Resumed
 mod Unchanged
+mod Standing
 mod Stood

@@ -23,7 +23,6 @@ use Rattle.lua_feed.specs.Feeding.{Does}
 use Rattle.lua_feed.specs.Running.{started}
 use Rattle.scripts_mean.specs.Scripts.{IsRead, IsPrelude, functions_in, Begins, PreludeIsAlike}
 use Rattle.sessions_join.specs.Sessions.{IsSaved}
-use Rattle.images_mean.specs.Law.{IsSavedScript, SavedImagesStand}
 use Rattle.program.specs.Checking.{begins_chunk, IsAccepted}
 use Rattle.program.specs.Compiling.{source_name}
 use Rattle.program.specs.Meaning.{MeansOn}
@@ -36,6 +35,7 @@ use Rattle.program.proofs.Endings.{told_lines}
 use Rattle.program.proofs.Meant.{not_run_ends}
 use Rattle.program.proofs.MeaningLemmas.{read_of, name_is_short, tree_of}
 use Rattle.calls_mean.proofs.Ended.{saved_so}
+use Rattle.calls_mean.specs.SavedImages.{IsSavedScript, SavedImagesStand}
 use Rattle.calls_mean.specs.Stands.{IsSavingCall, StandFor, SavedCallsStand}
 use Rattle.program.proofs.CodeLemmas.{of_script}
 use Rattle.calls_mean.proofs.Meant.{all_there}

@@ -9,7 +9,6 @@ use Rattle.load_rows.specs.Loading.{Builds}
 use Rattle.lua_meaning.specs.Meaning.{Meaning}
 use Rattle.prelude_code.specs.Prelude.{IsPreludeCode}
 use Rattle.source_builds.specs.Builds.{BuildsSources}
-use Rattle.images_mean.specs.Stands.{StandsFor}
 use Rattle.program.specs.declared.session.Session.{Session}
 use Rattle.program.specs.Devices.{Device, Holds}
 use Rattle.program.specs.Checking.{begins_chunk}
@@ -17,6 +16,7 @@ use Rattle.program.specs.Meaning.{MeansOn}
 use Rattle.machine_runs.specs.Laws.{AreShort}
 use Rattle.program.specs.Running.{IsRun}
 use Rattle.program.specs.Sessions.{functions_of}
+use Rattle.calls_mean.specs.Images.{StandsFor}
 
 -- a call of `run` on a file that holds a script and no chunk, over devices that tell. It answers 3, and the file that is named to save the session in holds
 -- these bytes then

@@ -1,15 +1,20 @@
-// The laws of calls of the program on one script.
+// The laws of calls of the program on one script, and of images of scripts that wait for a line.
 ghost use Rattle.calls_mean.specs.Law.{CallsMean, CallsMeanOne};
 ghost use Rattle.calls_mean.specs.Resumes.{ResumesAsMeant, SavedGoesOn, SavedIsNotRefused, SavedIsUnchanged};
+ghost use Rattle.calls_mean.specs.SavedImages.{SavedImagesStand};
 ghost use Rattle.calls_mean.specs.Stands.{SavedCallsStand};
 
+use image_bytes::images_are_read_back;
 use images_joined::the_reader_knows;
-use images_mean::saved_images_stand;
+use images_stand::sessions_stand;
+use library_sound::law::library_is_safe;
 use loaded_code::loading_is_safe;
 use prelude_stays::runs_have_the_prelude;
 use scripts_mean::prelude_is_alike;
+use session_images::sessions_can_resume;
 use sessions_load::{saved_sessions_load, sessions_keep_the_prelude};
 use sessions_mean::sessions_do_as_they_mean;
+use sessions_resume::saved_sessions_go_on;
 use source_laws::code_of_sources_is_checked;
 
 /// For each script in a file, every budget, and calls of the program one after another, of which the first runs the script and each further one resumes the
@@ -42,6 +47,22 @@ pub fn saved_calls_resume()
     runs_have_the_prelude();
     saved_sessions_load();
     sessions_keep_the_prelude();
+}
+
+/// Where the run of a script's code waits for a line at the end of some lines, and is saved, the script's meaning on these lines waits as well, and the bytes
+/// stand for it: they are read as a session that goes on, on all further lines and with every budget, as the manual says that the script does. Both print the
+/// same and end alike, and neither does anything else. The script need not be looked at again: its image is enough.
+pub fn saved_images_stand()
+    ensures { SavedImagesStand }
+{
+    images_are_read_back();
+    the_reader_knows();
+    sessions_stand();
+    library_is_safe();
+    loading_is_safe();
+    sessions_can_resume();
+    saved_sessions_load();
+    saved_sessions_go_on();
 }
 
 /// Where a call of `run` on a script answers 3 and has saved the session, what the script means on the lines of the input is suspended, and the bytes in the

@@ -41,9 +41,9 @@ use Rattle.sessions_join.proofs.Waiting.{Waits, run_waits}
 use Rattle.sessions_join.proofs.Joined.{moved}
 use Rattle.sessions_load.specs.Law.{IsLoadable, RunIsLoadable, LoadedGoesOn}
 use Rattle.sessions_mean.proofs.Meant.{LoadingStands, loading_fits}
-use Rattle.images_mean.specs.Stands.{GoesOnAs, StandsFor}
+use Rattle.calls_mean.specs.Images.{GoesOnAs, StandsFor}
 use Rattle.machine_runs.specs.Laws.{AreShort}
-use Rattle.images_mean.specs.Law.{IsSavedScript, SavedImagesStand}
+use Rattle.calls_mean.specs.SavedImages.{IsSavedScript, SavedImagesStand}
 
 -- a suspended script means one thing alone
 onward_once : (builds : Builds Body) (W : TreeWorld Body State) (lines : List (List ℕ)) (budget : ℕ) (x y : Meaning Body State)

@@ -11,7 +11,7 @@ use Rattle.machine_runs.specs.Runs.{is_suspended, Run}
 use Rattle.source_builds.specs.Builds.{BuildsSources}
 use Rattle.scripts_mean.specs.Scripts.{Does, MeansSo, Begins}
 use Rattle.sessions_join.specs.Sessions.{IsSaved}
-use Rattle.images_mean.specs.Stands.{StandsFor}
+use Rattle.calls_mean.specs.Images.{StandsFor}
 
 -- the run of a script's code waits for a line, and is saved
 pub record IsSavedScript (builds : Builds Body) (source : List ℕ) (tree : Block) (prelude : List (Entry Body)) (compiled : List (Entry Prototype)) (given : Option (List ℕ)) (lines : List (List ℕ)) (budget : ℕ) (bytes : List ℕ) : Type 0 where

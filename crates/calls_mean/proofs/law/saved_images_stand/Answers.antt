@@ -1,5 +1,5 @@
-use Rattle.images_mean.proofs.Standing.{saved_images_stand}
-use Rattle.images_mean.proofs.law.saved_images_stand.Goals as goal
+use Rattle.calls_mean.proofs.Standing.{saved_images_stand}
+use Rattle.calls_mean.proofs.law.saved_images_stand.Goals as goal
 
 pub returns : goal.returns
 returns c =
