@@ -18,29 +18,20 @@ pub fn report<E: Sink>(err: &mut E, fault: &Fault) -> Result<(), Failed>
 {
     match fault {
         Fault::Words => write_all(err, b"luaris: wrong words\n"),
-        Fault::Refused { line } => report_line(err, *line),
+        Fault::Refused { line } => write_numbered(err, b"luaris: source refused at line ", *line),
         Fault::Rule { rule, line } => report_violation(err, *rule, *line),
         Fault::Spent => write_all(err, b"luaris: budget spent\n"),
         Fault::Device => write_all(err, b"luaris: device fault\n"),
         Fault::InputLimit => write_all(err, b"luaris: input limit\n"),
         Fault::TooLarge => write_all(err, b"luaris: image too large\n"),
-        Fault::NoChunk { kind } => report_kind(err, *kind),
+        Fault::NoChunk { kind } => write_kind(err, b"luaris: chunk refused: kind ", *kind),
         Fault::BrokenRule { function, pc, rule } => report_rule(err, *function, *pc, *rule),
-        Fault::NoImage { kind } => report_image(err, *kind),
+        Fault::NoImage { kind } => write_kind(err, b"luaris: image refused: kind ", *kind),
         Fault::NoPermanent { kind, key } => report_permanent(err, *kind, key),
         Fault::Memory => write_all(err, b"luaris: out of memory\n"),
         Fault::Absent => write_all(err, b"luaris: no such file\n"),
         Fault::Prelude => write_all(err, b"luaris: prelude refused\n"),
     }
-}
-
-/// Writes that a source is refused on a line.
-fn report_line<E: Sink>(err: &mut E, line: u32) -> Result<(), Failed>
-    ensures cause { HasCause (E.faults err.old) (E.faults err.new) (is_err result) }
-    ensures written { OnOk result (E.written err.new ≡ option_map (λ text. text ++ line_of_fault (Fault.Refused line)) (E.written err.old)) }
-    ensures front { OnErr result (GrowsByFront (line_of_fault (Fault.Refused line)) (E.written err.old) (E.written err.new)) }
-{
-    write_numbered(err, b"luaris: source refused at line ", line)
 }
 
 /// Writes which static rule a source breaks.
@@ -55,15 +46,6 @@ fn report_violation<E: Sink>(err: &mut E, rule: u8, line: u32) -> Result<(), Fai
     write_end(err, line)
 }
 
-/// Writes that bytes are no chunk.
-fn report_kind<E: Sink>(err: &mut E, kind: u8) -> Result<(), Failed>
-    ensures cause { HasCause (E.faults err.old) (E.faults err.new) (is_err result) }
-    ensures written { OnOk result (E.written err.new ≡ option_map (λ text. text ++ line_of_fault (Fault.NoChunk kind)) (E.written err.old)) }
-    ensures front { OnErr result (GrowsByFront (line_of_fault (Fault.NoChunk kind)) (E.written err.old) (E.written err.new)) }
-{
-    write_numbered(err, b"luaris: chunk refused: kind ", u32::from(kind))
-}
-
 /// Writes which rule a chunk breaks.
 fn report_rule<E: Sink>(err: &mut E, function: u32, pc: u32, rule: u8) -> Result<(), Failed>
     ensures cause { HasCause (E.faults err.old) (E.faults err.new) (is_err result) }
@@ -76,15 +58,6 @@ fn report_rule<E: Sink>(err: &mut E, function: u32, pc: u32, rule: u8) -> Result
     write_number(err, function)?;
     write_all(err, b" pc ")?;
     write_end(err, pc)
-}
-
-/// Writes that bytes are no session's image.
-fn report_image<E: Sink>(err: &mut E, kind: u8) -> Result<(), Failed>
-    ensures cause { HasCause (E.faults err.old) (E.faults err.new) (is_err result) }
-    ensures written { OnOk result (E.written err.new ≡ option_map (λ text. text ++ line_of_fault (Fault.NoImage kind)) (E.written err.old)) }
-    ensures front { OnErr result (GrowsByFront (line_of_fault (Fault.NoImage kind)) (E.written err.old) (E.written err.new)) }
-{
-    write_numbered(err, b"luaris: image refused: kind ", u32::from(kind))
 }
 
 /// Writes which permanent of an image is refused.
@@ -119,6 +92,15 @@ fn write_number<E: Sink>(err: &mut E, number: u32) -> Result<(), Failed>
     ensures front { OnErr result (GrowsByFront (decimal number) (E.written err.old) (E.written err.new)) }
 {
     write_all(err, Buffer::new().format(number).as_bytes())
+}
+
+/// Writes a line of a text and the kind of a refusal.
+fn write_kind<E: Sink>(err: &mut E, text: &[u8], kind: u8) -> Result<(), Failed>
+    ensures cause { HasCause (E.faults err.old) (E.faults err.new) (is_err result) }
+    ensures written { OnOk result (E.written err.new ≡ option_map (λ before. before ++ (text.now ++ (decimal kind ++ codes "\n"))) (E.written err.old)) }
+    ensures front { OnErr result (GrowsByFront (text.now ++ (decimal kind ++ codes "\n")) (E.written err.old) (E.written err.new)) }
+{
+    write_numbered(err, text, u32::from(kind))
 }
 
 /// Writes a line of a text and a number.

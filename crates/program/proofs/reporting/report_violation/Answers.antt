@@ -1,18 +1,16 @@
-use Rattle.std.proofs.Common.{ap, subst, ◌++◌, ◌∙◌, ◌≡◌}
+use Rattle.std.proofs.Common.{subst, ◌++◌}
 use Rattle.std.specs.Prelude.{codes, decimal}
-use Rattle.std.specs.Option.{option_map}
 use Rattle.std.proofs.lemmas.Result.{on_err_weaker, on_ok_weaker}
 use Rattle.io_edge.specs.Content.{GrowsByFront}
 use Rattle.lua_feed.proofs.Fed.{front_behind, front_more}
-use Rattle.program.proofs.ReportLemmas.{at_fault, then_text}
+use Rattle.program.proofs.ReportLemmas.{at_fault, past_two, then_text, widened}
 use Rattle.program.proofs.reporting.report_violation.Goals as goal
 
 pub returns-clause-written : goal.returns-clause-written
 returns-clause-written g c =
     on_ok_weaker c.write_end.result (λ last.
-    let rule : g.E.Sink.written c.write_number.new.err ≡ option_map (λ text. text ++ decimal c.args.rule) (g.E.Sink.written c.write_all.new.out) = c.in_ok-write_number.ensures.written ∙ ap (λ number. option_map (λ text. text ++ decimal number) (g.E.Sink.written c.write_all.new.out)) c.from.ensures in
     then_text _ _ _ (codes "luaris: source refused by rule ") _ c.in_ok-write_all.ensures.written
-    (then_text _ _ _ (decimal c.args.rule) _ rule
+    (then_text _ _ _ (decimal c.args.rule) _ (widened (g.E.Sink.written c.write_all.new.out) (g.E.Sink.written c.write_number.new.err) c.from.result c.args.rule c.in_ok-write_number.ensures.written c.from.ensures)
     (then_text _ _ _ (codes " at line ") (decimal c.args.line ++ codes "\n") c.in_ok-write_all-2.ensures.written last))) c.write_end.ensures.written
 
 -- a prefix of the line, where a write fails
@@ -32,19 +30,15 @@ returns-in_err-write_number-clause-front g c =
 pub returns-in_err-write_all-2-clause-front : goal.returns-in_err-write_all-2-clause-front
 returns-in_err-write_all-2-clause-front g c =
     at_fault c.from_residual-in_err-write_all-2.result
-    (front_behind (codes "luaris: source refused by rule ") (decimal c.args.rule ++ (codes " at line " ++ (decimal c.args.line ++ codes "\n"))) (g.E.Sink.written c.args.err.now) (g.E.Sink.written c.write_all.new.out) (g.E.Sink.written c.write_all-2.new.out)
-    c.in_ok-write_all.ensures.written
-    (front_behind (decimal c.args.rule) (codes " at line " ++ (decimal c.args.line ++ codes "\n")) (g.E.Sink.written c.write_all.new.out) (g.E.Sink.written c.write_number.new.err) (g.E.Sink.written c.write_all-2.new.out)
-    (c.in_ok-write_number.ensures.written ∙ ap (λ number. option_map (λ text. text ++ decimal number) (g.E.Sink.written c.write_all.new.out)) c.from.ensures)
-    (front_more (codes " at line ") (decimal c.args.line ++ codes "\n") (g.E.Sink.written c.write_number.new.err) (g.E.Sink.written c.write_all-2.new.out) c.in_err-write_all-2.ensures.front)))
+    (past_two (codes "luaris: source refused by rule ") (decimal c.args.rule) (codes " at line " ++ (decimal c.args.line ++ codes "\n")) (g.E.Sink.written c.args.err.now) (g.E.Sink.written c.write_all.new.out) (g.E.Sink.written c.write_number.new.err) (g.E.Sink.written c.write_all-2.new.out)
+    c.in_ok-write_all.ensures.written (widened (g.E.Sink.written c.write_all.new.out) (g.E.Sink.written c.write_number.new.err) c.from.result c.args.rule c.in_ok-write_number.ensures.written c.from.ensures)
+    (front_more (codes " at line ") (decimal c.args.line ++ codes "\n") (g.E.Sink.written c.write_number.new.err) (g.E.Sink.written c.write_all-2.new.out) c.in_err-write_all-2.ensures.front))
 
 pub returns-clause-front : goal.returns-clause-front
 returns-clause-front g c =
     on_err_weaker c.write_end.result (λ last.
-    front_behind (codes "luaris: source refused by rule ") (decimal c.args.rule ++ (codes " at line " ++ (decimal c.args.line ++ codes "\n"))) (g.E.Sink.written c.args.err.now) (g.E.Sink.written c.write_all.new.out) (g.E.Sink.written c.write_end.new.err)
-    c.in_ok-write_all.ensures.written
-    (front_behind (decimal c.args.rule) (codes " at line " ++ (decimal c.args.line ++ codes "\n")) (g.E.Sink.written c.write_all.new.out) (g.E.Sink.written c.write_number.new.err) (g.E.Sink.written c.write_end.new.err)
-    (c.in_ok-write_number.ensures.written ∙ ap (λ number. option_map (λ text. text ++ decimal number) (g.E.Sink.written c.write_all.new.out)) c.from.ensures)
+    past_two (codes "luaris: source refused by rule ") (decimal c.args.rule) (codes " at line " ++ (decimal c.args.line ++ codes "\n")) (g.E.Sink.written c.args.err.now) (g.E.Sink.written c.write_all.new.out) (g.E.Sink.written c.write_number.new.err) (g.E.Sink.written c.write_end.new.err)
+    c.in_ok-write_all.ensures.written (widened (g.E.Sink.written c.write_all.new.out) (g.E.Sink.written c.write_number.new.err) c.from.result c.args.rule c.in_ok-write_number.ensures.written c.from.ensures)
     (front_behind (codes " at line ") (decimal c.args.line ++ codes "\n") (g.E.Sink.written c.write_number.new.err) (g.E.Sink.written c.write_all-2.new.out) (g.E.Sink.written c.write_end.new.err)
     c.in_ok-write_all-2.ensures.written
-    last))) c.write_end.ensures.front
+    last)) c.write_end.ensures.front
