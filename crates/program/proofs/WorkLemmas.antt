@@ -1,6 +1,6 @@
 -- How a script ends that is work alone.
-use Rattle.std.proofs.Common.{Err, ◌≡◌, ◌≢◌, ◌⊎◌, inl, inr, ℕ, ◌+◌, ◌-◌, ◌^◌, ◌<◌, ◌≤◌, min, true, false, List, [], ◌++◌, Option, Some, None, IsTrue, OnOk, OnErr, IfErr, Ok, Result, refl, sym, ap, subst, ◌∙◌, arith}
-use Rattle.std.specs.Prelude.{IsErrOf, IsSomeAnd, is_err, codes}
+use Rattle.std.proofs.Common.{Err, ◌≡◌, ◌≢◌, ◌⊎◌, inl, inr, ℕ, ◌+◌, ◌-◌, ◌^◌, ◌<◌, ◌≤◌, min, true, false, List, [], ◌++◌, Option, Some, None, IsTrue, OnOk, OnErr, IfErr, Ok, Result, refl, sym, ap, subst, ◌∙◌, arith, IsErrAnd}
+use Rattle.std.specs.Prelude.{IsErrOf, IsSomeAnd, is_err, codes, decimal, length}
 use Rattle.std.specs.Option.{option_map}
 use Rattle.load_rows.specs.Loading.{Builds}
 use Rattle.source_builds.specs.Builds.{BuildsSources}
@@ -24,6 +24,7 @@ use Rattle.prelude_code.specs.declared.fault.PreludeFault.TheVariants as prelude
 use Rattle.prelude_code.proofs.Preludes.{code_once}
 use Rattle.lua_meaning.specs.Meaning.{Meaning}
 use Rattle.lua_meaning.specs.Opening.{prelude_of}
+use Rattle.machine_core.specs.World.{World}
 use Rattle.machine_runs.specs.Opening.{opening, begun}
 use Rattle.machine_runs.specs.Runs.{Close, Run, CodeRun}
 use Rattle.machine_runs.specs.Laws.{RunIsOne}
@@ -55,6 +56,7 @@ use Rattle.program.proofs.CompileLemmas.{text_refused}
 use Rattle.program.proofs.DeviceLemmas.{stream_of, grows_by_none, grows_by_all, only_front, only_same, stays}
 use Rattle.program.proofs.Endings.{limit_new, front_new, fed_new}
 use Rattle.program.proofs.MeaningLemmas.{Short, read_of, prelude_is, ends_with}
+use Rattle.program.proofs.Raised.{raised}
 
 no_lines : lines_of [] ≡ []
 unfolding lines_of
@@ -84,6 +86,10 @@ not_run_by count k written last status why runs means = record {
 pub memory_work : {builds : Builds Body} → (count k : ℕ) (written : Option (List ℕ)) (last : Option Session) → IsWork builds count (stream_of k k written written) last 9
 memory_work count k written last = not_run_by count k written last 9 no_memory (λ run goes ample. ample refl) (λ m goes ample made. ample refl)
 
+-- the exit of a `?` for want of memory
+pub memory_exit : {builds : Builds Body} → (count k : ℕ) (written : Option (List ℕ)) (last : Option Session) (result : Result ℕ Fault) → IsErrAnd result (λ made. made ≡ fault.Memory) → IsWork builds count (stream_of k k written written) last (status_of result)
+memory_exit count k written last result short = rw (ap status_of (raised result fault.Memory short)) (memory_work count k written last)
+
 pub no_prelude_work : {builds : Builds Body} → (count k : ℕ) (written : Option (List ℕ)) (last : Option Session) (reason : PreludeFault) → IsNoPrelude reason → IsWork builds count (stream_of k k written written) last (status_of_fault (fault_of_prelude reason))
 no_prelude_work count k written last prelude.Refused none = not_run_by count k written last 12 (no_prelude none) (λ run goes ample. none goes.prelude goes.is_prelude) (λ m goes ample made. made refl)
 no_prelude_work count k written last prelude.Memory none = memory_work count k written last
@@ -108,13 +114,15 @@ refused_fits count reason refused = by (text_refused (work_script count) reason 
 
 pub prelude_fits : (content : List ℕ) (reason : PreludeFault) → ScriptFits content (fault_of_prelude reason)
 prelude_fits content prelude.Refused = tt
-prelude_fits content prelude.Memory = tt
+prelude_fits content _ = tt
 
 pub feeding_fits : (content : List ℕ) (reason : FeedFault) → ScriptFits content (fault_of_feeding reason)
 feeding_fits content feeding.Input = tt
-feeding_fits content feeding.Output = tt
-feeding_fits content feeding.Limit = tt
-feeding_fits content feeding.Memory = tt
+feeding_fits content _ = tt
+
+-- what its line says
+pub worked_line : (count bytes : ℕ) (line script : List ℕ) → line ≡ codes "work " ++ (decimal count ++ (codes " " ++ (decimal bytes ++ codes "\n"))) → bytes ≡ length script → script ≡ work_script count → line ≡ line_of_work count
+worked_line count bytes line script told size made = told ∙ ap (λ n. codes "work " ++ (decimal count ++ (codes " " ++ (decimal n ++ codes "\n")))) (size ∙ ap length made)
 
 -- a script that runs
 
@@ -235,12 +243,13 @@ module _ (builds : Builds Body) (sources : BuildsSources builds) (one : RunIsOne
 
   -- it closes, and its line is written or not
   module _ (reader : Unread) (k k' k'' : ℕ) (before between after : Option (List ℕ)) (close : Close) (W : Memory) (state : SessionState) (new : reader ≡ record { pending = []; taken = 0 }) (same : k' ≡ k)
-      (fed : IsFedTo (Does (library builds) (started prelude code) 10000000) reader.taken (ahead reader (Some [])) before between close W) (stands : state ≡ state_of close) where
+      (start : World) (begins : start ≡ started prelude code) (fed : IsFedTo (Does (library builds) start 10000000) reader.taken (ahead reader (Some [])) before between close W) (stands : state ≡ state_of close) where
     abbrev handed_back : Option Session
     handed_back = Some (record { world = W; state = state })
 
     to : IsFedTo (Does (library builds) (started prelude code) 10000000) 0 (Some []) before between close W
-    to = fed_new reader (Does (library builds) (started prelude code) 10000000) (Some []) before between close W new fed
+    to = fed_new reader (Does (library builds) (started prelude code) 10000000) (Some []) before between close W new
+        (subst (λ (start : World). IsFedTo (Does (library builds) start 10000000) reader.taken (ahead reader (Some [])) before between close W) begins fed)
 
     goes : Goes to.fed.run
     goes = subst (λ ls. CodeRun (library builds) (started prelude code) ls 10000000 to.fed.run) (to.fed.are ∙ no_lines) to.fed.runs

@@ -1,5 +1,5 @@
 use Rattle.std.proofs.Common.{rules, arith, ◌≡◌, ◌∙◌, ◌++◌, List, ℕ, Err, [], Some, ap, subst}
-use Rattle.std.specs.Prelude.{codes, decimal, length, true}
+use Rattle.std.specs.Prelude.{codes, true}
 use Rattle.std.proofs.lemmas.Result.{IfErr-weaker}
 use Rattle.machine_core.specs.World.{World}
 use Rattle.loaded_code.specs.Laws.{library}
@@ -10,16 +10,15 @@ use Rattle.io_edge.specs.Lines.{ahead}
 use Rattle.std.specs.Option.{option_map}
 use Rattle.io_edge.specs.Content.{GrowsByFront}
 use Rattle.lua_feed.specs.Closes.{close_of}
-use Rattle.lua_feed.specs.Feeding.{Does, IsCutOff, IsFedFront, IsFedTo}
+use Rattle.lua_feed.specs.Feeding.{Does, IsCutOff, IsFedFront}
 use Rattle.lua_feed.specs.Running.{started}
 use Rattle.prelude_code.proofs.Preludes.{prelude_once}
 use Rattle.work_script.specs.Script.{work_script}
 use Rattle.program.specs.declared.fault.Fault.TheVariants.{Memory, Spent}
 use Rattle.program.specs.Faults.{fault_of_prelude, fault_of_text, fault_of_feeding, status_of}
 use Rattle.program.specs.Report.{ScriptFits}
-use Rattle.program.specs.Working.{line_of_work}
 use Rattle.program.proofs.Limited.{when_limited}
-use Rattle.program.proofs.WorkLemmas.{no_prelude_work, memory_work, refused_work, refused_fits, prelude_fits, feeding_fits, cut_work, done_work, failed_work}
+use Rattle.program.proofs.WorkLemmas.{no_prelude_work, memory_exit, refused_work, refused_fits, prelude_fits, feeding_fits, worked_line, cut_work, done_work, failed_work}
 use Rattle.program.proofs.Raised.{raised}
 use Rattle.program.proofs.working.work.Goals as goal
 
@@ -29,9 +28,7 @@ returns-in_err-prelude-clause-work g c =
     read_all (λ builds sources. rw (ap status_of is) (no_prelude_work c.args.count _ _ _ c.in_err-prelude.field-0.0 c.in_err-prelude.ensures.refused))
 
 pub returns-in_err-script-clause-work : goal.returns-in_err-script-clause-work
-returns-in_err-script-clause-work g c =
-    let is = raised c.from_residual-in_err-script.result Memory c.from_residual-in_err-script.ensures.1 in
-    read_all (λ builds sources. rw (ap status_of is) (memory_work c.args.count _ _ _))
+returns-in_err-script-clause-work g c = read_all (λ builds sources. memory_exit c.args.count _ _ _ c.from_residual-in_err-script.result c.from_residual-in_err-script.ensures.1)
 
 pub returns-in_err-code-clause-work : goal.returns-in_err-code-clause-work
 returns-in_err-code-clause-work g c =
@@ -46,19 +43,13 @@ returns-in_err-code-clause-fits g c =
     rw is (refused_fits c.args.count c.in_err-code.field-0.0 refused)
 
 pub returns-in_err-line-clause-work : goal.returns-in_err-line-clause-work
-returns-in_err-line-clause-work g c =
-    let is = raised c.from_residual-in_err-line.result Memory c.from_residual-in_err-line.ensures.1 in
-    read_all (λ builds sources. rw (ap status_of is) (memory_work c.args.count _ _ _))
+returns-in_err-line-clause-work g c = read_all (λ builds sources. memory_exit c.args.count _ _ _ c.from_residual-in_err-line.result c.from_residual-in_err-line.ensures.1)
 
 pub returns-in_err-reader-clause-work : goal.returns-in_err-reader-clause-work
-returns-in_err-reader-clause-work g c =
-    let is = raised c.from_residual-in_err-reader.result Memory c.from_residual-in_err-reader.ensures.1 in
-    read_all (λ builds sources. rw (ap status_of is) (memory_work c.args.count _ _ _))
+returns-in_err-reader-clause-work g c = read_all (λ builds sources. memory_exit c.args.count _ _ _ c.from_residual-in_err-reader.result c.from_residual-in_err-reader.ensures.1)
 
 pub returns-in_err-world-clause-work : goal.returns-in_err-world-clause-work
-returns-in_err-world-clause-work g c =
-    let is = raised c.from_residual-in_err-world.result Memory c.from_residual-in_err-world.ensures.1 in
-    read_all (λ builds sources. rw (ap status_of is) (memory_work c.args.count _ _ _))
+returns-in_err-world-clause-work g c = read_all (λ builds sources. memory_exit c.args.count _ _ _ c.from_residual-in_err-world.result c.from_residual-in_err-world.ensures.1)
 
 pub returns-in_err-close-clause-work : goal.returns-in_err-close-clause-work
 returns-in_err-close-clause-work g c =
@@ -84,42 +75,31 @@ returns-in_err-write_output-clause-work g c =
     let is : c.from_residual-in_err-write_output.result ≡ Err c.in_err-write_output.field-0.0 = search rules in
     let prelude = c.in_ok-prelude.prelude in
     let code = c.in_ok-code.code in
-    let before = g.K.Sink.written c.args.out.now in
-    let between = g.K.Sink.written c.feed.new.out in
-    let after = g.K.Sink.written c.write_output.new.out in
-    let reader = c.in_ok-reader.reader in
     let own : IsCodeOf (codes "work") (work_script c.args.count) true code = subst (λ (s : List ℕ). IsCodeOf (codes "work") s true code) (c.as_slice.ensures.value ∙ c.in_ok-script.ensures) c.in_ok-code.ensures.code in
-    let size : c.len.result ≡ length c.in_ok-script.script.items = search rules in
-    let line : c.as_slice-2.result.now ≡ line_of_work c.args.count
-    = c.as_slice-2.ensures.value ∙ c.in_ok-line.ensures ∙ ap (λ n. codes "work " ++ (decimal c.args.count ++ (codes " " ++ (decimal n ++ codes "\n")))) (size ∙ ap length c.in_ok-script.ensures) in
+    let line = worked_line c.args.count c.len.result c.as_slice-2.result.now c.in_ok-script.script.items (c.as_slice-2.ensures.value ∙ c.in_ok-line.ensures) (search rules) c.in_ok-script.ensures in
     read_map (λ builds sources feeds.
-    let fed : IsFedTo (Does (library builds) (started prelude code) 10000000) reader.taken (ahead reader (Some [])) before between (close_of c.in_ok-close.close) c.feed.new.world
-    = subst (λ (W : World). IsFedTo (Does (library builds) W 10000000) reader.taken (ahead reader (Some [])) before between (close_of c.in_ok-close.close) c.feed.new.world) c.in_ok-world.ensures.begun feeds in
     rw (ap status_of is, c.in_err-write_output.ensures.device)
     (failed_work builds sources c.runs_are_one.ensures.runs c.scripts_do_as_they_mean.ensures.does c.scripts_do_as_they_mean.ensures.means c.prelude_is_alike.ensures c.args.count prelude code
     c.in_ok-prelude.ensures.code (λ other is_prelude. prelude_once prelude other c.in_ok-prelude.ensures.code is_prelude) own c.rules_hold.ensures
-    reader _ _ _ before between after (close_of c.in_ok-close.close) c.feed.new.world _ c.in_ok-reader.ensures c.in_ok-close.ensures.output.only fed c.state_at.ensures
-    c.in_err-write_output.ensures.cause.rose (subst (λ t. GrowsByFront t between after) line c.in_err-write_output.ensures.front))) c.in_ok-close.ensures.fed
+    c.in_ok-reader.reader _ _ _ (g.K.Sink.written c.args.out.now) (g.K.Sink.written c.feed.new.out) (g.K.Sink.written c.write_output.new.out) (close_of c.in_ok-close.close) c.feed.new.world _ c.in_ok-reader.ensures c.in_ok-close.ensures.output.only _ c.in_ok-world.ensures.begun feeds c.state_at.ensures
+    c.in_err-write_output.ensures.cause.rose (subst (λ t. GrowsByFront t (g.K.Sink.written c.feed.new.out) (g.K.Sink.written c.write_output.new.out)) line c.in_err-write_output.ensures.front))) c.in_ok-close.ensures.fed
 
 pub returns-clause-work : goal.returns-clause-work
 returns-clause-work g c =
     let prelude = c.in_ok-prelude.prelude in
     let code = c.in_ok-code.code in
-    let before = g.K.Sink.written c.args.out.now in
-    let between = g.K.Sink.written c.feed.new.out in
-    let after = g.K.Sink.written c.write_output.new.out in
-    let reader = c.in_ok-reader.reader in
     let own : IsCodeOf (codes "work") (work_script c.args.count) true code = subst (λ (s : List ℕ). IsCodeOf (codes "work") s true code) (c.as_slice.ensures.value ∙ c.in_ok-script.ensures) c.in_ok-code.ensures.code in
-    let size : c.len.result ≡ length c.in_ok-script.script.items = search rules in
-    let line : c.as_slice-2.result.now ≡ line_of_work c.args.count
-    = c.as_slice-2.ensures.value ∙ c.in_ok-line.ensures ∙ ap (λ n. codes "work " ++ (decimal c.args.count ++ (codes " " ++ (decimal n ++ codes "\n")))) (size ∙ ap length c.in_ok-script.ensures) in
+    let line = worked_line c.args.count c.len.result c.as_slice-2.result.now c.in_ok-script.script.items (c.as_slice-2.ensures.value ∙ c.in_ok-line.ensures) (search rules) c.in_ok-script.ensures in
     read_map (λ builds sources feeds.
-    let fed : IsFedTo (Does (library builds) (started prelude code) 10000000) reader.taken (ahead reader (Some [])) before between (close_of c.in_ok-close.close) c.feed.new.world
-    = subst (λ (W : World). IsFedTo (Does (library builds) W 10000000) reader.taken (ahead reader (Some [])) before between (close_of c.in_ok-close.close) c.feed.new.world) c.in_ok-world.ensures.begun feeds in
     done_work builds sources c.runs_are_one.ensures.runs c.scripts_do_as_they_mean.ensures.does c.scripts_do_as_they_mean.ensures.means c.prelude_is_alike.ensures c.args.count prelude code
     c.in_ok-prelude.ensures.code (λ other is_prelude. prelude_once prelude other c.in_ok-prelude.ensures.code is_prelude) own c.rules_hold.ensures
-    reader _ _ _ before between after (close_of c.in_ok-close.close) c.feed.new.world _ c.in_ok-reader.ensures c.in_ok-close.ensures.output.only fed c.state_at.ensures
-    _ c.status_at.ensures.status c.in_ok-write_output.ensures.cause.only (subst (λ t. after ≡ option_map (λ b. b ++ t) between) line c.in_ok-write_output.ensures.written)) c.in_ok-close.ensures.fed
+    c.in_ok-reader.reader _ _ _ (g.K.Sink.written c.args.out.now) (g.K.Sink.written c.feed.new.out) (g.K.Sink.written c.write_output.new.out) (close_of c.in_ok-close.close) c.feed.new.world _ c.in_ok-reader.ensures c.in_ok-close.ensures.output.only _ c.in_ok-world.ensures.begun feeds c.state_at.ensures
+    _ c.status_at.ensures.status c.in_ok-write_output.ensures.cause.only (subst (λ t. g.K.Sink.written c.write_output.new.out ≡ option_map (λ b. b ++ t) (g.K.Sink.written c.feed.new.out)) line c.in_ok-write_output.ensures.written)) c.in_ok-close.ensures.fed
+
+pub returns-in_err-prelude-clause-fits : goal.returns-in_err-prelude-clause-fits
+returns-in_err-prelude-clause-fits g c =
+    let is : c.from_residual.result ≡ Err (fault_of_prelude c.in_err-prelude.field-0.0) = search rules in
+    rw is (prelude_fits (work_script c.args.count) c.in_err-prelude.field-0.0)
 
 pub returns-in_err-script-clause-fits : goal.returns-in_err-script-clause-fits
 returns-in_err-script-clause-fits g c = rw (raised c.from_residual-in_err-script.result Memory c.from_residual-in_err-script.ensures.1) tt
@@ -133,15 +113,8 @@ returns-in_err-reader-clause-fits g c = rw (raised c.from_residual-in_err-reader
 pub returns-in_err-world-clause-fits : goal.returns-in_err-world-clause-fits
 returns-in_err-world-clause-fits g c = rw (raised c.from_residual-in_err-world.result Memory c.from_residual-in_err-world.ensures.1) tt
 
-pub returns-in_err-prelude-clause-fits : goal.returns-in_err-prelude-clause-fits
-returns-in_err-prelude-clause-fits g c =
-    let is : c.from_residual.result ≡ Err (fault_of_prelude c.in_err-prelude.field-0.0) = search rules in
-    rw is (prelude_fits (work_script c.args.count) c.in_err-prelude.field-0.0)
-
 pub returns-in_err-close-clause-fits : goal.returns-in_err-close-clause-fits
-returns-in_err-close-clause-fits g c =
-    let is = raised c.from_residual-in_err-close.result (fault_of_feeding c.in_err-close.field-0.0) c.from_residual-in_err-close.ensures.1 in
-    rw is (feeding_fits (work_script c.args.count) c.in_err-close.field-0.0)
+returns-in_err-close-clause-fits g c = rw (raised c.from_residual-in_err-close.result (fault_of_feeding c.in_err-close.field-0.0) c.from_residual-in_err-close.ensures.1) (feeding_fits (work_script c.args.count) c.in_err-close.field-0.0)
 
 pub returns-in_err-write_output-clause-fits : goal.returns-in_err-write_output-clause-fits
 returns-in_err-write_output-clause-fits g c =
