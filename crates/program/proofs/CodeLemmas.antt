@@ -1,15 +1,11 @@
 -- The code in a file, or why there is none.
-use Rattle.std.proofs.Common.{Result, Ok, Err, IfOk, IfErr, ◌≡◌, ◌⊎◌, inl, inr, ℕ, Bool, true, false, List, Option, Some, IfSome, sym, subst}
+use Rattle.std.proofs.Common.{◌≡◌, ◌⊎◌, inl, inr, ℕ, Bool, true, false, List, Option, Some, IfSome, sym, subst}
 use Rattle.std.specs.Bool.{MatchBool}
 use Rattle.code_core.specs.Prototype.{Prototype}
 use Rattle.io_edge.specs.Content.{FileMap}
-use Rattle.io_edge.specs.declared.fault.FileFault.{FileFault}
-use Rattle.io_edge.specs.declared.fault.FileFault.TheVariants as file
 use Rattle.compile_text.specs.Source.{IsRefused}
 use Rattle.compile_text.specs.declared.fault.TextFault.{TextFault}
 use Rattle.compile_chunk.specs.Chunk.{IsCodeOf, script_in}
-use Rattle.prelude_code.specs.declared.fault.PreludeFault.{PreludeFault}
-use Rattle.prelude_code.specs.declared.fault.PreludeFault.TheVariants as prelude
 use Rattle.prelude_code.proofs.Preludes.{code_once}
 use Rattle.lua_feed.specs.declared.fault.FeedFault.{FeedFault}
 use Rattle.lua_feed.specs.declared.fault.FeedFault.TheVariants as feeding
@@ -18,17 +14,13 @@ use Rattle.program.specs.declared.fault.Fault.TheVariants as fault
 use Rattle.program.specs.Devices.{Holds}
 use Rattle.program.specs.Checking.{begins_chunk, IsAccepted}
 use Rattle.program.specs.Compiling.{source_name}
-use Rattle.program.specs.Faults.{fault_of_file, fault_of_prelude, fault_of_text, fault_of_feeding}
-use Rattle.program.specs.Outcomes.{IsChunkIn, IsNoChunkFor, IsCodeIn, IsNoScriptFor, IsNoCodeFor}
+use Rattle.program.specs.Faults.{fault_of_text, fault_of_feeding}
+use Rattle.program.specs.Outcomes.{IsNoChunkFor, IsCodeIn, IsNoScriptFor, IsNoCodeFor}
 use Rattle.program.specs.Report.{ChunkFits, ScriptFits, CodeFits}
 use Rattle.program.proofs.CompileLemmas.{text_refused}
 use Rattle.program.proofs.DeviceLemmas.{same_content}
 
 -- the choice by the first byte
-
-on_chunk : (A B : Type 0) (b : Bool) → b ≡ true → A → MatchBool b A B
-on_chunk A B true is given = given
-on_chunk A B false is given = absurd (cc)
 
 on_script : (A B : Type 0) (b : Bool) → b ≡ false → B → MatchBool b A B
 on_script A B true is given = absurd (cc)
@@ -48,21 +40,6 @@ either false first second = second
 
 -- the code
 
-chunk_code : (name content : List ℕ) (code : Prototype) → begins_chunk content ≡ true → IsChunkIn content code → IsCodeIn name content code
-chunk_code name content code begins own = record {
-  holds = on_chunk (IsAccepted content code) (IsCodeOf (source_name name) (script_in content) true code) (begins_chunk content) begins own.accepted;
-  only = λ other holds. own.only other (of_chunk (IsAccepted content other) (IsCodeOf (source_name name) (script_in content) true other) (begins_chunk content) begins holds);
-}
-
-pub chunk_codes : (name content : List ℕ) (r : Result Prototype Fault) → begins_chunk content ≡ true → IfOk r (λ code. IsChunkIn content code) → IfOk r (λ code. IsCodeIn name content code)
-chunk_codes name content (Ok code) begins own = chunk_code name content code begins own
-chunk_codes name content (Err reason) begins own = tt
-
-pub chunk_refusals : (content : List ℕ) (r : Result Prototype Fault) → begins_chunk content ≡ true → IfErr r (λ reason. IsNoChunkFor content reason ⊎ (reason ≡ fault.Memory)) → IfErr r (λ reason. IsNoCodeFor content reason ⊎ (reason ≡ fault.Memory))
-chunk_refusals content (Ok code) begins own = tt
-chunk_refusals content (Err reason) begins (inl own) = inl (on_chunk (IsNoChunkFor content reason) (IsNoScriptFor content reason) (begins_chunk content) begins own)
-chunk_refusals content (Err reason) begins (inr memory) = inr memory
-
 pub script_code : (name content : List ℕ) (code : Prototype) → begins_chunk content ≡ false → IsCodeOf (source_name name) (script_in content) true code → IsCodeIn name content code
 script_code name content code begins own = record {
   holds = on_script (IsAccepted content code) (IsCodeOf (source_name name) (script_in content) true code) (begins_chunk content) begins own;
@@ -80,18 +57,6 @@ script_refusal content reason begins refused = by (text_refused content reason r
 
 pub memory_fits : (content : List ℕ) → CodeFits content fault.Memory
 memory_fits content = either (begins_chunk content) tt tt
-
-pub spent_fits : (content : List ℕ) → CodeFits content fault.Spent
-spent_fits content = either (begins_chunk content) tt tt
-
-pub file_fits : (content : List ℕ) (reason : FileFault) → CodeFits content (fault_of_file reason)
-file_fits content file.Failed = either (begins_chunk content) tt tt
-file_fits content file.Absent = either (begins_chunk content) tt tt
-file_fits content file.Memory = either (begins_chunk content) tt tt
-
-pub prelude_fits : (content : List ℕ) (reason : PreludeFault) → CodeFits content (fault_of_prelude reason)
-prelude_fits content prelude.Refused = either (begins_chunk content) tt tt
-prelude_fits content prelude.Memory = either (begins_chunk content) tt tt
 
 pub feeding_fits : (content : List ℕ) (reason : FeedFault) → CodeFits content (fault_of_feeding reason)
 feeding_fits content feeding.Input = either (begins_chunk content) tt tt

@@ -20,7 +20,7 @@ use Rattle.program.specs.Outcomes.{IsChunk, IsNoScriptFor}
 use Rattle.program.specs.Devices.{Holds}
 use Rattle.program.specs.Compiling as compile
 use Rattle.program.specs.Compiling.{Compiles, HoldsNoScript, IsCompilation}
-use Rattle.program.specs.Report.{ScriptFits, status_of_fault}
+use Rattle.program.specs.Report.{status_of_fault}
 use Rattle.program.proofs.DeviceLemmas.{keeps_others, replaces_others, keeps_telling, same_telling, same_content, not_lacking, no_content, stays, told_lacking}
 
 pub text_refused : (content : List ℕ) (reason : TextFault) → IsRefused (script_in content) reason → IsNoScriptFor content (fault_of_text reason) ⊎ (fault_of_text reason ≡ fault.Memory)
@@ -152,8 +152,3 @@ unput_since script chunk strip content bytes f read f' held after held' same kep
 pub with_same_files : (script chunk : List ℕ) (strip : Bool) (f f' : ℕ) (held held' : Option FileMap) (status status' : ℕ) → f' ≡ f → held' ≡ held → status ≡ status'
     → IsCompilation script chunk strip (record { faults = f; faults' = f; content = held; content' = held }) status' → IsCompilation script chunk strip (record { faults = f; faults' = f'; content = held; content' = held' }) status
 with_same_files script chunk strip f f' held held' status status' faults kept same work = rw (faults, kept, same) work
-
--- what a refusal tells of the bytes that the files hold
-pub text_tells : (script content content' : List ℕ) (held : Option FileMap) (reason : Fault) → IfSome held (λ files. files script ≡ Some content) → Holds held script content' → IsNoScriptFor content reason ⊎ (reason ≡ fault.Memory) → ScriptFits content' reason
-text_tells script content content' held reason found has (inl refusal) = subst (λ c. ScriptFits c reason) (sym (same_content script content content' held found has)) refusal.fits
-text_tells script content content' held reason found has (inr memory) = rw memory tt

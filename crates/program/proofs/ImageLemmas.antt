@@ -2,11 +2,7 @@
 use Rattle.std.proofs.Common.{◌≡◌, ◌⊎◌, inl, inr, ℕ, List, [], Option, Some, IfSome, refl, ap, sym, subst, ◌∙◌}
 use Rattle.code_core.specs.Prototype.{Prototype}
 use Rattle.io_edge.specs.Content.{FileMap}
-use Rattle.io_edge.specs.declared.fault.FileFault.{FileFault}
-use Rattle.io_edge.specs.declared.fault.FileFault.TheVariants as file
 use Rattle.prelude_code.specs.Prelude.{IsPreludeCode}
-use Rattle.prelude_code.specs.declared.fault.PreludeFault.{PreludeFault}
-use Rattle.prelude_code.specs.declared.fault.PreludeFault.TheVariants as prelude
 use Rattle.machine_core.specs.World.{World}
 use Rattle.graph_core.specs.Permanents.{key_read}
 use Rattle.image_core.specs.Image.{PermKey}
@@ -19,49 +15,23 @@ use Rattle.session_images.specs.Saved.{session_of}
 use Rattle.lua_feed.specs.declared.fault.FeedFault.{FeedFault}
 use Rattle.lua_feed.specs.declared.fault.FeedFault.TheVariants as feeding
 use Rattle.lua_saving.specs.Saving.{IsRefused, by_bytes, by_roots, IsSession, HasYielded}
-use Rattle.lua_saving.specs.declared.fault.SaveFault.{SaveFault}
-use Rattle.lua_saving.specs.declared.fault.SaveFault.TheVariants as saving
 use Rattle.program.specs.declared.fault.Fault.{Fault}
 use Rattle.program.specs.declared.fault.Fault.TheVariants as fault
 use Rattle.program.specs.Devices.{Holds}
-use Rattle.program.specs.Faults.{fault_of_file, fault_of_prelude, fault_of_feeding, fault_of_saving}
+use Rattle.program.specs.Faults.{fault_of_feeding}
 use Rattle.program.specs.Outcomes.{told_refusal, IsToldOf, IsToldOfReading, IsNoSessionFor}
 use Rattle.program.specs.Report as report
-use Rattle.program.specs.Report.{IsRefusedFor, IsNoImage, ImageFits, CodeFits}
+use Rattle.program.specs.Report.{IsRefusedFor, IsNoImage, ImageFits}
 use Rattle.program.specs.Sessions.{functions_of}
-use Rattle.program.proofs.CodeLemmas.{memory_fits, either}
 use Rattle.program.proofs.DeviceLemmas.{same_content}
 
 -- faults that tell nothing of an image
-
-pub file_fits_image : (content : List ℕ) (reason : FileFault) → ImageFits content (fault_of_file reason)
-file_fits_image content file.Failed = tt
-file_fits_image content file.Absent = tt
-file_fits_image content file.Memory = tt
-
-pub prelude_fits_image : (content : List ℕ) (reason : PreludeFault) → ImageFits content (fault_of_prelude reason)
-prelude_fits_image content prelude.Refused = tt
-prelude_fits_image content prelude.Memory = tt
 
 pub feeding_fits_image : (content : List ℕ) (reason : FeedFault) → ImageFits content (fault_of_feeding reason)
 feeding_fits_image content feeding.Input = tt
 feeding_fits_image content feeding.Output = tt
 feeding_fits_image content feeding.Limit = tt
 feeding_fits_image content feeding.Memory = tt
-
-pub saving_fits_image : (content : List ℕ) (reason : SaveFault) → ImageFits content (fault_of_saving reason)
-saving_fits_image content saving.TooLarge = tt
-saving_fits_image content saving.Prelude = tt
-saving_fits_image content saving.Memory = tt
-
--- and what they tell of code
-pub saving_fits : (content : List ℕ) (reason : SaveFault) → CodeFits content (fault_of_saving reason)
-saving_fits content saving.TooLarge = either _ tt tt
-saving_fits content saving.Prelude = either _ tt tt
-saving_fits content saving.Memory = memory_fits content
-
-pub device_fits : (content : List ℕ) → CodeFits content fault.Device
-device_fits content = either _ tt tt
 
 -- the bytes are no session's image
 
