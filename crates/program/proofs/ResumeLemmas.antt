@@ -1,5 +1,5 @@
 -- How the going on of a session ends.
-use Rattle.std.proofs.Common.{Err, ◌≡◌, ◌≢◌, ◌⊎◌, inl, inr, ℕ, ◌<◌, true, List, [], Option, Some, None, IfSome, refl, sym, ap, subst, ◌∙◌, arith}
+use Rattle.std.proofs.Common.{Result, Err, IsErrAnd, ◌≡◌, ◌≢◌, ◌⊎◌, inl, inr, ℕ, ◌<◌, true, List, [], Option, Some, None, IfSome, refl, sym, ap, subst, ◌∙◌, arith}
 use Rattle.std.specs.Prelude.{IsErrOf}
 use Rattle.std.specs.Bool.{OnTrue, OnFalse}
 use Rattle.std.specs.declared.vec.Vec.{Vec}
@@ -28,7 +28,7 @@ use Rattle.program.specs.declared.fault.Fault.{Fault}
 use Rattle.program.specs.declared.fault.Fault.TheVariants as fault
 use Rattle.program.specs.declared.session.Session.{Session}
 use Rattle.program.specs.Devices.{Device, Lacks, Holds}
-use Rattle.program.specs.Faults.{fault_of_file, fault_of_prelude}
+use Rattle.program.specs.Faults.{fault_of_file, fault_of_prelude, status_of}
 use Rattle.program.specs.Outcomes.{told_refusal, IsNoSessionFor}
 use Rattle.program.specs.Meaning.{has_ended}
 use Rattle.program.specs.Report.{status_of_fault}
@@ -36,6 +36,7 @@ use Rattle.program.specs.Sessions.{functions_of, IsKept}
 use Rattle.program.specs.Resuming as resuming
 use Rattle.program.specs.Resuming.{ResumesOn, HoldsNoSession, IsNotResumed, not_resumed, goes_on, IsResume}
 use Rattle.program.proofs.DeviceLemmas.{files_of, stream_of, grows_by_none, only_same, keeps_telling, kept_others, same_content, not_lacking, no_content, stays, told_lacking}
+use Rattle.program.proofs.Raised.{raised}
 use Rattle.program.proofs.Endings.{Ran, short_of}
 
 -- a file whose session does not go on
@@ -174,3 +175,9 @@ resume_since name budget save f f' f'' held held' held'' input out last status s
 pub resume_before : {builds : Builds Body} → (name : List ℕ) (budget : ℕ) (save : Option (List ℕ)) (f f' : ℕ) (held held' : Option FileMap) (input out : Device (List ℕ)) (last : Option Session) (status status' : ℕ) → f' ≡ f → held' ≡ held → status ≡ status'
     → IsResume builds name budget save (files_of f f held held) input out last status' → IsResume builds name budget save (files_of f f' held held') input out last status
 resume_before name budget save f f' held held' input out last status status' faults kept same run = rw (faults, kept, same) run
+
+-- the exit of a `?` for want of memory, where the file is read
+pub short_resume : {builds : Builds Body} → (name content : List ℕ) (budget : ℕ) (save : Option (List ℕ)) (f f' i k : ℕ) (held held' : Option FileMap) (left written : Option (List ℕ)) (last : Option Session) (result : Result ℕ Fault) → f' ≡ f → held' ≡ held
+    → IfSome held (λ h. h name ≡ Some content) → IsErrAnd result (λ made. made ≡ fault.Memory) → IsResume builds name budget save (files_of f f' held held') (stream_of i i left left) (stream_of k k written written) last (status_of result)
+short_resume name content budget save f f' i k held held' left written last result faults kept found short =
+    resume_before name budget save f f' held held' (stream_of i i left left) (stream_of k k written written) last (status_of result) 9 faults kept (ap status_of (raised result fault.Memory short)) (memory_resume name content budget save f i k held left written last found)

@@ -1,5 +1,5 @@
 -- How the running of a file ends.
-use Rattle.std.proofs.Common.{Err, ◌≡◌, ◌≢◌, ◌⊎◌, inl, inr, ℕ, ◌<◌, ◌≤◌, length, List, ◌++◌, Bool, true, false, Option, Some, None, IfSome, refl, sym, ap, subst, ◌∙◌, arith}
+use Rattle.std.proofs.Common.{Result, Err, IsErrAnd, ◌≡◌, ◌≢◌, ◌⊎◌, inl, inr, ℕ, ◌<◌, ◌≤◌, length, List, ◌++◌, Bool, true, false, Option, Some, None, IfSome, refl, sym, ap, subst, ◌∙◌, arith}
 use Rattle.std.specs.Prelude.{IsErrOf}
 use Rattle.std.specs.Bool.{OnTrue, OnFalse, MatchBool}
 use Rattle.std.specs.Option.{option_map}
@@ -34,7 +34,7 @@ use Rattle.program.specs.declared.session.Session.{Session}
 use Rattle.program.specs.Devices.{Device, Lacks, Holds}
 use Rattle.program.specs.Checking.{begins_chunk, IsAccepted, HoldsNoChunk}
 use Rattle.program.specs.Compiling.{source_name, HoldsNoScript}
-use Rattle.program.specs.Faults.{fault_of_file, fault_of_prelude}
+use Rattle.program.specs.Faults.{fault_of_file, fault_of_prelude, status_of}
 use Rattle.program.specs.Outcomes.{IsCodeIn, IsNoChunkFor, IsNoScriptFor, IsNoCodeFor}
 use Rattle.program.specs.Report.{status_of_fault}
 use Rattle.program.specs.Meaning.{MeansOn, EndsWith}
@@ -44,6 +44,7 @@ use Rattle.program.specs.Sessions.{functions_of, IsKept}
 use Rattle.program.specs.Running as running
 use Rattle.program.specs.Running.{HoldsCode, RunsOn, IsNotRun, not_run, has_run, IsRun}
 use Rattle.program.proofs.DeviceLemmas.{files_of, stream_of, grows_by_none, only_same, keeps_telling, kept_others, same_content, not_lacking, no_content, stays, told_lacking}
+use Rattle.program.proofs.Raised.{raised}
 use Rattle.program.proofs.MeaningLemmas.{meaning_run, ends_with, handed_short, usable_short, waiting, waits_too}
 use Rattle.program.proofs.Endings.{Ran, ran_so, short_of, told_so}
 use Rattle.program.proofs.Meant.{not_run_ends, done, run_meant}
@@ -280,3 +281,9 @@ run_since name budget save f f' f'' held held' held'' input out last status stat
 pub run_before : {builds : Builds Body} → (name : List ℕ) (budget : ℕ) (save : Option (List ℕ)) (f f' : ℕ) (held held' : Option FileMap) (input out : Device (List ℕ)) (last : Option Session) (status status' : ℕ) → f' ≡ f → held' ≡ held → status ≡ status'
     → IsRun builds name budget save (files_of f f held held) input out last status' → IsRun builds name budget save (files_of f f' held held') input out last status
 run_before name budget save f f' held held' input out last status status' faults kept same run = rw (faults, kept, same) run
+
+-- the exit of a `?` for want of memory, where the file is read
+pub short_run : {builds : Builds Body} → (name content : List ℕ) (budget : ℕ) (save : Option (List ℕ)) (f f' i k : ℕ) (held held' : Option FileMap) (left written : Option (List ℕ)) (last : Option Session) (result : Result ℕ Fault) → f' ≡ f → held' ≡ held
+    → IfSome held (λ h. h name ≡ Some content) → IsErrAnd result (λ made. made ≡ fault.Memory) → IsRun builds name budget save (files_of f f' held held') (stream_of i i left left) (stream_of k k written written) last (status_of result)
+short_run name content budget save f f' i k held held' left written last result faults kept found short =
+    run_before name budget save f f' held held' (stream_of i i left left) (stream_of k k written written) last (status_of result) 9 faults kept (ap status_of (raised result fault.Memory short)) (memory_run name content budget save f i k held left written last found)

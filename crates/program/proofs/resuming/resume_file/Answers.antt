@@ -16,7 +16,7 @@ use Rattle.program.proofs.Limited.{when_stopped}
 use Rattle.program.proofs.LimitLemmas.{file_limits, prelude_limits, session_limits, feeding_limits, one_past, left_limits, none_past, one_fault}
 use Rattle.program.proofs.Endings.{cut_ran, closed_ran, onward_once, limit_new, broken_new, front_new, fed_new}
 use Rattle.program.proofs.ImageLemmas.{feeding_fits_image, image_tells}
-use Rattle.program.proofs.ResumeLemmas.{unread_resume, no_prelude_resume, no_session_resume, memory_resume, resume_of, resume_since, resume_before}
+use Rattle.program.proofs.ResumeLemmas.{unread_resume, no_prelude_resume, no_session_resume, resume_of, resume_since, resume_before, short_resume}
 use Rattle.program.proofs.Raised.{raised}
 use Rattle.program.proofs.resuming.resume_file.Goals as goal
 
@@ -43,22 +43,17 @@ returns-in_err-world-clause-resume g c =
 
 pub returns-in_err-world-clause-fits : goal.returns-in_err-world-clause-fits
 returns-in_err-world-clause-fits g c =
-    let prelude = c.in_ok-prelude.prelude in
     let is : c.from_residual-in_err-world.result ≡ Err c.in_err-world.field-0.0 = search rules in
-    let answers : IsNoSessionFor prelude c.in_ok-content.content.items c.in_err-world.field-0.0 ⊎ (c.in_err-world.field-0.0 ≡ Memory)
-    = subst (λ (s : List ℕ). IsNoSessionFor prelude s c.in_err-world.field-0.0 ⊎ (c.in_err-world.field-0.0 ≡ Memory)) c.as_slice.ensures.value c.in_err-world.ensures.refused in
-    λ content has. rw is (image_tells c.args.name.now c.in_ok-content.content.items content _ prelude c.in_err-world.field-0.0 c.in_ok-content.ensures.found has c.in_ok-prelude.ensures.code answers)
+    let answers : IsNoSessionFor c.in_ok-prelude.prelude c.in_ok-content.content.items c.in_err-world.field-0.0 ⊎ (c.in_err-world.field-0.0 ≡ Memory)
+    = subst (λ (s : List ℕ). IsNoSessionFor c.in_ok-prelude.prelude s c.in_err-world.field-0.0 ⊎ (c.in_err-world.field-0.0 ≡ Memory)) c.as_slice.ensures.value c.in_err-world.ensures.refused in
+    λ content has. rw is (image_tells c.args.name.now c.in_ok-content.content.items content _ c.in_ok-prelude.prelude c.in_err-world.field-0.0 c.in_ok-content.ensures.found has c.in_ok-prelude.ensures.code answers)
 
 pub returns-in_err-reader-clause-resume : goal.returns-in_err-reader-clause-resume
 returns-in_err-reader-clause-resume g c =
-    let is = raised c.from_residual-in_err-reader.result Memory c.from_residual-in_err-reader.ensures.1 in
-    read_all (λ builds sources. resume_before c.args.name.now c.args.budget _ _ _ _ _ _ _ _ _ _ c.in_ok-content.ensures.cause.only c.in_ok-content.ensures.kept (ap status_of is)
-    (memory_resume c.args.name.now c.in_ok-content.content.items c.args.budget _ _ _ _ _ _ _ _ c.in_ok-content.ensures.found))
+    read_all (λ builds sources. short_resume c.args.name.now c.in_ok-content.content.items c.args.budget _ _ _ _ _ _ _ _ _ _ c.from_residual-in_err-reader.result c.in_ok-content.ensures.cause.only c.in_ok-content.ensures.kept c.in_ok-content.ensures.found c.from_residual-in_err-reader.ensures.1)
 
 pub returns-in_err-reader-clause-fits : goal.returns-in_err-reader-clause-fits
-returns-in_err-reader-clause-fits g c =
-    let is = raised c.from_residual-in_err-reader.result Memory c.from_residual-in_err-reader.ensures.1 in
-    λ content has. rw is tt
+returns-in_err-reader-clause-fits g c = λ content has. rw (raised c.from_residual-in_err-reader.result Memory c.from_residual-in_err-reader.ensures.1) tt
 
 pub returns-in_err-close-clause-resume : goal.returns-in_err-close-clause-resume
 returns-in_err-close-clause-resume g c =

@@ -17,7 +17,7 @@ use Rattle.program.proofs.Limited.{when_stopped}
 use Rattle.program.proofs.LimitLemmas.{file_limits, prelude_limits, code_limits, feeding_limits, one_past, left_limits, none_past, one_fault}
 use Rattle.program.proofs.Endings.{cut_ran, closed_ran, limit_new, broken_new, front_new, fed_new}
 use Rattle.program.proofs.Keeping.{run_keeps}
-use Rattle.program.proofs.RunLemmas.{unread_run, no_prelude_run, no_code_run, memory_run, run_of, run_since, run_before}
+use Rattle.program.proofs.RunLemmas.{unread_run, no_prelude_run, no_code_run, run_of, run_since, run_before, short_run}
 use Rattle.program.proofs.Raised.{raised}
 use Rattle.program.proofs.running.run_file.Goals as goal
 
@@ -47,25 +47,17 @@ returns-in_err-code-clause-fits g c =
 
 pub returns-in_err-reader-clause-run : goal.returns-in_err-reader-clause-run
 returns-in_err-reader-clause-run g c =
-    let is = raised c.from_residual-in_err-reader.result Memory c.from_residual-in_err-reader.ensures.1 in
-    read_all (λ builds sources. run_before c.args.name.now c.args.budget _ _ _ _ _ _ _ _ _ _ c.in_ok-content.ensures.cause.only c.in_ok-content.ensures.kept (ap status_of is)
-    (memory_run c.args.name.now c.in_ok-content.content.items c.args.budget _ _ _ _ _ _ _ _ c.in_ok-content.ensures.found))
+    read_all (λ builds sources. short_run c.args.name.now c.in_ok-content.content.items c.args.budget _ _ _ _ _ _ _ _ _ _ c.from_residual-in_err-reader.result c.in_ok-content.ensures.cause.only c.in_ok-content.ensures.kept c.in_ok-content.ensures.found c.from_residual-in_err-reader.ensures.1)
 
 pub returns-in_err-reader-clause-fits : goal.returns-in_err-reader-clause-fits
-returns-in_err-reader-clause-fits g c =
-    let is = raised c.from_residual-in_err-reader.result Memory c.from_residual-in_err-reader.ensures.1 in
-    λ content has. rw is (memory_fits content)
+returns-in_err-reader-clause-fits g c = λ content has. rw (raised c.from_residual-in_err-reader.result Memory c.from_residual-in_err-reader.ensures.1) (memory_fits content)
 
 pub returns-in_err-world-clause-run : goal.returns-in_err-world-clause-run
 returns-in_err-world-clause-run g c =
-    let is = raised c.from_residual-in_err-world.result Memory c.from_residual-in_err-world.ensures.1 in
-    read_all (λ builds sources. run_before c.args.name.now c.args.budget _ _ _ _ _ _ _ _ _ _ c.in_ok-content.ensures.cause.only c.in_ok-content.ensures.kept (ap status_of is)
-    (memory_run c.args.name.now c.in_ok-content.content.items c.args.budget _ _ _ _ _ _ _ _ c.in_ok-content.ensures.found))
+    read_all (λ builds sources. short_run c.args.name.now c.in_ok-content.content.items c.args.budget _ _ _ _ _ _ _ _ _ _ c.from_residual-in_err-world.result c.in_ok-content.ensures.cause.only c.in_ok-content.ensures.kept c.in_ok-content.ensures.found c.from_residual-in_err-world.ensures.1)
 
 pub returns-in_err-world-clause-fits : goal.returns-in_err-world-clause-fits
-returns-in_err-world-clause-fits g c =
-    let is = raised c.from_residual-in_err-world.result Memory c.from_residual-in_err-world.ensures.1 in
-    λ content has. rw is (memory_fits content)
+returns-in_err-world-clause-fits g c = λ content has. rw (raised c.from_residual-in_err-world.result Memory c.from_residual-in_err-world.ensures.1) (memory_fits content)
 
 pub returns-in_err-close-clause-run : goal.returns-in_err-close-clause-run
 returns-in_err-close-clause-run g c =
