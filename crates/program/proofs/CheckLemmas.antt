@@ -1,5 +1,5 @@
 -- How the checking of a file ends.
-use Rattle.std.proofs.Common.{Result, Ok, Err, OnOk, OnErr, IfErr, ◌≡◌, ◌⊎◌, inl, inr, ℕ, List, ◌++◌, Option, Some, None, IfSome, true, refl, sym, ap, subst, ◌∙◌, arith}
+use Rattle.std.proofs.Common.{Result, Ok, Err, OnOk, OnErr, IfErr, ◌≡◌, ◌≢◌, ◌<◌, ◌⊎◌, inl, inr, ℕ, List, ◌++◌, Option, Some, None, IfSome, true, refl, sym, ap, subst, ◌∙◌, arith}
 use Rattle.std.specs.Option.{option_map}
 use Rattle.std.specs.Prelude.{is_err, IsErrOf}
 use Rattle.std.specs.Bool.{OnTrue, OnFalse}
@@ -8,11 +8,11 @@ use Rattle.std.specs.declared.alloc.Global.{Global}
 use Rattle.code_core.specs.Prototype.{Prototype}
 use Rattle.io_edge.specs.declared.fault.FileFault.{FileFault}
 use Rattle.io_edge.specs.declared.fault.FileFault.TheVariants.{Failed, Absent, Memory}
-use Rattle.io_edge.specs.Causes.{HasCause, is_failed}
+use Rattle.io_edge.specs.Causes.{HasCause, Rose, is_failed}
 use Rattle.io_edge.specs.Content.{FileMap, GrowsByFront, MayEndTelling}
 use Rattle.program.specs.declared.fault.Fault.{Fault}
 use Rattle.program.specs.declared.fault.Fault.TheVariants as fault
-use Rattle.program.specs.Devices.{Device, Holds}
+use Rattle.program.specs.Devices.{Device, Holds, Lacks}
 use Rattle.program.specs.Checking as check
 use Rattle.program.specs.Checking.{IsAccepted, HoldsNoChunk, Reports, report_of, IsCheck}
 use Rattle.program.specs.Faults.{done_status, fault_of_file}
@@ -31,37 +31,40 @@ counted content text code own is = record {
   only = λ text' (other, accepted, is'). is' ∙ ap report_of (sym (own.only other accepted)) ∙ sym is;
 }
 
+-- nothing is written: what is known whatever the cause is
+not_checked_by : (name : List ℕ) (f f' k : ℕ) (held held' : Option FileMap) (written : Option (List ℕ)) (status : ℕ)
+    → check.IsCause name (record { faults = f; faults' = f'; content = held; content' = held' }) (record { faults = k; faults' = k; content = written; content' = written }) status
+    → (Lacks held name → ¬ (Rose f f') → status ≡ 11)
+    → ((content : List ℕ) → Holds held name content → HoldsNoChunk content → ¬ (Rose f f') → status ≢ 9 → status ≡ 8)
+    → ((content text : List ℕ) → Holds held name content → Reports content text → ¬ (Rose f f') → status ≢ 9 → ⊥)
+    → (f < f' → status ≡ 6)
+    → MayEndTelling held held' → (status ≢ 6 → held' ≡ held)
+    → IsCheck name (record { faults = f; faults' = f'; content = held; content' = held' }) (record { faults = k; faults' = k; content = written; content' = written }) status
+not_checked_by name f f' k held held' written status cause absent refused done fault kept same = record {
+  cause = cause;
+  absent = absent;
+  refused = refused;
+  fault = λ grew. elim grew [ inl less ↦ fault less | inr less ↦ absurd (stays k written written less) ];
+  done = λ content text has writes calm calm' ample. absurd (done content text has writes calm ample);
+  front = λ content text has writes. grows_by_none text written;
+  grows = only_same written;
+  none_lacking = λ lacks. refl;
+  none_refused = λ content has refuses. refl;
+  files_kept = kept;
+  files_same = same;
+}
+
 pub refused_check : (name content : List ℕ) (f k : ℕ) (held : Option FileMap) (written : Option (List ℕ)) (status : ℕ) → status ≡ 8 → IfSome held (λ files. files name ≡ Some content) → HoldsNoChunk content → IsCheck name (record { faults = f; faults' = f; content = held; content' = held }) (record { faults = k; faults' = k; content = written; content' = written }) status
 refused_check name content f k held written status own found refuses =
-    record {
-      cause = rw own (check.no_chunk content found refuses (record { no_fault = refl; unwritten = refl }));
-      absent = λ lacks same. absurd (not_lacking name content held found lacks);
-      refused = λ content' has refuses' same ample. own;
-      fault = λ grew. absurd (elim grew [ inl less ↦ stays f held held less | inr less ↦ stays k written written less ]);
-      done = λ content' text has writes same same' ample. absurd (refuses writes.0 (subst (λ c. IsAccepted c writes.0) (same_content name content content' held found has) writes.1));
-      front = λ content' text has writes. grows_by_none text written;
-      grows = only_same written;
-      none_lacking = λ lacks. refl;
-      none_refused = λ content' has refuses. refl;
-      files_kept = keeps_telling held;
-      files_same = λ other. refl;
-    }
+    not_checked_by name f f k held held written status (rw own (check.no_chunk content found refuses (record { no_fault = refl; unwritten = refl })))
+    (λ lacks calm. absurd (not_lacking name content held found lacks)) (λ content' has refuses' calm ample. own)
+    (λ content' text has writes calm ample. refuses writes.0 (subst (λ c. IsAccepted c writes.0) (same_content name content content' held found has) writes.1)) (λ less. absurd (omega (arith, less))) (keeps_telling held) (λ other. refl)
 
 pub memory_check : (name content : List ℕ) (f k : ℕ) (held : Option FileMap) (written : Option (List ℕ)) → IfSome held (λ files. files name ≡ Some content) → IsCheck name (record { faults = f; faults' = f; content = held; content' = held }) (record { faults = k; faults' = k; content = written; content' = written }) 9
 memory_check name content f k held written found =
-    record {
-      cause = check.no_memory (record { no_fault = refl; unwritten = refl });
-      absent = λ lacks same. absurd (not_lacking name content held found lacks);
-      refused = λ content' has refuses same ample. absurd (ample refl);
-      fault = λ grew. absurd (elim grew [ inl less ↦ stays f held held less | inr less ↦ stays k written written less ]);
-      done = λ content' text has writes same same' ample. absurd (ample refl);
-      front = λ content' text has writes. grows_by_none text written;
-      grows = only_same written;
-      none_lacking = λ lacks. refl;
-      none_refused = λ content' has refuses. refl;
-      files_kept = keeps_telling held;
-      files_same = λ other. refl;
-    }
+    not_checked_by name f f k held held written 9 (check.no_memory (record { no_fault = refl; unwritten = refl }))
+    (λ lacks calm. absurd (not_lacking name content held found lacks)) (λ content' has refuses calm ample. absurd (ample refl))
+    (λ content' text has writes calm ample. ample refl) (λ less. absurd (omega (arith, less))) (keeps_telling held) (λ other. refl)
 
 failed_check : (name content text : List ℕ) (f k k' : ℕ) (held : Option FileMap) (written written' : Option (List ℕ)) → IfSome held (λ files. files name ≡ Some content) → IsCounts content text → HasCause k k' true → GrowsByFront text written written' → IsCheck name (record { faults = f; faults' = f; content = held; content' = held }) (record { faults = k; faults' = k'; content = written; content' = written' }) 6
 failed_check name content text f k k' held written written' found own cause front =
@@ -110,48 +113,18 @@ stopped_check name content f k held written reason found (inr memory) = rw memor
 -- the file is not read
 pub unread_check : (name : List ℕ) (f f' k : ℕ) (held held' : Option FileMap) (written : Option (List ℕ)) (reason : FileFault) → HasCause f f' (is_failed {T = Vec ℕ Global} (Err reason)) → (IsErrOf {T = Vec ℕ Global} (Err reason) Absent → IfSome held (λ files. files name ≡ None)) → IfSome held (λ files. files name ≡ None → IsErrOf {T = Vec ℕ Global} (Err reason) Absent ⊎ IsErrOf {T = Vec ℕ Global} (Err reason) Failed) → OnFalse (is_failed {T = Vec ℕ Global} (Err reason)) (held' ≡ held) → OnTrue (is_failed {T = Vec ℕ Global} (Err reason)) (MayEndTelling held held') → IsCheck name (record { faults = f; faults' = f'; content = held; content' = held' }) (record { faults = k; faults' = k; content = written; content' = written }) (status_of_fault (fault_of_file reason))
 unread_check name f f' k held held' written Failed cause absent lacking kept failed =
-    record {
-      cause = check.unread cause.rose (record { no_fault = refl; unwritten = refl });
-      absent = λ lacks same. absurd (same cause.rose);
-      refused = λ content has refuses same ample. absurd (same cause.rose);
-      fault = λ grew. refl;
-      done = λ content text has writes same same' ample. absurd (same cause.rose);
-      front = λ content text has writes. grows_by_none text written;
-      grows = only_same written;
-      none_lacking = λ lacks. refl;
-      none_refused = λ content' has refuses. refl;
-      files_kept = failed;
-      files_same = λ other. absurd (other refl);
-    }
+    not_checked_by name f f' k held held' written 6 (check.unread cause.rose (record { no_fault = refl; unwritten = refl }))
+    (λ lacks calm. absurd (calm cause.rose)) (λ content has refuses calm ample. absurd (calm cause.rose))
+    (λ content text has writes calm ample. calm cause.rose) (λ less. refl) failed (λ other. absurd (other refl))
 unread_check name f f' k held held' written Absent cause absent lacking kept failed =
     let none = absent refl in
-    record {
-      cause = check.absent none (record { no_fault = refl; unwritten = refl });
-      absent = λ lacks same. refl;
-      refused = λ content has refuses same ample. absurd (no_content name content held none has);
-      fault = λ grew. absurd (elim grew [ inl less ↦ omega (arith, cause.only) | inr less ↦ stays k written written less ]);
-      done = λ content text has writes same same' ample. absurd (no_content name content held none has);
-      front = λ content text has writes. grows_by_none text written;
-      grows = only_same written;
-      none_lacking = λ lacks. refl;
-      none_refused = λ content' has refuses. refl;
-      files_kept = rw kept (keeps_telling held);
-      files_same = λ other. kept;
-    }
+    not_checked_by name f f' k held held' written 11 (check.absent none (record { no_fault = refl; unwritten = refl }))
+    (λ lacks calm. refl) (λ content has refuses calm ample. absurd (no_content name content held none has))
+    (λ content text has writes calm ample. no_content name content held none has) (λ less. absurd (omega (arith, cause.only, less))) (rw kept (keeps_telling held)) (λ other. kept)
 unread_check name f f' k held held' written Memory cause absent lacking kept failed =
-    record {
-      cause = check.no_memory (record { no_fault = refl; unwritten = refl });
-      absent = λ lacks same. absurd (elim (told_lacking name held lacking lacks) [ inl bad ↦ cc | inr bad ↦ cc ]);
-      refused = λ content has refuses same ample. absurd (ample refl);
-      fault = λ grew. absurd (elim grew [ inl less ↦ omega (arith, cause.only) | inr less ↦ stays k written written less ]);
-      done = λ content text has writes same same' ample. absurd (ample refl);
-      front = λ content text has writes. grows_by_none text written;
-      grows = only_same written;
-      none_lacking = λ lacks. refl;
-      none_refused = λ content' has refuses. refl;
-      files_kept = rw kept (keeps_telling held);
-      files_same = λ other. kept;
-    }
+    not_checked_by name f f' k held held' written 9 (check.no_memory (record { no_fault = refl; unwritten = refl }))
+    (λ lacks calm. absurd (elim (told_lacking name held lacking lacks) [ inl bad ↦ cc | inr bad ↦ cc ])) (λ content has refuses calm ample. absurd (ample refl))
+    (λ content text has writes calm ample. ample refl) (λ less. absurd (omega (arith, cause.only, less))) (rw kept (keeps_telling held)) (λ other. kept)
 
 -- the files stay as they are
 pub with_files_kept : (name : List ℕ) (f f' : ℕ) (held held' : Option FileMap) (out : Device (List ℕ)) (status status' : ℕ) → f' ≡ f → held' ≡ held → status ≡ status' → IsCheck name (record { faults = f; faults' = f; content = held; content' = held }) out status' → IsCheck name (record { faults = f; faults' = f'; content = held; content' = held' }) out status
