@@ -74,44 +74,18 @@ meaning_run {builds = builds} sources law alike name content lines budget prelud
 
 pub ends_with : (close : Close) (o : Outcome Body State) → EndsAs close o → EndsWith o (status_of_close close)
 ends_with has_returned meaning.has_returned e = refl
-ends_with has_returned meaning.has_failed e = absurd e
-ends_with has_returned meaning.has_spent e = absurd e
-ends_with has_returned (meaning.is_suspended W) e = absurd e
-ends_with has_returned meaning.is_broken e = absurd e
-ends_with has_failed meaning.has_returned e = absurd e
 ends_with has_failed meaning.has_failed e = refl
-ends_with has_failed meaning.has_spent e = absurd e
-ends_with has_failed (meaning.is_suspended W) e = absurd e
-ends_with has_failed meaning.is_broken e = absurd e
-ends_with has_spent meaning.has_returned e = absurd e
-ends_with has_spent meaning.has_failed e = absurd e
 ends_with has_spent meaning.has_spent e = refl
-ends_with has_spent (meaning.is_suspended W) e = absurd e
-ends_with has_spent meaning.is_broken e = absurd e
-ends_with is_suspended meaning.has_returned e = absurd e
-ends_with is_suspended meaning.has_failed e = absurd e
-ends_with is_suspended meaning.has_spent e = absurd e
 ends_with is_suspended (meaning.is_suspended W) e = refl
-ends_with is_suspended meaning.is_broken e = absurd e
+ends_with _ _ e = absurd e
 
 -- a script that waits for a line runs as one that does
 pub waits_too : (close : Close) (o : Outcome Body State) → EndsAs close o → IsWaiting o → close ≡ is_suspended
+waits_too is_suspended o e w = refl
 waits_too has_returned (meaning.is_suspended W) e w = absurd e
 waits_too has_failed (meaning.is_suspended W) e w = absurd e
 waits_too has_spent (meaning.is_suspended W) e w = absurd e
-waits_too is_suspended o e w = refl
-waits_too has_returned meaning.has_returned e w = absurd w
-waits_too has_returned meaning.has_failed e w = absurd w
-waits_too has_returned meaning.has_spent e w = absurd w
-waits_too has_returned meaning.is_broken e w = absurd w
-waits_too has_failed meaning.has_returned e w = absurd w
-waits_too has_failed meaning.has_failed e w = absurd w
-waits_too has_failed meaning.has_spent e w = absurd w
-waits_too has_failed meaning.is_broken e w = absurd w
-waits_too has_spent meaning.has_returned e w = absurd w
-waits_too has_spent meaning.has_failed e w = absurd w
-waits_too has_spent meaning.has_spent e w = absurd w
-waits_too has_spent meaning.is_broken e w = absurd w
+waits_too _ _ e w = absurd w
 
 -- and the other way around
 pub waiting : (o : Outcome Body State) → EndsAs is_suspended o → IsWaiting o
