@@ -43,28 +43,19 @@ take_roots-requires c =
       there = subst (AreThere c.unpersist.new.world) (sym same) (roots_there c.args.prelude W o c.requires (permanents c.in_ok-permanents.permanents) c.in_ok-permanents.ensures c.sessions_are_sound.ensures.opening c.sessions_are_sound.ensures.idle c.rules_hold.ensures c.unpersist.new.world c.args.image.now c.in-Ok.values.items c.in-Ok.ensures.loaded);
     }
 
-pub returns-then-take_roots-clause-session : goal.returns-then-take_roots-clause-session
-returns-then-take_roots-clause-session c =
+pub returns-then-take_roots : goal.returns-then-take_roots
+returns-then-take_roots c =
     let W : Memory = c.in_ok-world.world in
     let o = opened c.args.prelude W c.in_ok-world.ensures.plain c.in_ok-world.ensures.codes c.in_ok-world.ensures.listed in
     let same : c.as_slice.result.now ≡ c.in-Ok.values.items = search rules in
     let takes : TakesRoots c.unpersist.new.world c.take_roots.new.world c.as_slice.result.now = search rules in
-    session c.args.prelude W o c.requires (permanents c.in_ok-permanents.permanents) c.in_ok-permanents.ensures c.sessions_are_sound.ensures.opening c.sessions_are_sound.ensures.idle c.rules_hold.ensures c.unpersist.new.world c.args.image.now c.in-Ok.values.items c.in-Ok.ensures.loaded c.take_roots.new.world
-    (subst (TakesRoots c.unpersist.new.world c.take_roots.new.world) same takes)
-
-pub returns-then-take_roots-clause-may : goal.returns-then-take_roots-clause-may
-returns-then-take_roots-clause-may c =
-    let W : Memory = c.in_ok-world.world in
-    let o = opened c.args.prelude W c.in_ok-world.ensures.plain c.in_ok-world.ensures.codes c.in_ok-world.ensures.listed in
-    let same : c.as_slice.result.now ≡ c.in-Ok.values.items = search rules in
-    let takes : TakesRoots c.unpersist.new.world c.take_roots.new.world c.as_slice.result.now = search rules in
-    goes_on c.args.prelude W o c.requires (permanents c.in_ok-permanents.permanents) c.in_ok-permanents.ensures c.sessions_are_sound.ensures.opening c.sessions_are_sound.ensures.idle c.rules_hold.ensures c.unpersist.new.world c.args.image.now c.in-Ok.values.items c.in-Ok.ensures.loaded c.take_roots.new.world
-    (subst (TakesRoots c.unpersist.new.world c.take_roots.new.world) same takes)
-
-pub returns-then-take_roots-clause-yielded : goal.returns-then-take_roots-clause-yielded
-returns-then-take_roots-clause-yielded c =
-    let takes : TakesRoots c.unpersist.new.world c.take_roots.new.world c.as_slice.result.now = search rules in
-    takes.waits
+    let its : TakesRoots c.unpersist.new.world c.take_roots.new.world c.in-Ok.values.items = subst (TakesRoots c.unpersist.new.world c.take_roots.new.world) same takes in
+    record {
+      session = session c.args.prelude W o c.requires (permanents c.in_ok-permanents.permanents) c.in_ok-permanents.ensures c.sessions_are_sound.ensures.opening c.sessions_are_sound.ensures.idle c.rules_hold.ensures c.unpersist.new.world c.args.image.now c.in-Ok.values.items c.in-Ok.ensures.loaded c.take_roots.new.world its;
+      may = goes_on c.args.prelude W o c.requires (permanents c.in_ok-permanents.permanents) c.in_ok-permanents.ensures c.sessions_are_sound.ensures.opening c.sessions_are_sound.ensures.idle c.rules_hold.ensures c.unpersist.new.world c.args.image.now c.in-Ok.values.items c.in-Ok.ensures.loaded c.take_roots.new.world its;
+      yielded = takes.waits;
+      refused = tt;
+    }
 
 pub returns-in-Ok-clause-refused : goal.returns-in-Ok-clause-refused
 returns-in-Ok-clause-refused c =
