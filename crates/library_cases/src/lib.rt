@@ -3,12 +3,4 @@
 #![tactic(auto)]
 
 #[cfg(test)]
-mod answers;
-#[cfg(test)]
-mod arguments;
-#[cfg(test)]
-mod base;
-#[cfg(test)]
-mod strings;
-#[cfg(test)]
-mod utf8;
+mod cases;

@@ -3,12 +3,4 @@
 #![tactic(auto)]
 
 #[cfg(test)]
-mod characters;
-#[cfg(test)]
-mod formats;
-#[cfg(test)]
-mod integers;
-#[cfg(test)]
-mod matches;
-#[cfg(test)]
-mod texts;
+mod cases;

@@ -1,5 +1,5 @@
 // Expected values are lua5.4's.
-use crate::answers::{error_of, integers, string};
+use crate::cases::answers::{error_of, integers, string};
 use lib_utf8::{char, codepoint, codes, len, offset, walk_on};
 use library_arguments::{Results, Shape};
 use std::test::Fail;

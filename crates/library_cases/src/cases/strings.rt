@@ -1,5 +1,5 @@
 // Expected values are lua5.4's.
-use crate::answers::{error_of, integers, string};
+use crate::cases::answers::{error_of, integers, string};
 use lib_string::{
     byte, char, expand, find, kinds, layout, len, match_pattern, rep, seek, sub, tonumber,
 };

@@ -1,0 +1,6 @@
+// Cases, by what they are of.
+mod characters;
+mod formats;
+mod integers;
+mod matches;
+mod texts;
