@@ -64,140 +64,111 @@ pub(crate) fn run_cases(rt: &impl Abort, alloc: Global, cases: &[Case]) -> Resul
     Ok(())
 }
 
+/// Runs scripts without options and input, each of which returns and prints this.
+pub(crate) fn run_printing(
+    rt: &impl Abort,
+    alloc: Global,
+    scripts: &[(&'static str, &'static str)],
+) -> Result<(), Fail> {
+    for (script, out) in scripts.iter() {
+        run_case(rt, alloc, &budgeted("", *script, Some(*out)))?;
+    }
+    Ok(())
+}
+
+/// The case of a script that returns and prints this, or spends its budget before it prints.
+fn budgeted(options: &'static str, script: &'static str, out: Option<&'static str>) -> Case {
+    let (status, out, err) = match out {
+        Some(out) => (0, out, ""),
+        None => (4, "", "luaris: budget spent\n"),
+    };
+    Case {
+        options,
+        script,
+        input: "",
+        status,
+        out,
+        err,
+    }
+}
+
 /// Expressions and statements.
-static SIMPLE: [Case; 7] = [
-    Case {
-        options: "",
-        script: "",
-        input: "",
-        status: 0,
-        out: "return\n",
-        err: "",
-    },
-    Case {
-        options: "",
-        script: "-- nothing\n",
-        input: "",
-        status: 0,
-        out: "return\n",
-        err: "",
-    },
-    Case {
-        options: "",
-        script: "print(7//-2, 7%-2, -7//2)",
-        input: "",
-        status: 0,
-        out: "-4\t-1\t-4\nreturn\n",
-        err: "",
-    },
-    Case {
-        options: "",
-        script: "print(9223372036854775807+1)",
-        input: "",
-        status: 0,
-        out: "-9223372036854775808\nreturn\n",
-        err: "",
-    },
-    Case {
-        options: "",
-        script: "local s=0 for i=1,4 do if i%2==0 then s=s+i end end return s",
-        input: "",
-        status: 0,
-        out: "return\t6\n",
-        err: "",
-    },
-    Case {
-        options: "",
-        script: "print(\"10\"+5,3 ..\"x\",#\"abc\",({4,5,6})[2])",
-        input: "",
-        status: 0,
-        out: "15\t3x\t3\t5\nreturn\n",
-        err: "",
-    },
-    Case {
-        options: "",
-        script: "local x = 6 local y = x * 7 print(y - x)",
-        input: "",
-        status: 0,
-        out: "36\nreturn\n",
-        err: "",
-    },
+static SIMPLE: [(&str, &str); 7] = [
+    ("", "return\n"),
+    ("-- nothing\n", "return\n"),
+    ("print(7//-2, 7%-2, -7//2)", "-4\t-1\t-4\nreturn\n"),
+    (
+        "print(9223372036854775807+1)",
+        "-9223372036854775808\nreturn\n",
+    ),
+    (
+        "local s=0 for i=1,4 do if i%2==0 then s=s+i end end return s",
+        "return\t6\n",
+    ),
+    (
+        "print(\"10\"+5,3 ..\"x\",#\"abc\",({4,5,6})[2])",
+        "15\t3x\t3\t5\nreturn\n",
+    ),
+    ("local x = 6 local y = x * 7 print(y - x)", "36\nreturn\n"),
 ];
 
 /// Calls and jumps back that a budget allows, and one more.
-static BUDGETS: [Case; 17] = [
-    Case {
-        options: "--budget 3",
-        script: "while true do end",
-        input: "",
-        status: 4,
-        out: "",
-        err: "luaris: budget spent\n",
-    },
-    Case {
-        options: "--budget 3",
-        script: "for i=1,4 do end",
-        input: "",
-        status: 0,
-        out: "return\n",
-        err: "",
-    },
-    Case {
-        options: "--budget=3",
-        script: "for i=1,5 do end",
-        input: "",
-        status: 4,
-        out: "",
-        err: "luaris: budget spent\n",
-    },
-    Case {
-        options: "--budget 5",
-        script: "for k in pairs({a=1}) do end",
-        input: "",
-        status: 0,
-        out: "return\n",
-        err: "",
-    },
-    Case {
-        options: "--budget 4",
-        script: "for k in pairs({a=1}) do end",
-        input: "",
-        status: 4,
-        out: "",
-        err: "luaris: budget spent\n",
-    },
-    Case {
-        options: "--budget 2",
-        script: "local function f() end f() f()",
-        input: "",
-        status: 0,
-        out: "return\n",
-        err: "",
-    },
-    Case {
-        options: "--budget 1",
-        script: "local function f() end f() f()",
-        input: "",
-        status: 4,
-        out: "",
-        err: "luaris: budget spent\n",
-    },
-    Case {
-        options: "--budget 2",
-        script: "local n=0 ::top:: n=n+1 if n<3 then goto top end return n",
-        input: "",
-        status: 0,
-        out: "return\t3\n",
-        err: "",
-    },
-    Case {
-        options: "--budget 1",
-        script: "local n=0 ::top:: n=n+1 if n<3 then goto top end return n",
-        input: "",
-        status: 4,
-        out: "",
-        err: "luaris: budget spent\n",
-    },
+static BUDGETS: [(&str, &str, Option<&str>); 15] = [
+    ("--budget 3", "while true do end", None),
+    ("--budget 3", "for i=1,4 do end", Some("return\n")),
+    ("--budget=3", "for i=1,5 do end", None),
+    (
+        "--budget 5",
+        "for k in pairs({a=1}) do end",
+        Some("return\n"),
+    ),
+    ("--budget 4", "for k in pairs({a=1}) do end", None),
+    (
+        "--budget 2",
+        "local function f() end f() f()",
+        Some("return\n"),
+    ),
+    ("--budget 1", "local function f() end f() f()", None),
+    (
+        "--budget 2",
+        "local n=0 ::top:: n=n+1 if n<3 then goto top end return n",
+        Some("return\t3\n"),
+    ),
+    (
+        "--budget 1",
+        "local n=0 ::top:: n=n+1 if n<3 then goto top end return n",
+        None,
+    ),
+    (
+        "--budget 5",
+        "local function it(s,c) if c<s then return c+1 end end for i in it,2,0 do end",
+        Some("return\n"),
+    ),
+    (
+        "--budget 4",
+        "local function it(s,c) if c<s then return c+1 end end for i in it,2,0 do end",
+        None,
+    ),
+    (
+        "--budget 2",
+        "local function f(...) local a=... return a end f(1) f()",
+        Some("return\n"),
+    ),
+    (
+        "--budget 1",
+        "local function f(...) local a=... return a end f(1) f()",
+        None,
+    ),
+    (
+        "--budget 2",
+        "for i=1,3 do local t={i} end",
+        Some("return\n"),
+    ),
+    ("--budget 1", "for i=1,3 do local t={i} end", None),
+];
+
+/// Turns, each of which has the whole budget.
+static TURNS: [Case; 2] = [
     Case {
         options: "--budget 4",
         script: "while true do coroutine.yield() for i=1,3 do end end",
@@ -212,54 +183,6 @@ static BUDGETS: [Case; 17] = [
         input: "a\nb\n",
         status: 4,
         out: "yield\n",
-        err: "luaris: budget spent\n",
-    },
-    Case {
-        options: "--budget 5",
-        script: "local function it(s,c) if c<s then return c+1 end end for i in it,2,0 do end",
-        input: "",
-        status: 0,
-        out: "return\n",
-        err: "",
-    },
-    Case {
-        options: "--budget 4",
-        script: "local function it(s,c) if c<s then return c+1 end end for i in it,2,0 do end",
-        input: "",
-        status: 4,
-        out: "",
-        err: "luaris: budget spent\n",
-    },
-    Case {
-        options: "--budget 2",
-        script: "local function f(...) local a=... return a end f(1) f()",
-        input: "",
-        status: 0,
-        out: "return\n",
-        err: "",
-    },
-    Case {
-        options: "--budget 1",
-        script: "local function f(...) local a=... return a end f(1) f()",
-        input: "",
-        status: 4,
-        out: "",
-        err: "luaris: budget spent\n",
-    },
-    Case {
-        options: "--budget 2",
-        script: "for i=1,3 do local t={i} end",
-        input: "",
-        status: 0,
-        out: "return\n",
-        err: "",
-    },
-    Case {
-        options: "--budget 1",
-        script: "for i=1,3 do local t={i} end",
-        input: "",
-        status: 4,
-        out: "",
         err: "luaris: budget spent\n",
     },
 ];
@@ -293,231 +216,120 @@ static REFUSALS: [Case; 3] = [
 ];
 
 /// Functions, their variables, arguments and results.
-static FUNCTIONS: [Case; 12] = [
-    Case {
-        options: "",
-        script: "local f={} for i=1,3 do if i==2 then goto continue end f[#f+1]=function() i=i+1 return i end ::continue:: end print(f[1](),f[1](),f[2]())",
-        input: "",
-        status: 0,
-        out: "2\t3\t4\nreturn\n",
-        err: "",
-    },
-    Case {
-        options: "",
-        script: "local function fact(n) if n<2 then return 1 end return n*fact(n-1) end print(fact(20))",
-        input: "",
-        status: 0,
-        out: "2432902008176640000\nreturn\n",
-        err: "",
-    },
-    Case {
-        options: "",
-        script: "local function two(...) return ... end print((two(1,2)),two(3,4))",
-        input: "",
-        status: 0,
-        out: "1\t3\t4\nreturn\n",
-        err: "",
-    },
-    Case {
-        options: "",
-        script: "local function mk() local n=0 return function() n=n+1 return n end,function() return n end end local a,b=mk() a() a() print(b())",
-        input: "",
-        status: 0,
-        out: "2\nreturn\n",
-        err: "",
-    },
-    Case {
-        options: "",
-        script: "local a=1 local function f() a=10 return 1 end print(a+f())",
-        input: "",
-        status: 0,
-        out: "2\nreturn\n",
-        err: "",
-    },
-    Case {
-        options: "",
-        script: "local function it(s,c) if c<s then return c+1 end end for i in it,3,0 do print(i) end",
-        input: "",
-        status: 0,
-        out: "1\n2\n3\nreturn\n",
-        err: "",
-    },
-    Case {
-        options: "",
-        script: "local function one(...) local a=... return a end local function two(...) local a,b=... return a,b end local function three(x,...) local a,b,c=... return x,a,b,c end print(one(),one(1,2),two(),two(1),(two(1,2))) print(two(1,2,3)) print(three(0,1,2),three(0,1,2,3,4))",
-        input: "",
-        status: 0,
-        out: "nil\t1\tnil\t1\t1\n1\t2\n0\t0\t1\t2\t3\nreturn\n",
-        err: "",
-    },
-    Case {
-        options: "",
-        script: "local function it(s,c) c=c+1 if c<=s then return c,c*c,c+s end end for i,q in it,2,0 do print(i,q) end for i,q,r in it,1,0 do print(i,q,r) end local n=0 for i in function(...) n=n+1 if n<3 then return select('#',...) end end do print(i) end",
-        input: "",
-        status: 0,
-        out: "1\t1\n2\t4\n1\t1\t2\n2\n2\nreturn\n",
-        err: "",
-    },
-    Case {
-        options: "",
-        script: "local f={} local function it(s,c) if c<s then return c+1 end end for i in it,3,0 do f[i]=function() i=i+1 return i end end print(f[1](),f[1](),f[3]()) print(pcall(function() for i in function() error(\"stop\",0) end do end end)) local function y(s,c) return coroutine.yield(c) end local co=coroutine.wrap(function() for i in y,nil,0 do print(i) end return \"end\" end) print(co(),co(5),co())",
-        input: "",
-        status: 0,
-        out: "2\t3\t4\nfalse\tstop\n5\n0\t5\tend\nreturn\n",
-        err: "",
-    },
-    Case {
-        options: "",
-        script: "local function it(s,c) if c<s then return c+1 end end for i in it,3,0,setmetatable({},{__close=function() print(\"closed\") end}) do if i==2 then break end print(i) end for i in setmetatable({},{__call=function(o,s,c) if c<2 then return c+1 end end}),nil,0 do print(i) end print(pcall(function() for i in 5 do end end))",
-        input: "",
-        status: 0,
-        out: "1\nclosed\n1\n2\nfalse\ts.lua:1: attempt to call a number value\nreturn\n",
-        err: "",
-    },
-    Case {
-        options: "",
-        script: "local a,b,c,d=1,2,3,4 local function sum(n) local s=0 for i=1,n do s=s+a+b+c+d+a end return s end print(sum(3)) local function bump() a=a+1 end local function both(n) local s=0 for i=1,n do s=s+a+b if i%2==0 then bump() end s=s+a end return s end print(both(4)) a=10 print(sum(2),both(1)) local n=0 local function count(k) for i=1,k do n=n+i if n>5 then n=n-1 end end return n end print(count(4),n)",
-        input: "",
-        status: 0,
-        out: "33\n22\n58\t22\n8\t8\nreturn\n",
-        err: "",
-    },
-    Case {
-        options: "",
-        script: "local x,y=1,2 local co=coroutine.wrap(function() local z=3 local function own() local s=0 for i=1,3 do s=s+x+y+z end return s end for i=1,3 do x=x+i coroutine.yield(x,own()) z=z+1 end end) print(co()) y=20 print(co()) x=100 print(co()) local t={} for i=1,4 do local j=i*2 if i%2==0 then t[#t+1]=function() j=j+1 return j end end end print(t[1](),t[1](),t[2]()) local function deep(n) local s=0 for i=1,n do s=s+x+y if i==2 and n>2 then s=s+deep(n-1) x=x-1 end end return s end print(deep(4),x)",
-        input: "",
-        status: 0,
-        out: "2\t21\n4\t84\n103\t384\n5\t6\t9\n1102\t101\nreturn\n",
-        err: "",
-    },
+static FUNCTIONS: [(&str, &str); 12] = [
+    (
+        "local f={} for i=1,3 do if i==2 then goto continue end f[#f+1]=function() i=i+1 return i end ::continue:: end print(f[1](),f[1](),f[2]())",
+        "2\t3\t4\nreturn\n",
+    ),
+    (
+        "local function fact(n) if n<2 then return 1 end return n*fact(n-1) end print(fact(20))",
+        "2432902008176640000\nreturn\n",
+    ),
+    (
+        "local function two(...) return ... end print((two(1,2)),two(3,4))",
+        "1\t3\t4\nreturn\n",
+    ),
+    (
+        "local function mk() local n=0 return function() n=n+1 return n end,function() return n end end local a,b=mk() a() a() print(b())",
+        "2\nreturn\n",
+    ),
+    (
+        "local a=1 local function f() a=10 return 1 end print(a+f())",
+        "2\nreturn\n",
+    ),
+    (
+        "local function it(s,c) if c<s then return c+1 end end for i in it,3,0 do print(i) end",
+        "1\n2\n3\nreturn\n",
+    ),
+    (
+        "local function one(...) local a=... return a end local function two(...) local a,b=... return a,b end local function three(x,...) local a,b,c=... return x,a,b,c end print(one(),one(1,2),two(),two(1),(two(1,2))) print(two(1,2,3)) print(three(0,1,2),three(0,1,2,3,4))",
+        "nil\t1\tnil\t1\t1\n1\t2\n0\t0\t1\t2\t3\nreturn\n",
+    ),
+    (
+        "local function it(s,c) c=c+1 if c<=s then return c,c*c,c+s end end for i,q in it,2,0 do print(i,q) end for i,q,r in it,1,0 do print(i,q,r) end local n=0 for i in function(...) n=n+1 if n<3 then return select('#',...) end end do print(i) end",
+        "1\t1\n2\t4\n1\t1\t2\n2\n2\nreturn\n",
+    ),
+    (
+        "local f={} local function it(s,c) if c<s then return c+1 end end for i in it,3,0 do f[i]=function() i=i+1 return i end end print(f[1](),f[1](),f[3]()) print(pcall(function() for i in function() error(\"stop\",0) end do end end)) local function y(s,c) return coroutine.yield(c) end local co=coroutine.wrap(function() for i in y,nil,0 do print(i) end return \"end\" end) print(co(),co(5),co())",
+        "2\t3\t4\nfalse\tstop\n5\n0\t5\tend\nreturn\n",
+    ),
+    (
+        "local function it(s,c) if c<s then return c+1 end end for i in it,3,0,setmetatable({},{__close=function() print(\"closed\") end}) do if i==2 then break end print(i) end for i in setmetatable({},{__call=function(o,s,c) if c<2 then return c+1 end end}),nil,0 do print(i) end print(pcall(function() for i in 5 do end end))",
+        "1\nclosed\n1\n2\nfalse\ts.lua:1: attempt to call a number value\nreturn\n",
+    ),
+    (
+        "local a,b,c,d=1,2,3,4 local function sum(n) local s=0 for i=1,n do s=s+a+b+c+d+a end return s end print(sum(3)) local function bump() a=a+1 end local function both(n) local s=0 for i=1,n do s=s+a+b if i%2==0 then bump() end s=s+a end return s end print(both(4)) a=10 print(sum(2),both(1)) local n=0 local function count(k) for i=1,k do n=n+i if n>5 then n=n-1 end end return n end print(count(4),n)",
+        "33\n22\n58\t22\n8\t8\nreturn\n",
+    ),
+    (
+        "local x,y=1,2 local co=coroutine.wrap(function() local z=3 local function own() local s=0 for i=1,3 do s=s+x+y+z end return s end for i=1,3 do x=x+i coroutine.yield(x,own()) z=z+1 end end) print(co()) y=20 print(co()) x=100 print(co()) local t={} for i=1,4 do local j=i*2 if i%2==0 then t[#t+1]=function() j=j+1 return j end end end print(t[1](),t[1](),t[2]()) local function deep(n) local s=0 for i=1,n do s=s+x+y if i==2 and n>2 then s=s+deep(n-1) x=x-1 end end return s end print(deep(4),x)",
+        "2\t21\n4\t84\n103\t384\n5\t6\t9\n1102\t101\nreturn\n",
+    ),
 ];
 
 /// Tables and metatables.
-static TABLES: [Case; 12] = [
-    Case {
-        options: "",
-        script: "local t={1,2,nil,4} print(#t,next({}))",
-        input: "",
-        status: 0,
-        out: "2\tnil\nreturn\n",
-        err: "",
-    },
-    Case {
-        options: "",
-        script: "print(pcall(function() local a <close> = setmetatable({},{__close=function(v,e) print(\"a\",e) end}) local b <close> = setmetatable({},{__close=function() error(\"two\",0) end}) error(\"one\",0) end))",
-        input: "",
-        status: 0,
-        out: "a\ttwo\nfalse\ttwo\nreturn\n",
-        err: "",
-    },
-    Case {
-        options: "",
-        script: "local v=setmetatable({x=1},{__add=function(a,b) return a.x+b.x end,__index=function(t,k) return k..\"!\" end,__call=function(s,n) return n*2 end}) print(v+v,v.y,v(21))",
-        input: "",
-        status: 0,
-        out: "2\ty!\t42\nreturn\n",
-        err: "",
-    },
-    Case {
-        options: "",
-        script: "local A={f=1} A.__index=A local B=setmetatable({g=2},A) B.__index=B local o=setmetatable({},B) print(o.f,o.g,o.h,o['f'],rawget(o,'f')) o.f=3 print(o.f,A.f) function A:m(n) return self.f+n end print(o:m(4))",
-        input: "",
-        status: 0,
-        out: "1\t2\tnil\t1\tnil\n3\t1\n7\nreturn\n",
-        err: "",
-    },
-    Case {
-        options: "",
-        script: "local log={} local o=setmetatable({},{__index=function(t,k) return end,__newindex=function(t,k,v) log[#log+1]=k..v return 1,2 end}) print(o.a,o[1]) o.b=2 o[3]=4 print(table.concat(log,',')) local s=0 local p=setmetatable({},{__index=function(_,k) return k*k end}) for i=1,5 do s=s+p[i] end print(s)",
-        input: "",
-        status: 0,
-        out: "nil\tnil\nb2,34\n55\nreturn\n",
-        err: "",
-    },
-    Case {
-        options: "",
-        script: "local P=setmetatable({},{__index=function(_,k) error(\"no \"..k,0) end}) print(pcall(function() return P.x end)) local co=coroutine.wrap(function(t) return t.k+1 end) local Q=setmetatable({},{__index=function(_,k) return coroutine.yield(k) end}) print(co(Q)) print(co(41)) local n=setmetatable({},{__unm=function() return 7 end,__add=function(a,b) return \"sum\",2 end}) print(-n,n+1,1+n)",
-        input: "",
-        status: 0,
-        out: "false\tno x\nk\n42\n7\tsum\tsum\nreturn\n",
-        err: "",
-    },
-    Case {
-        options: "",
-        script: "print(tostring(setmetatable({},{__name=\"room\"})),select(-1,1,2,3),tonumber(\"ff\",16))",
-        input: "",
-        status: 0,
-        out: "room: object\t3\t255\nreturn\n",
-        err: "",
-    },
-    Case {
-        options: "",
-        script: "local t={3,1,2} table.sort(t) print(table.concat(t,\",\"),math.abs(-4),math.tointeger(\"x\"))",
-        input: "",
-        status: 0,
-        out: "1,2,3\t4\tnil\nreturn\n",
-        err: "",
-    },
-    Case {
-        options: "",
-        script: "local a=1 local m=setmetatable({},{__add=function() a=10 return 1 end}) print(a+(m+1))",
-        input: "",
-        status: 0,
-        out: "2\nreturn\n",
-        err: "",
-    },
-    Case {
-        options: "",
-        script: "local t={} for i=1,200000 do t[#t+1]=i end print(#t,t[200000])",
-        input: "",
-        status: 0,
-        out: "200000\t200000\nreturn\n",
-        err: "",
-    },
-    Case {
-        options: "",
-        script: "local t={1,2,3} t[2]=nil print(#t) t[2]=5 print(#t) for k in next,t do print(k) end",
-        input: "",
-        status: 0,
-        out: "1\n3\n1\n2\n3\nreturn\n",
-        err: "",
-    },
-    Case {
-        options: "",
-        script: "print(1 ..2 ..3,\"a\"..-1 ..\"b\"..\"\"..0) local m=setmetatable({},{__concat=function(a,b) local s=type(a)==\"table\" and \"T\" or a local t=type(b)==\"table\" and \"T\" or b return \"(\"..s..t..\")\" end}) print(\"a\"..1 ..m..\"b\"..\"c\",m..\"x\"..\"y\",\"x\"..\"y\"..m) print(pcall(function() return \"a\"..\"b\"..nil..\"c\"..\"d\" end))",
-        input: "",
-        status: 0,
-        out: "123\ta-1b0\na1(Tbc)\t(Txy)\tx(yT)\nfalse\ts.lua:1: attempt to concatenate a nil value\nreturn\n",
-        err: "",
-    },
+static TABLES: [(&str, &str); 12] = [
+    ("local t={1,2,nil,4} print(#t,next({}))", "2\tnil\nreturn\n"),
+    (
+        "print(pcall(function() local a <close> = setmetatable({},{__close=function(v,e) print(\"a\",e) end}) local b <close> = setmetatable({},{__close=function() error(\"two\",0) end}) error(\"one\",0) end))",
+        "a\ttwo\nfalse\ttwo\nreturn\n",
+    ),
+    (
+        "local v=setmetatable({x=1},{__add=function(a,b) return a.x+b.x end,__index=function(t,k) return k..\"!\" end,__call=function(s,n) return n*2 end}) print(v+v,v.y,v(21))",
+        "2\ty!\t42\nreturn\n",
+    ),
+    (
+        "local A={f=1} A.__index=A local B=setmetatable({g=2},A) B.__index=B local o=setmetatable({},B) print(o.f,o.g,o.h,o['f'],rawget(o,'f')) o.f=3 print(o.f,A.f) function A:m(n) return self.f+n end print(o:m(4))",
+        "1\t2\tnil\t1\tnil\n3\t1\n7\nreturn\n",
+    ),
+    (
+        "local log={} local o=setmetatable({},{__index=function(t,k) return end,__newindex=function(t,k,v) log[#log+1]=k..v return 1,2 end}) print(o.a,o[1]) o.b=2 o[3]=4 print(table.concat(log,',')) local s=0 local p=setmetatable({},{__index=function(_,k) return k*k end}) for i=1,5 do s=s+p[i] end print(s)",
+        "nil\tnil\nb2,34\n55\nreturn\n",
+    ),
+    (
+        "local P=setmetatable({},{__index=function(_,k) error(\"no \"..k,0) end}) print(pcall(function() return P.x end)) local co=coroutine.wrap(function(t) return t.k+1 end) local Q=setmetatable({},{__index=function(_,k) return coroutine.yield(k) end}) print(co(Q)) print(co(41)) local n=setmetatable({},{__unm=function() return 7 end,__add=function(a,b) return \"sum\",2 end}) print(-n,n+1,1+n)",
+        "false\tno x\nk\n42\n7\tsum\tsum\nreturn\n",
+    ),
+    (
+        "print(tostring(setmetatable({},{__name=\"room\"})),select(-1,1,2,3),tonumber(\"ff\",16))",
+        "room: object\t3\t255\nreturn\n",
+    ),
+    (
+        "local t={3,1,2} table.sort(t) print(table.concat(t,\",\"),math.abs(-4),math.tointeger(\"x\"))",
+        "1,2,3\t4\tnil\nreturn\n",
+    ),
+    (
+        "local a=1 local m=setmetatable({},{__add=function() a=10 return 1 end}) print(a+(m+1))",
+        "2\nreturn\n",
+    ),
+    (
+        "local t={} for i=1,200000 do t[#t+1]=i end print(#t,t[200000])",
+        "200000\t200000\nreturn\n",
+    ),
+    (
+        "local t={1,2,3} t[2]=nil print(#t) t[2]=5 print(#t) for k in next,t do print(k) end",
+        "1\n3\n1\n2\n3\nreturn\n",
+    ),
+    (
+        "print(1 ..2 ..3,\"a\"..-1 ..\"b\"..\"\"..0) local m=setmetatable({},{__concat=function(a,b) local s=type(a)==\"table\" and \"T\" or a local t=type(b)==\"table\" and \"T\" or b return \"(\"..s..t..\")\" end}) print(\"a\"..1 ..m..\"b\"..\"c\",m..\"x\"..\"y\",\"x\"..\"y\"..m) print(pcall(function() return \"a\"..\"b\"..nil..\"c\"..\"d\" end))",
+        "123\ta-1b0\na1(Tbc)\t(Txy)\tx(yT)\nfalse\ts.lua:1: attempt to concatenate a nil value\nreturn\n",
+    ),
 ];
 
 /// Lists of constructors, and what the table library does with lists.
-static LISTS: [Case; 3] = [
-    Case {
-        options: "",
-        script: "local t={1} print(#t,t[1]) local u={n=1,2} print(#u,u[1],u.n) local function g(...) return {...} end print(#g(),#g(7),g(7)[1],#g(1,2,3)) local v={{{5}}} print(v[1][1][1]) local w={(g(1,2))} print(#w,#w[1]) local x={nil} print(#x,next(x))",
-        input: "",
-        status: 0,
-        out: "1\t1\n1\t2\t1\n0\t1\t7\t3\n5\n1\t2\n0\tnil\nreturn\n",
-        err: "",
-    },
-    Case {
-        options: "",
-        script: "local t={} for i=1,5 do table.insert(t,i*i) end table.insert(t,1,0) print(#t,t[1],t[6],table.remove(t),table.remove(t,1),#t) for i,v in ipairs(t) do print(i,v) end print(select('#',table.unpack({1,nil,3},1,3)),table.concat(t,'-'))",
-        input: "",
-        status: 0,
-        out: "6\t0\t25\t25\t0\t4\n1\t1\n2\t4\n3\t9\n4\t16\n3\t1-4-9-16\nreturn\n",
-        err: "",
-    },
-    Case {
-        options: "",
-        script: "local f={} for i=1,3 do local r={i} f[i]=function() r[1]=r[1]+1 return r end end print(f[1]()[1],f[1]()[1],f[3]()[1],f[1]()==f[1](),f[1]()==f[2]()) local t={} for i=1,4 do t[i]=i end t[3]=nil t[5]=5 print(t[5],t[3],rawlen({1,2,3}))",
-        input: "",
-        status: 0,
-        out: "2\t3\t4\ttrue\tfalse\n5\tnil\t3\nreturn\n",
-        err: "",
-    },
+static LISTS: [(&str, &str); 3] = [
+    (
+        "local t={1} print(#t,t[1]) local u={n=1,2} print(#u,u[1],u.n) local function g(...) return {...} end print(#g(),#g(7),g(7)[1],#g(1,2,3)) local v={{{5}}} print(v[1][1][1]) local w={(g(1,2))} print(#w,#w[1]) local x={nil} print(#x,next(x))",
+        "1\t1\n1\t2\t1\n0\t1\t7\t3\n5\n1\t2\n0\tnil\nreturn\n",
+    ),
+    (
+        "local t={} for i=1,5 do table.insert(t,i*i) end table.insert(t,1,0) print(#t,t[1],t[6],table.remove(t),table.remove(t,1),#t) for i,v in ipairs(t) do print(i,v) end print(select('#',table.unpack({1,nil,3},1,3)),table.concat(t,'-'))",
+        "6\t0\t25\t25\t0\t4\n1\t1\n2\t4\n3\t9\n4\t16\n3\t1-4-9-16\nreturn\n",
+    ),
+    (
+        "local f={} for i=1,3 do local r={i} f[i]=function() r[1]=r[1]+1 return r end end print(f[1]()[1],f[1]()[1],f[3]()[1],f[1]()==f[1](),f[1]()==f[2]()) local t={} for i=1,4 do t[i]=i end t[3]=nil t[5]=5 print(t[5],t[3],rawlen({1,2,3}))",
+        "2\t3\t4\ttrue\tfalse\n5\tnil\t3\nreturn\n",
+    ),
 ];
 
 /// Errors, and functions that catch them.
@@ -565,51 +377,31 @@ static ERRORS: [Case; 5] = [
 ];
 
 /// Coroutines within the script.
-static COROUTINES: [Case; 2] = [
-    Case {
-        options: "",
-        script: "local co=coroutine.create(function() local c <close> = setmetatable({},{__close=function() print(\"c\") end}) coroutine.yield() end) coroutine.resume(co) print(coroutine.close(co),coroutine.status(co))",
-        input: "",
-        status: 0,
-        out: "c\ntrue\tdead\nreturn\n",
-        err: "",
-    },
-    Case {
-        options: "",
-        script: "local co=coroutine.create(function(a) local b=coroutine.yield(a+1) error(\"e\"..b,0) end) print(coroutine.resume(co,1)) print(coroutine.resume(co,2)) print(coroutine.status(co))",
-        input: "",
-        status: 0,
-        out: "true\t2\nfalse\te2\ndead\nreturn\n",
-        err: "",
-    },
+static COROUTINES: [(&str, &str); 2] = [
+    (
+        "local co=coroutine.create(function() local c <close> = setmetatable({},{__close=function() print(\"c\") end}) coroutine.yield() end) coroutine.resume(co) print(coroutine.close(co),coroutine.status(co))",
+        "c\ntrue\tdead\nreturn\n",
+    ),
+    (
+        "local co=coroutine.create(function(a) local b=coroutine.yield(a+1) error(\"e\"..b,0) end) print(coroutine.resume(co,1)) print(coroutine.resume(co,2)) print(coroutine.status(co))",
+        "true\t2\nfalse\te2\ndead\nreturn\n",
+    ),
 ];
 
 /// Functions of the libraries.
-static LIBRARIES: [Case; 3] = [
-    Case {
-        options: "",
-        script: "print((\"hello\"):gsub(\"l\",\"L\"),string.format(\"%05d|%-4s|%x\",42,\"ab\",255),utf8.len(\"\\u{E9}a\"),select(\"#\",nil,nil))",
-        input: "",
-        status: 0,
-        out: "heLLo\t00042|ab  |ff\t2\t2\nreturn\n",
-        err: "",
-    },
-    Case {
-        options: "",
-        script: "print((\"THE (quick) fox\"):find(\"%((%a+)%)\"))",
-        input: "",
-        status: 0,
-        out: "5\t11\tquick\nreturn\n",
-        err: "",
-    },
-    Case {
-        options: "",
-        script: "for k,v in (\"a=1,b=2\"):gmatch(\"(%w)=(%w)\") do print(k,v) end",
-        input: "",
-        status: 0,
-        out: "a\t1\nb\t2\nreturn\n",
-        err: "",
-    },
+static LIBRARIES: [(&str, &str); 3] = [
+    (
+        "print((\"hello\"):gsub(\"l\",\"L\"),string.format(\"%05d|%-4s|%x\",42,\"ab\",255),utf8.len(\"\\u{E9}a\"),select(\"#\",nil,nil))",
+        "heLLo\t00042|ab  |ff\t2\t2\nreturn\n",
+    ),
+    (
+        "print((\"THE (quick) fox\"):find(\"%((%a+)%)\"))",
+        "5\t11\tquick\nreturn\n",
+    ),
+    (
+        "for k,v in (\"a=1,b=2\"):gmatch(\"(%w)=(%w)\") do print(k,v) end",
+        "a\t1\nb\t2\nreturn\n",
+    ),
 ];
 
 /// Limits on calls, chains of handlers and strings.
@@ -650,12 +442,16 @@ static LIMITS: [Case; 4] = [
 
 #[test]
 fn expressions_and_statements_run(rt: HostRuntime) -> Result<(), Fail> {
-    run_cases(&rt, rt.alloc(), &SIMPLE)
+    run_printing(&rt, rt.alloc(), &SIMPLE)
 }
 
 #[test]
 fn budgets_are_spent(rt: HostRuntime) -> Result<(), Fail> {
-    run_cases(&rt, rt.alloc(), &BUDGETS)
+    let alloc = rt.alloc();
+    for (options, script, out) in &BUDGETS {
+        run_case(&rt, alloc, &budgeted(*options, *script, *out))?;
+    }
+    run_cases(&rt, alloc, &TURNS)
 }
 
 #[test]
@@ -665,17 +461,17 @@ fn sources_are_refused(rt: HostRuntime) -> Result<(), Fail> {
 
 #[test]
 fn functions_run(rt: HostRuntime) -> Result<(), Fail> {
-    run_cases(&rt, rt.alloc(), &FUNCTIONS)
+    run_printing(&rt, rt.alloc(), &FUNCTIONS)
 }
 
 #[test]
 fn lists_run(rt: HostRuntime) -> Result<(), Fail> {
-    run_cases(&rt, rt.alloc(), &LISTS)
+    run_printing(&rt, rt.alloc(), &LISTS)
 }
 
 #[test]
 fn tables_and_metatables_run(rt: HostRuntime) -> Result<(), Fail> {
-    run_cases(&rt, rt.alloc(), &TABLES)
+    run_printing(&rt, rt.alloc(), &TABLES)
 }
 
 #[test]
@@ -685,12 +481,12 @@ fn errors_are_caught_or_end_the_run(rt: HostRuntime) -> Result<(), Fail> {
 
 #[test]
 fn coroutines_run(rt: HostRuntime) -> Result<(), Fail> {
-    run_cases(&rt, rt.alloc(), &COROUTINES)
+    run_printing(&rt, rt.alloc(), &COROUTINES)
 }
 
 #[test]
 fn libraries_run(rt: HostRuntime) -> Result<(), Fail> {
-    run_cases(&rt, rt.alloc(), &LIBRARIES)
+    run_printing(&rt, rt.alloc(), &LIBRARIES)
 }
 
 #[test]
