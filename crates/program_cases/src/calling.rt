@@ -146,13 +146,19 @@ pub(crate) fn check_run(
     input: &[u8],
     wanted: (u8, &[u8], &str),
 ) -> Result<(), Fail> {
-    let mut files = files_with(alloc, "s.lua", script, &[])?;
-    check_call(
-        rt,
-        alloc,
-        "run s.lua",
-        &mut files,
-        &Streams::of(input),
-        wanted,
-    )
+    check_over(rt, alloc, "run s.lua", ("s.lua", script), input, wanted)
+}
+
+/// Calls the program over one file and streams that do not fail, and looks at what the call gives.
+pub(crate) fn check_over(
+    rt: &impl Abort,
+    alloc: Global,
+    line: &str,
+    file: (&str, &[u8]),
+    input: &[u8],
+    wanted: (u8, &[u8], &str),
+) -> Result<(), Fail> {
+    let (name, content) = file;
+    let mut files = files_with(alloc, name, content, &[])?;
+    check_call(rt, alloc, line, &mut files, &Streams::of(input), wanted)
 }

@@ -1,5 +1,5 @@
 // Chunks that are checked, made and run. The expected chunk is that of stock luac.
-use crate::calling::{Streams, check_call, copied, files_with};
+use crate::calling::{Streams, check_call, check_over, copied, files_with};
 use io_edge::Files;
 use std::alloc::{AllocError, Global};
 use std::process::Abort;
@@ -63,15 +63,7 @@ fn check_chunk(
     chunk: &[u8],
     wanted: (u8, &[u8], &str),
 ) -> Result<(), Fail> {
-    let mut files = files_with(alloc, "c.luac", chunk, &[])?;
-    check_call(
-        rt,
-        alloc,
-        "check c.luac",
-        &mut files,
-        &Streams::of(b""),
-        wanted,
-    )
+    check_over(rt, alloc, "check c.luac", ("c.luac", chunk), b"", wanted)
 }
 
 #[test]
