@@ -16,6 +16,7 @@ use crate::crossing::cross_stack;
 use crate::frames::run_frame_on_top;
 use crate::place::{Here, find_here};
 use crate::taking::is_taken;
+use code_core::Opcode;
 use lua_heap::law::checked_code_is_there;
 use lua_heap::{Coro, World};
 use machine_arms_tables::Closure;
@@ -50,11 +51,33 @@ fn run_frames(world: &mut World, budget: &mut u64) -> Here
 {
     for _ in 0..u64::MAX {
         cross_frames(world, budget);
+        let found = find_here(world);
+        let left = is_left(found);
+        if left {
+            return found;
+        }
         if let Some(here) = run_frame(world, budget) {
             return here;
         }
     }
     find_here(world)
+}
+
+/// Whether nothing more is done here with a frame that has gone from frame to frame as far as it could: it waits, or stands at a call of what is no Lua function,
+/// a return to what is no Lua frame, or an instruction that the machine's step does.
+fn is_left(here: Here) -> bool {
+    if !here.runs {
+        return true;
+    }
+    match here.word.opcode() {
+        Some(Opcode::Call) => true,
+        Some(Opcode::Return) => true,
+        Some(Opcode::Return0) => true,
+        Some(Opcode::Return1) => true,
+        Some(Opcode::Concat) => true,
+        Some(Opcode::Closure) => true,
+        _ => false,
+    }
 }
 
 /// Goes from frame to frame, in a world in which nothing moves, as long as each stops at a call or a return that takes no more than the stack.
