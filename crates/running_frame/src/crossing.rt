@@ -18,7 +18,7 @@ use crate::place::{Here, here_at, is_none};
 use crate::returning::{return_counted, return_values};
 use crate::spreading::spread;
 use crate::stack::{Stop, closed_from, run_round};
-use crate::storing::store_open;
+use crate::storing::store_at;
 use crate::upvalues::read_open;
 use code_core::{Instruction, Opcode};
 use lua_heap::law::checked_code_is_there;
@@ -253,7 +253,7 @@ fn leave_frame(
     let here = here_at(words, pc, true);
     match cross_over_at(stack, size, funcs, codes, words, budget, pc, here.word) {
         Some(()) => Some(()),
-        None => store_open(stack, words, upvalues, cells, co, here),
+        None => store_at(stack, words, upvalues, cells, co, here),
     }
 }
 
@@ -281,8 +281,8 @@ fn cross_over_at(
     }
 }
 
-/// A call with an open list, or a return that opens one.
-#[inline(never)]
+/// A call with an open list, or a return that opens one. The opcode is looked at here, so that at all other instructions nothing is called.
+#[inline(always)]
 fn spread_at(
     stack: &mut Stack,
     size: usize,
@@ -302,6 +302,27 @@ fn spread_at(
     if !may_spread(i) {
         return None;
     }
+    spread_there(stack, size, funcs, codes, words, budget, pc, i)
+}
+
+/// Does so.
+#[inline(never)]
+fn spread_there(
+    stack: &mut Stack,
+    size: usize,
+    funcs: &Pool<Func>,
+    codes: &Codes,
+    words: &[Instruction],
+    budget: &mut u64,
+    pc: usize,
+    i: Instruction,
+) -> Option<()>
+    requires top { HasLuaTop stack.old }
+    requires codes { HaveCode funcs.now.objects codes.now }
+    ensures spreads { IfSome result (λ _. Spreads stack.old stack.new size funcs.now.objects codes.now words.now pc i budget.old budget.new) }
+    ensures kept { IfNone result ((stack.new ≡ stack.old) × (budget.new ≡ budget.old)) }
+    ensures listed { stack.new.open_cells ≡ stack.old.open_cells }
+{
     let closed = closed_from(stack);
     let stop = Stop {
         here: Here {
@@ -315,6 +336,7 @@ fn spread_at(
 }
 
 /// Whether an instruction may be one of these.
+#[inline(always)]
 fn may_spread(i: Instruction) -> bool {
     match i.opcode() {
         Some(Opcode::Call) => i.b() == 0,

@@ -42,6 +42,34 @@ pub(crate) fn store_open(
     Some(())
 }
 
+/// Does so where frames are gone over one after another. The opcode is looked at here, and what is told of the place is put together anew, so that at all other
+/// instructions nothing is called and nothing is put into memory.
+#[inline(always)]
+pub(crate) fn store_at(
+    stack: &mut Stack,
+    words: &[Instruction],
+    upvalues: &[CellId],
+    cells: &Pool<Cell>,
+    co: CoroId,
+    here: Here,
+) -> Option<()>
+    requires top { HasLuaTop stack.old }
+    requires cells { ListsOpen co.0 stack.old cells.now.objects }
+    ensures stores { IfSome result (λ _. StoresOpen co.0 upvalues.now words.now stack.old stack.new cells.now.objects here.pc here.word) }
+    ensures kept { IfNone result (stack.new ≡ stack.old) }
+    ensures listed { stack.new.open_cells ≡ stack.old.open_cells }
+{
+    if !is_store(here.word) {
+        return None;
+    }
+    let place = Here {
+        pc: here.pc,
+        word: here.word,
+        runs: here.runs,
+    };
+    store_open(stack, words, upvalues, cells, co, place)
+}
+
 /// The register of an upvalue's variable, where that stands in this coroutine, in a frame below the last of `depth`.
 pub(crate) fn open_below(
     depth: usize,

@@ -3,7 +3,7 @@ use Rattle.std.proofs.lemmas.Option.{IfSome_then}
 use Rattle.lua_stack.specs.Frames.{HasLuaTop, KeptStack}
 use Rattle.running_frame.specs.Spreading.{Spreads}
 use Rattle.running_frame.proofs.Takers.{none_then}
-use Rattle.running_frame.proofs.crossing.spread_at.Goals as goal
+use Rattle.running_frame.proofs.crossing.spread_there.Goals as goal
 
 pub spread-requires-clause-top : goal.spread-requires-clause-top
 spread-requires-clause-top c = subst HasLuaTop (sym c.closed_from-closed.ensures.kept) c.requires.top
