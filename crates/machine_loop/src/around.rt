@@ -29,10 +29,21 @@ pub(crate) fn go_around(
     ensures tables { IfNone result (tables.new ≡ tables.old) }
     ensures registers { IfNone result (registers.new ≡ registers.old) }
 {
+    let i = fetch(closure.words, pc);
+    if !may_go_around(i) {
+        return None;
+    }
     match read_known(closure, registers, memo, pc) {
         Some(to) => Some(to),
         None => go_beyond(closure, strings, tables, cells, registers, pc),
     }
+}
+
+/// Whether an opcode's number is at most that of LE: those of calls, returns and others at which the loop is left most often are greater, and nothing else is asked
+/// there.
+#[inline(always)]
+fn may_go_around(i: Instruction) -> bool {
+    number_in(i) <= 59
 }
 
 /// Does one that looks beyond a value itself, where the number of the opcode may be that of one: at all other instructions, as a CALL, the loop is left without

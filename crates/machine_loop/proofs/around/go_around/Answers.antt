@@ -8,6 +8,9 @@ use Rattle.machine_loop.specs.Knowing.{ReadsKnown}
 use Rattle.machine_loop.proofs.Alike.{none_then}
 use Rattle.machine_loop.proofs.around.go_around.Goals as goal
 
+pub fetch-i-requires : goal.fetch-i-requires
+fetch-i-requires c = c.requires.there
+
 pub returns-in-Some-clause-goes : goal.returns-in-Some-clause-goes
 returns-in-Some-clause-goes c =
     inl (subst (λ o. IfSome o (λ to. ReadsKnown c.args.closure.words.now c.args.memo.now c.args.registers.now c.read_known.new.registers c.args.pc to)) c.in-Some.is c.read_known.ensures.reads, refl)
