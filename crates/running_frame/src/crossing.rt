@@ -8,6 +8,7 @@ ghost use Rattle.machine_focus.specs.Focus.{Reaches};
 ghost use Rattle.machine_loop.specs.Running.{Running};
 ghost use Rattle.running_frame.specs.Calling.{AreFunctions, CallsIn, HaveCode};
 ghost use Rattle.running_frame.specs.Crossing.{Ground, LeavesFrame, MayCross, runs_on, world_with};
+ghost use Rattle.running_frame.specs.Remembering.{KnowsNothing};
 ghost use Rattle.running_frame.specs.Returning.{CallsOrReturns, ReturnsIn, said_of};
 ghost use Rattle.running_frame.specs.Spreading.{CrossesOver, Spreads};
 ghost use Rattle.running_frame.specs.Standing.{IsClosedFrom, MayRun, RunsAt, standing};
@@ -29,8 +30,9 @@ use machine_loop::Memo;
 use object_pool::Pool;
 use table_core::{CellId, CoroId, Table};
 
-/// Goes from frame to frame of a stack, as long as each stops at a call or a return that takes no more than the stack.
-#[inline(always)]
+/// Goes from frame to frame of a stack, as long as each stops at a call or a return that takes no more than the stack. A function of its own, so that what frames
+/// want over and over stays at hand. That nothing is known of variables in frames below is said once for all frames.
+#[inline(never)]
 pub(crate) fn cross_stack(
     stack: &mut Stack,
     co: CoroId,
@@ -47,8 +49,40 @@ pub(crate) fn cross_stack(
     ensures reaches { Reaches outside.rows (plain (world_with outside stack.old strings.now funcs.now codes.now tables.old cells.old) budget.old) (plain (world_with outside stack.new strings.now funcs.now codes.now tables.new cells.new) budget.new) }
     ensures may { MayCross outside (world_with outside stack.new strings.now funcs.now codes.now tables.new cells.new) stack.new }
 {
+    let memo = Memo {
+        first: None,
+        second: None,
+        third: None,
+    };
+    cross_all(
+        stack, co, strings, funcs, codes, tables, cells, &memo, budget,
+    );
+}
+
+/// Does so over what is known of those.
+#[inline(always)]
+fn cross_all(
+    stack: &mut Stack,
+    co: CoroId,
+    strings: &Strings,
+    funcs: &Pool<Func>,
+    codes: &Codes,
+    tables: &mut Pool<Table>,
+    cells: &mut Pool<Cell>,
+    memo: &Memo,
+    budget: &mut u64,
+)
+    ghost outside: { Ground }
+    requires may { MayCross outside (world_with outside stack.old strings.now funcs.now codes.now tables.old cells.old) stack.old }
+    requires own { co ≡ runs_on outside }
+    requires nothing { KnowsNothing memo.now }
+    ensures reaches { Reaches outside.rows (plain (world_with outside stack.old strings.now funcs.now codes.now tables.old cells.old) budget.old) (plain (world_with outside stack.new strings.now funcs.now codes.now tables.new cells.new) budget.new) }
+    ensures may { MayCross outside (world_with outside stack.new strings.now funcs.now codes.now tables.new cells.new) stack.new }
+{
     for _ in 0..u64::MAX {
-        let crossed = cross_next(stack, co, strings, funcs, codes, tables, cells, budget);
+        let crossed = cross_next(
+            stack, co, strings, funcs, codes, tables, cells, memo, budget,
+        );
         if !crossed {
             return;
         }
@@ -66,11 +100,13 @@ fn cross_next(
     codes: &Codes,
     tables: &mut Pool<Table>,
     cells: &mut Pool<Cell>,
+    memo: &Memo,
     budget: &mut u64,
 ) -> bool
     ghost outside: { Ground }
     requires may { MayCross outside (world_with outside stack.old strings.now funcs.now codes.now tables.old cells.old) stack.old }
     requires own { co ≡ runs_on outside }
+    requires nothing { KnowsNothing memo.now }
     ensures reaches { Reaches outside.rows (plain (world_with outside stack.old strings.now funcs.now codes.now tables.old cells.old) budget.old) (plain (world_with outside stack.new strings.now funcs.now codes.now tables.new cells.new) budget.new) }
     ensures may { MayCross outside (world_with outside stack.new strings.now funcs.now codes.now tables.new cells.new) stack.new }
 {
@@ -94,6 +130,7 @@ fn cross_next(
         cells,
         budget,
         co,
+        memo,
     ) {
         Some(()) => true,
         None => false,
@@ -113,12 +150,14 @@ fn cross_frame(
     cells: &mut Pool<Cell>,
     budget: &mut u64,
     co: CoroId,
+    memo: &Memo,
 ) -> Option<()>
     ghost g: { Running }
     requires may { MayRun g (code closure strings.now) stack.old tables.old.objects cells.old.objects budget.old }
     requires functions { AreFunctions g.around.context.base.functions funcs.now.objects codes.now }
     requires size { size ≡ g.around.context.closure.code.own.stack }
     requires own { co.0 ≡ g.around.context.coroutine }
+    requires nothing { KnowsNothing memo.now }
     ensures reaches { Reaches g.around.rows (standing g stack.old tables.old.objects cells.old.objects budget.old) (standing g stack.new tables.new.objects cells.new.objects budget.new) }
     ensures opened { AreOpenAlike cells.old.objects cells.new.objects }
     ensures listed { stack.new.open_cells ≡ stack.old.open_cells }
@@ -129,7 +168,7 @@ fn cross_frame(
         return None;
     }
     run_and_cross(
-        stack, closure, size, strings, funcs, codes, tables, cells, budget, co, start,
+        stack, closure, size, strings, funcs, codes, tables, cells, budget, co, memo, start,
     )
 }
 
@@ -147,6 +186,7 @@ fn run_and_cross(
     cells: &mut Pool<Cell>,
     budget: &mut u64,
     co: CoroId,
+    memo: &Memo,
     start: usize,
 ) -> Option<()>
     ghost g: { Running }
@@ -154,19 +194,15 @@ fn run_and_cross(
     requires functions { AreFunctions g.around.context.base.functions funcs.now.objects codes.now }
     requires size { size ≡ g.around.context.closure.code.own.stack }
     requires own { co.0 ≡ g.around.context.coroutine }
+    requires nothing { KnowsNothing memo.now }
     ensures reaches { Reaches g.around.rows (standing g stack.old tables.old.objects cells.old.objects budget.old) (standing g stack.new tables.new.objects cells.new.objects budget.new) }
     ensures opened { AreOpenAlike cells.old.objects cells.new.objects }
     ensures listed { stack.new.open_cells ≡ stack.old.open_cells }
 {
-    let memo = Memo {
-        first: None,
-        second: None,
-        third: None,
-    };
-    let at = run_round(stack, closure, strings, tables, cells, budget, &memo, start);
+    let at = run_round(stack, closure, strings, tables, cells, budget, memo, start);
     match read_open(stack, closure, cells, co, at) {
         Some(to) => run_again(
-            stack, closure, size, strings, funcs, codes, tables, cells, budget, co, to,
+            stack, closure, size, strings, funcs, codes, tables, cells, budget, co, memo, to,
         ),
         None => leave_frame(
             stack,
@@ -196,6 +232,7 @@ fn run_again(
     cells: &mut Pool<Cell>,
     budget: &mut u64,
     co: CoroId,
+    memo: &Memo,
     start: usize,
 ) -> Option<()>
     ghost g: { Running }
@@ -203,16 +240,12 @@ fn run_again(
     requires functions { AreFunctions g.around.context.base.functions funcs.now.objects codes.now }
     requires size { size ≡ g.around.context.closure.code.own.stack }
     requires own { co.0 ≡ g.around.context.coroutine }
+    requires nothing { KnowsNothing memo.now }
     ensures reaches { Reaches g.around.rows (standing g stack.old tables.old.objects cells.old.objects budget.old) (standing g stack.new tables.new.objects cells.new.objects budget.new) }
     ensures opened { AreOpenAlike cells.old.objects cells.new.objects }
     ensures listed { stack.new.open_cells ≡ stack.old.open_cells }
 {
-    let memo = Memo {
-        first: None,
-        second: None,
-        third: None,
-    };
-    let at = run_round(stack, closure, strings, tables, cells, budget, &memo, start);
+    let at = run_round(stack, closure, strings, tables, cells, budget, memo, start);
     leave_frame(
         stack,
         closure.words,

@@ -24,7 +24,10 @@ cross_frame-requires g c = (
     (
       size_so g.outside c.args.strings.now c.args.funcs.now c.args.codes.now c.args.tables.now c.args.cells.now c.args.stack.now c.requires.0 c.function.result.0 c.function.ensures
           c.get-function.result.now c.get-function.ensures c.checked_code_is_there.ensures c.get-code.result.now c.get-code.ensures,
-      own_so g.outside c.args.strings.now c.args.funcs.now c.args.codes.now c.args.tables.now c.args.cells.now c.args.stack.now c.requires.0 c.args.co c.requires.1,
+      (
+        own_so g.outside c.args.strings.now c.args.funcs.now c.args.codes.now c.args.tables.now c.args.cells.now c.args.stack.now c.requires.0 c.args.co c.requires.1.0,
+        c.requires.1.1,
+      ),
     ),
   ),
 )

@@ -12,10 +12,11 @@ use Rattle.running_frame.proofs.FoundFields.{over_goes}
 use Rattle.running_frame.proofs.Left.{left_or_not}
 use Rattle.running_frame.proofs.OnStack.{place_within}
 use Rattle.running_frame.proofs.OpenRead.{lists_open}
+use Rattle.running_frame.proofs.Remembered.{nothing_holds}
 use Rattle.running_frame.proofs.crossing.run_and_cross.Goals as goal
 
 pub run_round-at-requires : goal.run_round-at-requires
-run_round-at-requires g c = (c.requires.0, record { first = tt; second = tt; third = tt })
+run_round-at-requires g c = (c.requires.0, nothing_holds g.g.around c.args.closure.upvalues.now c.args.cells.now.objects c.args.memo.now c.requires.1.1.1.1)
 
 pub read_open-requires : goal.read_open-requires
 read_open-requires g c =
@@ -25,7 +26,7 @@ read_open-requires g c =
         fuel = c.run_round-at.new.budget;
         runs = subst (λ texts. RunsAt g.g (code c.args.closure texts) c.run_round-at.new.stack c.run_round-at.new.tables.objects c.run_round-at.new.cells.objects c.run_round-at.new.budget c.run_round-at.result) (sym x.may.closure.texts_are) x;
       },
-      c.requires.1.1.1,
+      c.requires.1.1.1.0,
     )
 
 pub run_again-requires : goal.run_again-requires
@@ -64,7 +65,7 @@ leave_frame-requires-clause-codes g c = c.requires.1.0.have
 pub leave_frame-requires-clause-cells : goal.leave_frame-requires-clause-cells
 leave_frame-requires-clause-cells g c =
     let kept : c.read_open.new.stack ≡ c.run_round-at.new.stack = search rules in
-    subst (λ (s : KeptStack). ListsOpen c.args.co.0 s c.run_round-at.new.cells.objects) (sym kept) (lists_open c.args.co.0 c.requires.1.1.1 c.run_round-at.ensures.runs)
+    subst (λ (s : KeptStack). ListsOpen c.args.co.0 s c.run_round-at.new.cells.objects) (sym kept) (lists_open c.args.co.0 c.requires.1.1.1.0 c.run_round-at.ensures.runs)
 
 pub leave_frame-requires-clause-there : goal.leave_frame-requires-clause-there
 leave_frame-requires-clause-there g c = place_within c.run_round-at.ensures.runs
@@ -80,7 +81,7 @@ returns-in-None-clause-reaches g c =
     reaches_then g.g.around.rows c.run_round-at.ensures.reaches
     (subst (λ (s : KeptStack). Reaches g.g.around.rows (standing g.g s ts cs fuel) (standing g.g c.leave_frame.new.stack ts cs c.leave_frame.new.budget)) kept
     (left_or_not g.g k c.read_open.new.stack ts cs fuel c.run_round-at.result runs
-    c.leave_frame.new.stack c.args.size c.args.funcs.now.objects c.args.codes.now c.leave_frame.new.budget c.args.co.0 c.requires.1.0 c.requires.1.1.0 c.requires.1.1.1
+    c.leave_frame.new.stack c.args.size c.args.funcs.now.objects c.args.codes.now c.leave_frame.new.budget c.args.co.0 c.requires.1.0 c.requires.1.1.0 c.requires.1.1.1.0
     c.leave_frame.result c.leave_frame.ensures.leaves c.leave_frame.ensures.kept))
 
 pub returns-in-None-clause-listed : goal.returns-in-None-clause-listed
