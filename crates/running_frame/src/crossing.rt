@@ -18,7 +18,7 @@ use crate::calling::{call_function, is_call, one_less};
 use crate::place::{Here, here_at, is_none};
 use crate::returning::{return_counted, return_values};
 use crate::spreading::spread;
-use crate::stack::{Stop, closed_from, run_round};
+use crate::stack::{Stop, closed_from, run_round, run_round_apart};
 use crate::storing::store_at;
 use crate::upvalues::read_open;
 use code_core::{Instruction, Opcode};
@@ -245,7 +245,7 @@ fn run_again(
     ensures opened { AreOpenAlike cells.old.objects cells.new.objects }
     ensures listed { stack.new.open_cells ≡ stack.old.open_cells }
 {
-    let at = run_round(stack, closure, strings, tables, cells, budget, memo, start);
+    let at = run_round_apart(stack, closure, strings, tables, cells, budget, memo, start);
     leave_frame(
         stack,
         closure.words,

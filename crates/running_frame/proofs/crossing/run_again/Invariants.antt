@@ -1,4 +1,4 @@
 use Rattle.running_frame.proofs.crossing.run_again.Given as goal
 
-abbrev pub ghost-run_round : goal.ghost-run_round
-ghost-run_round g a = g.g
+abbrev pub ghost-run_round_apart : goal.ghost-run_round_apart
+ghost-run_round_apart g a = g.g
