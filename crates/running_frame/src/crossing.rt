@@ -12,13 +12,13 @@ ghost use Rattle.running_frame.specs.Remembering.{KnowsNothing};
 ghost use Rattle.running_frame.specs.Returning.{CallsOrReturns, ReturnsIn, said_of};
 ghost use Rattle.running_frame.specs.Spreading.{CrossesOver, Spreads};
 ghost use Rattle.running_frame.specs.Standing.{IsClosedFrom, MayRun, RunsAt, standing};
-ghost use Rattle.running_frame.specs.Upvalues.{ListsOpen};
+ghost use Rattle.running_frame.specs.Upvalues.{GoesOver, ListsOpen, RunsOver};
 
 use crate::calling::{call_function, is_call, one_less};
 use crate::place::{Here, here_at, is_none};
 use crate::returning::{return_counted, return_values};
 use crate::spreading::spread;
-use crate::stack::{Stop, closed_from, run_round, run_round_apart};
+use crate::stack::{Stop, closed_from, run_round};
 use crate::storing::store_at;
 use crate::upvalues::read_open;
 use code_core::{Instruction, Opcode};
@@ -79,18 +79,19 @@ fn cross_all(
     ensures reaches { Reaches outside.rows (plain (world_with outside stack.old strings.now funcs.now codes.now tables.old cells.old) budget.old) (plain (world_with outside stack.new strings.now funcs.now codes.now tables.new cells.new) budget.new) }
     ensures may { MayCross outside (world_with outside stack.new strings.now funcs.now codes.now tables.new cells.new) stack.new }
 {
+    let mut again = false;
     for _ in 0..u64::MAX {
-        let crossed = cross_next(
-            stack, co, strings, funcs, codes, tables, cells, memo, budget,
-        );
-        if !crossed {
+        let Some(was_read) = cross_next(
+            stack, co, strings, funcs, codes, tables, cells, memo, budget, again,
+        ) else {
             return;
-        }
+        };
+        again = was_read;
     }
 }
 
-/// Runs the frame on top as far as it needs nothing but its own registers, and does the call or the return that stands there: another frame is on top then. `false`
-/// where it waits, or something else stands there.
+/// Runs the frame on top as far as it needs nothing but its own registers, and does the call, the return or the store that stands there, or reads a variable of a
+/// frame below: told is whether it was such a read. `again` says that the frame has read one already. `None` where the frame waits, or something else stands there.
 #[inline(always)]
 fn cross_next(
     stack: &mut Stack,
@@ -102,7 +103,8 @@ fn cross_next(
     cells: &mut Pool<Cell>,
     memo: &Memo,
     budget: &mut u64,
-) -> bool
+    again: bool,
+) -> Option<bool>
     ghost outside: { Ground }
     requires may { MayCross outside (world_with outside stack.old strings.now funcs.now codes.now tables.old cells.old) stack.old }
     requires own { co ≡ runs_on outside }
@@ -119,7 +121,7 @@ fn cross_next(
         constants: &code.constants,
         upvalues: &function.cells,
     };
-    match cross_frame(
+    cross_frame(
         stack,
         closure,
         code.stack as usize,
@@ -131,10 +133,8 @@ fn cross_next(
         budget,
         co,
         memo,
-    ) {
-        Some(()) => true,
-        None => false,
-    }
+        again,
+    )
 }
 
 /// Does so over its function's code. `size` is the number of registers of that.
@@ -151,7 +151,8 @@ fn cross_frame(
     budget: &mut u64,
     co: CoroId,
     memo: &Memo,
-) -> Option<()>
+    again: bool,
+) -> Option<bool>
     ghost g: { Running }
     requires may { MayRun g (code closure strings.now) stack.old tables.old.objects cells.old.objects budget.old }
     requires functions { AreFunctions g.around.context.base.functions funcs.now.objects codes.now }
@@ -168,12 +169,11 @@ fn cross_frame(
         return None;
     }
     run_and_cross(
-        stack, closure, size, strings, funcs, codes, tables, cells, budget, co, memo, start,
+        stack, closure, size, strings, funcs, codes, tables, cells, budget, co, memo, again, start,
     )
 }
 
-/// Does so where it runs, from its place on. One variable of a frame below is read on the way: a frame that reads more of them goes on where their values are
-/// remembered.
+/// Does so where it runs, from its place on.
 #[inline(always)]
 fn run_and_cross(
     stack: &mut Stack,
@@ -187,8 +187,9 @@ fn run_and_cross(
     budget: &mut u64,
     co: CoroId,
     memo: &Memo,
+    again: bool,
     start: usize,
-) -> Option<()>
+) -> Option<bool>
     ghost g: { Running }
     requires runs { RunsAt g (code closure strings.now) stack.old tables.old.objects cells.old.objects budget.old start }
     requires functions { AreFunctions g.around.context.base.functions funcs.now.objects codes.now }
@@ -200,11 +201,9 @@ fn run_and_cross(
     ensures listed { stack.new.open_cells ≡ stack.old.open_cells }
 {
     let at = run_round(stack, closure, strings, tables, cells, budget, memo, start);
-    match read_open(stack, closure, cells, co, at) {
-        Some(to) => run_again(
-            stack, closure, size, strings, funcs, codes, tables, cells, budget, co, memo, to,
-        ),
-        None => leave_frame(
+    match read_once(stack, closure, cells, co, again, at) {
+        Some(_) => Some(true),
+        None => leave_over(
             stack,
             closure.words,
             closure.upvalues,
@@ -219,45 +218,57 @@ fn run_and_cross(
     }
 }
 
-/// Does so after that.
-#[inline(never)]
-fn run_again(
+/// A GETUPVAL of a variable of a frame below, where the frame has read none since it came on top: one that reads more of them goes on where their values are
+/// remembered.
+#[inline(always)]
+fn read_once(
     stack: &mut Stack,
     closure: Closure,
+    cells: &Pool<Cell>,
+    co: CoroId,
+    again: bool,
+    pc: usize,
+) -> Option<usize>
+    ghost g: { Running }
+    requires runs { RunsOver g (code closure g.around.texts) stack.old cells.now.objects pc }
+    requires own { co.0 ≡ g.around.context.coroutine }
+    ensures goes { IfSome result (λ to. GoesOver g (code closure.entry g.around.texts) stack.old stack.new cells.now.objects pc to) }
+    ensures kept { IfNone result (stack.new ≡ stack.old) }
+{
+    if again {
+        return None;
+    }
+    read_open(stack, closure, cells, co, pc)
+}
+
+/// Leaves the frame, if it can be left: no variable was read then.
+#[inline(always)]
+fn leave_over(
+    stack: &mut Stack,
+    words: &[Instruction],
+    upvalues: &[CellId],
     size: usize,
-    strings: &Strings,
     funcs: &Pool<Func>,
     codes: &Codes,
-    tables: &mut Pool<Table>,
-    cells: &mut Pool<Cell>,
+    cells: &Pool<Cell>,
     budget: &mut u64,
     co: CoroId,
-    memo: &Memo,
-    start: usize,
-) -> Option<()>
-    ghost g: { Running }
-    requires runs { RunsAt g (code closure strings.now) stack.old tables.old.objects cells.old.objects budget.old start }
-    requires functions { AreFunctions g.around.context.base.functions funcs.now.objects codes.now }
-    requires size { size ≡ g.around.context.closure.code.own.stack }
-    requires own { co.0 ≡ g.around.context.coroutine }
-    requires nothing { KnowsNothing memo.now }
-    ensures reaches { Reaches g.around.rows (standing g stack.old tables.old.objects cells.old.objects budget.old) (standing g stack.new tables.new.objects cells.new.objects budget.new) }
-    ensures opened { AreOpenAlike cells.old.objects cells.new.objects }
+    pc: usize,
+) -> Option<bool>
+    requires top { HasLuaTop stack.old }
+    requires codes { HaveCode funcs.now.objects codes.now }
+    requires cells { ListsOpen co.0 stack.old cells.now.objects }
+    requires there { pc < length words.now }
+    ensures leaves { IfSome result (λ _. LeavesFrame co.0 upvalues.now words.now stack.old stack.new cells.now.objects size funcs.now.objects codes.now pc budget.old budget.new) }
+    ensures kept { IfNone result ((stack.new ≡ stack.old) × (budget.new ≡ budget.old)) }
     ensures listed { stack.new.open_cells ≡ stack.old.open_cells }
 {
-    let at = run_round_apart(stack, closure, strings, tables, cells, budget, memo, start);
-    leave_frame(
-        stack,
-        closure.words,
-        closure.upvalues,
-        size,
-        funcs,
-        codes,
-        cells,
-        budget,
-        co,
-        at,
-    )
+    match leave_frame(
+        stack, words, upvalues, size, funcs, codes, cells, budget, co, pc,
+    ) {
+        Some(()) => Some(false),
+        None => None,
+    }
 }
 
 /// A call, a return or a store to a variable of a frame below, at which the frame on top stands. `None`, with all as before, at any other instruction, and where

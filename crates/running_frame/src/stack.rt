@@ -265,7 +265,7 @@ fn read_between(
 
 /// One round of the loop over instructions, out of line: most frames run in another copy of that loop, where calls and returns are gone over.
 #[inline(never)]
-pub(crate) fn run_round_apart(
+fn run_round_apart(
     stack: &mut Stack,
     closure: Closure,
     strings: &Strings,

@@ -32,22 +32,12 @@ cross_frame-requires g c = (
   ),
 )
 
-pub returns-in-Some-clause-reaches : goal.returns-in-Some-clause-reaches
-returns-in-Some-clause-reaches g c =
+pub returns-clause-reaches : goal.returns-clause-reaches
+returns-clause-reaches g c =
     reaches_after g.outside c.args.strings.now c.args.funcs.now c.args.codes.now c.args.tables.now c.args.cells.now c.args.stack.now c.requires.0 c.cross_frame.new.tables c.cross_frame.new.cells c.cross_frame.new.stack
     c.args.budget.now c.cross_frame.new.budget c.cross_frame.ensures.opened c.cross_frame.ensures.listed c.cross_frame.ensures.reaches
 
-pub returns-in-Some-clause-may : goal.returns-in-Some-clause-may
-returns-in-Some-clause-may g c =
-    may_after g.outside c.args.strings.now c.args.funcs.now c.args.codes.now c.args.tables.now c.args.cells.now c.args.stack.now c.requires.0 c.cross_frame.new.tables c.cross_frame.new.cells c.cross_frame.new.stack
-    c.args.budget.now c.cross_frame.new.budget c.cross_frame.ensures.opened c.cross_frame.ensures.listed c.cross_frame.ensures.reaches
-
-pub returns-in-None-clause-reaches : goal.returns-in-None-clause-reaches
-returns-in-None-clause-reaches g c =
-    reaches_after g.outside c.args.strings.now c.args.funcs.now c.args.codes.now c.args.tables.now c.args.cells.now c.args.stack.now c.requires.0 c.cross_frame.new.tables c.cross_frame.new.cells c.cross_frame.new.stack
-    c.args.budget.now c.cross_frame.new.budget c.cross_frame.ensures.opened c.cross_frame.ensures.listed c.cross_frame.ensures.reaches
-
-pub returns-in-None-clause-may : goal.returns-in-None-clause-may
-returns-in-None-clause-may g c =
+pub returns-clause-may : goal.returns-clause-may
+returns-clause-may g c =
     may_after g.outside c.args.strings.now c.args.funcs.now c.args.codes.now c.args.tables.now c.args.cells.now c.args.stack.now c.requires.0 c.cross_frame.new.tables c.cross_frame.new.cells c.cross_frame.new.stack
     c.args.budget.now c.cross_frame.new.budget c.cross_frame.ensures.opened c.cross_frame.ensures.listed c.cross_frame.ensures.reaches

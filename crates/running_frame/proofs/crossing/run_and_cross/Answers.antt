@@ -1,15 +1,12 @@
 use Rattle.std.proofs.Common.{◌≡◌, ap, sym, subst, ◌∙◌, rules}
-use Rattle.std.specs.Prelude.{IfSome}
 use Rattle.lua_heap.specs.Reading.{value}
 use Rattle.lua_stack.specs.Frames.{HasLuaTop, KeptStack}
 use Rattle.machine_arms_tables.specs.Frame.{code}
 use Rattle.machine_focus.specs.Focus.{Reaches}
-use Rattle.running_frame.specs.Inheriting.{GoesWith}
 use Rattle.running_frame.specs.Standing.{RunsAt, standing}
-use Rattle.running_frame.specs.Upvalues.{GoesOver, ListsOpen}
+use Rattle.running_frame.specs.Upvalues.{ListsOpen}
 use Rattle.running_frame.proofs.Chained.{reaches_then}
-use Rattle.running_frame.proofs.FoundFields.{over_goes}
-use Rattle.running_frame.proofs.Left.{left_or_not}
+use Rattle.running_frame.proofs.Left.{left_or_not, read_or_not}
 use Rattle.running_frame.proofs.OnStack.{place_within}
 use Rattle.running_frame.proofs.OpenRead.{lists_open}
 use Rattle.running_frame.proofs.Remembered.{nothing_holds}
@@ -18,8 +15,8 @@ use Rattle.running_frame.proofs.crossing.run_and_cross.Goals as goal
 pub run_round-at-requires : goal.run_round-at-requires
 run_round-at-requires g c = (c.requires.0, nothing_holds g.g.around c.args.closure.upvalues.now c.args.cells.now.objects c.args.memo.now c.requires.1.1.1.1)
 
-pub read_open-requires : goal.read_open-requires
-read_open-requires g c =
+pub read_once-requires : goal.read_once-requires
+read_once-requires g c =
     let x = c.run_round-at.ensures.runs in (
       record {
         tables = c.run_round-at.new.tables.objects;
@@ -29,62 +26,52 @@ read_open-requires g c =
       c.requires.1.1.1.0,
     )
 
-pub run_again-requires : goal.run_again-requires
-run_again-requires g c =
-    let x = c.run_round-at.ensures.runs in
-    let o : GoesWith g.g (code c.args.closure c.args.strings.now) c.run_round-at.new.stack c.read_open.new.stack c.run_round-at.new.tables.objects c.run_round-at.new.cells.objects c.run_round-at.result c.in-Some.to =
-    over_goes x.may.closure.texts_are
-    (subst (λ o. IfSome o (λ to. GoesOver g.g (code c.args.closure g.g.around.texts) c.run_round-at.new.stack c.read_open.new.stack c.run_round-at.new.cells.objects c.run_round-at.result to)) c.in-Some.is c.read_open.ensures.goes) in
-    (o.runs c.run_round-at.new.budget x, c.requires.1)
-
 pub returns-in-Some-clause-reaches : goal.returns-in-Some-clause-reaches
 returns-in-Some-clause-reaches g c =
-    let x = c.run_round-at.ensures.runs in
-    let o : GoesWith g.g (code c.args.closure c.args.strings.now) c.run_round-at.new.stack c.read_open.new.stack c.run_round-at.new.tables.objects c.run_round-at.new.cells.objects c.run_round-at.result c.in-Some.to =
-    over_goes x.may.closure.texts_are
-    (subst (λ o. IfSome o (λ to. GoesOver g.g (code c.args.closure g.g.around.texts) c.run_round-at.new.stack c.read_open.new.stack c.run_round-at.new.cells.objects c.run_round-at.result to)) c.in-Some.is c.read_open.ensures.goes) in
-    reaches_then g.g.around.rows (reaches_then g.g.around.rows c.run_round-at.ensures.reaches (o.reaches c.run_round-at.new.budget x)) c.run_again.ensures.reaches
-
-pub returns-in-Some-clause-opened : goal.returns-in-Some-clause-opened
-returns-in-Some-clause-opened g c = c.run_round-at.ensures.opened ∙ c.run_again.ensures.opened
+    let o =
+    read_or_not g.g c.args.closure.words.now c.args.closure.constants.now c.args.closure.upvalues.now c.args.strings.now c.run_round-at.new.stack c.read_once.new.stack c.run_round-at.new.tables.objects c.run_round-at.new.cells.objects
+    c.run_round-at.new.budget c.run_round-at.result c.run_round-at.ensures.runs c.read_once.result c.read_once.ensures.goes c.read_once.ensures.kept in
+    reaches_then g.g.around.rows c.run_round-at.ensures.reaches o.0
 
 pub returns-in-Some-clause-listed : goal.returns-in-Some-clause-listed
 returns-in-Some-clause-listed g c =
-    let o = subst (λ o. IfSome o (λ to. GoesOver g.g (code c.args.closure g.g.around.texts) c.run_round-at.new.stack c.read_open.new.stack c.run_round-at.new.cells.objects c.run_round-at.result to)) c.in-Some.is c.read_open.ensures.goes in
-    c.run_again.ensures.listed ∙ o.listed ∙ c.run_round-at.ensures.listed
+    let o =
+    read_or_not g.g c.args.closure.words.now c.args.closure.constants.now c.args.closure.upvalues.now c.args.strings.now c.run_round-at.new.stack c.read_once.new.stack c.run_round-at.new.tables.objects c.run_round-at.new.cells.objects
+    c.run_round-at.new.budget c.run_round-at.result c.run_round-at.ensures.runs c.read_once.result c.read_once.ensures.goes c.read_once.ensures.kept in
+    o.1 ∙ c.run_round-at.ensures.listed
 
-pub leave_frame-requires-clause-top : goal.leave_frame-requires-clause-top
-leave_frame-requires-clause-top g c =
-    let kept : c.read_open.new.stack ≡ c.run_round-at.new.stack = search rules in
+pub leave_over-requires-clause-top : goal.leave_over-requires-clause-top
+leave_over-requires-clause-top g c =
+    let kept : c.read_once.new.stack ≡ c.run_round-at.new.stack = search rules in
     let m = c.run_round-at.ensures.runs.may in
     subst HasLuaTop (sym kept) (record { value = value g.g.around.texts; below = g.g.around.context.below; top = m.top; is = m.is })
 
-pub leave_frame-requires-clause-codes : goal.leave_frame-requires-clause-codes
-leave_frame-requires-clause-codes g c = c.requires.1.0.have
+pub leave_over-requires-clause-codes : goal.leave_over-requires-clause-codes
+leave_over-requires-clause-codes g c = c.requires.1.0.have
 
-pub leave_frame-requires-clause-cells : goal.leave_frame-requires-clause-cells
-leave_frame-requires-clause-cells g c =
-    let kept : c.read_open.new.stack ≡ c.run_round-at.new.stack = search rules in
+pub leave_over-requires-clause-cells : goal.leave_over-requires-clause-cells
+leave_over-requires-clause-cells g c =
+    let kept : c.read_once.new.stack ≡ c.run_round-at.new.stack = search rules in
     subst (λ (s : KeptStack). ListsOpen c.args.co.0 s c.run_round-at.new.cells.objects) (sym kept) (lists_open c.args.co.0 c.requires.1.1.1.0 c.run_round-at.ensures.runs)
 
-pub leave_frame-requires-clause-there : goal.leave_frame-requires-clause-there
-leave_frame-requires-clause-there g c = place_within c.run_round-at.ensures.runs
+pub leave_over-requires-clause-there : goal.leave_over-requires-clause-there
+leave_over-requires-clause-there g c = place_within c.run_round-at.ensures.runs
 
 pub returns-in-None-clause-reaches : goal.returns-in-None-clause-reaches
 returns-in-None-clause-reaches g c =
-    let kept : c.read_open.new.stack ≡ c.run_round-at.new.stack = search rules in
+    let kept : c.read_once.new.stack ≡ c.run_round-at.new.stack = search rules in
     let k = code c.args.closure c.args.strings.now in
     let ts = c.run_round-at.new.tables.objects in
     let cs = c.run_round-at.new.cells.objects in
     let fuel = c.run_round-at.new.budget in
     let runs = subst (λ (s : KeptStack). RunsAt g.g k s ts cs fuel c.run_round-at.result) (sym kept) c.run_round-at.ensures.runs in
     reaches_then g.g.around.rows c.run_round-at.ensures.reaches
-    (subst (λ (s : KeptStack). Reaches g.g.around.rows (standing g.g s ts cs fuel) (standing g.g c.leave_frame.new.stack ts cs c.leave_frame.new.budget)) kept
-    (left_or_not g.g k c.read_open.new.stack ts cs fuel c.run_round-at.result runs
-    c.leave_frame.new.stack c.args.size c.args.funcs.now.objects c.args.codes.now c.leave_frame.new.budget c.args.co.0 c.requires.1.0 c.requires.1.1.0 c.requires.1.1.1.0
-    c.leave_frame.result c.leave_frame.ensures.leaves c.leave_frame.ensures.kept))
+    (subst (λ (s : KeptStack). Reaches g.g.around.rows (standing g.g s ts cs fuel) (standing g.g c.leave_over.new.stack ts cs c.leave_over.new.budget)) kept
+    (left_or_not g.g k c.read_once.new.stack ts cs fuel c.run_round-at.result runs
+    c.leave_over.new.stack c.args.size c.args.funcs.now.objects c.args.codes.now c.leave_over.new.budget c.args.co.0 c.requires.1.0 c.requires.1.1.0 c.requires.1.1.1.0
+    c.leave_over.result c.leave_over.ensures.leaves c.leave_over.ensures.kept))
 
 pub returns-in-None-clause-listed : goal.returns-in-None-clause-listed
 returns-in-None-clause-listed g c =
-    let kept : c.read_open.new.stack ≡ c.run_round-at.new.stack = search rules in
-    c.leave_frame.ensures.listed ∙ ap (λ (s : KeptStack). s.open_cells) kept ∙ c.run_round-at.ensures.listed
+    let kept : c.read_once.new.stack ≡ c.run_round-at.new.stack = search rules in
+    c.leave_over.ensures.listed ∙ ap (λ (s : KeptStack). s.open_cells) kept ∙ c.run_round-at.ensures.listed
