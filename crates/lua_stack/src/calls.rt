@@ -63,7 +63,7 @@ impl Stack {
 
     /// Calls a function with the values behind a register, where no cell of the frame on top is open at that register or above: the callee's first registers are
     /// the arguments where they stand. The frame on top waits and keeps what it keeps in `call`.
-    #[inline]
+    #[inline(always)]
     pub fn call_in_place(
         &mut self,
         register: usize,
@@ -218,6 +218,7 @@ fn extra_of(given: usize, shape: Shape) -> usize
 
 /// Makes a function's first registers of the arguments that stand at a place. Where some are kept beyond the parameters, these are copied
 /// behind them.
+#[inline(always)]
 fn lay_out(values: &mut Vec<Value>, place: usize, given: usize, shape: Shape) -> Layout
     requires params { shape.params ≤ shape.stack }
     requires room { place + given + shape.stack ≤ length values.old.items }
