@@ -181,7 +181,7 @@ fn window_at(below: &[Record], top: Window, frame: usize) -> Window
 }
 
 /// Whether the last cell stands at a register of a frame or behind.
-#[inline]
+#[inline(always)]
 pub(crate) fn is_open_from(cells: &[OpenCell], frame: usize, register: usize) -> bool
     requires { AreInOrder cells.now }
     ensures { result ≡ false → AllBelow frame register cells.now }

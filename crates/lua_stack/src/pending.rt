@@ -4,6 +4,7 @@ ghost use Rattle.machine_core.specs.Text.{last_pending, without_pending};
 ghost use Rattle.lua_stack.specs.Frames.{ArePending, HasLuaTop, HasRegisters, NoneFrom, OnTop, TopBecomes, with_pending};
 ghost use Rattle.lua_stack.specs.View.{AreStacked, IsLastFrom, kept_at, marked_values, part, registers_at};
 
+use crate::cells::is_open_from;
 use crate::closing::{frame_in, is_lua};
 use crate::frame::{Record, Window};
 use crate::stack::Stack;
@@ -24,14 +25,13 @@ impl Stack {
         Ok(())
     }
 
-    /// Whether no cell is open in the whole stack and nothing of the frame on top is to be closed, as it is most often.
+    /// Whether no cell of the frame on top is open and nothing of it is to be closed, as it is most often.
     #[inline]
     pub fn is_bare(&self) -> bool
         ensures cells { result ≡ true → NoneFrom self.now 0 }
         ensures pending { result ≡ true → OnTop self.now (λ f t. last_pending 0 t.own.pending ≡ None) }
     {
-        let count = self.open_cells.len();
-        if count > 0 {
+        if is_open_from(&self.open_cells, self.below.len(), 0) {
             return false;
         }
         if self.top.window.marked > 0 {

@@ -1,15 +1,19 @@
-use Rattle.std.proofs.Common.{rules, ◌≡◌, length, ap, sym, subst, ◌∙◌, arith}
+use Rattle.std.proofs.Common.{rules, ◌≡◌, length, None, ap, sym, subst, arith}
 use Rattle.machine_core.specs.Text.{last_pending}
-use Rattle.lua_stack.specs.Frames.{AllBelow, KeptStack, top_number}
-use Rattle.lua_stack.specs.View.{part}
-use Rattle.lua_stack.proofs.Pushed.{empty_is}
+use Rattle.lua_stack.specs.Frames.{AllBelow}
+use Rattle.lua_stack.specs.View.{AreInOrder, part}
+use Rattle.lua_stack.proofs.Reached.{takes_none}
 use Rattle.lua_stack.proofs.Tops.{on_top}
 use Rattle.lua_stack.proofs.stack.Stack.is_bare.Goals as goal
 
+pub is_open_from-requires : goal.is_open_from-requires
+is_open_from-requires c = subst AreInOrder (sym c.deref.ensures.value) c.self.invariant.1.in_order
+
 pub returns-clause-cells : goal.returns-clause-cells
 returns-clause-cells c = λ _.
-    let none : length c.self.inside.open_cells.items ≡ 0 = search (rules, arith) in
-    record { below = subst (λ cs. AllBelow (top_number c.args.self.now) 0 cs) (sym (empty_is c.self.inside.open_cells.items none) ∙ ap (λ (s : KeptStack). s.open_cells) c.self.view_is) tt }
+    let n : c.len.result ≡ length c.self.inside.below.items = search rules in
+    let under = subst (λ cs. AllBelow c.len.result 0 cs) c.deref.ensures.value (c.is_open_from.ensures c.if-is_open_from.false) in
+    takes_none c.self.inside c.args.self.now 0 None c.self.view_is c.self.invariant.0 (subst (λ n. AllBelow n 0 c.self.inside.open_cells.items) n under)
 
 pub returns-clause-pending : goal.returns-clause-pending
 returns-clause-pending c = λ _.
