@@ -324,6 +324,16 @@ pub(crate) fn closed_from(stack: &mut Stack) -> Option<usize>
     if stack.is_bare() {
         return Some(0);
     }
+    closed_above(stack)
+}
+
+/// From which register on, where some cell of that frame is open or some variable of it is to be closed.
+#[inline(never)]
+fn closed_above(stack: &mut Stack) -> Option<usize>
+    requires { HasLuaTop stack.old }
+    ensures kept { stack.new ≡ stack.old }
+    ensures closed { IfSome result (λ register. IsClosedFrom stack.new register) }
+{
     let register = above_last(stack.open_cells(), stack.len() - 1)?;
     match stack.take_cell_from(register) {
         // Open cells stand in the order of their frames and registers.
