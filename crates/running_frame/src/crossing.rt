@@ -11,12 +11,12 @@ ghost use Rattle.running_frame.specs.Crossing.{Ground, LeavesFrame, MayCross, ru
 ghost use Rattle.running_frame.specs.Remembering.{KnowsNothing};
 ghost use Rattle.running_frame.specs.Returning.{CallsOrReturns, ReturnsIn, said_of};
 ghost use Rattle.running_frame.specs.Spreading.{CrossesOver, Spreads};
-ghost use Rattle.running_frame.specs.Standing.{IsClosedFrom, MayRun, RunsAt, standing};
+ghost use Rattle.running_frame.specs.Standing.{MayRun, RunsAt, standing};
 ghost use Rattle.running_frame.specs.Upvalues.{GoesOver, ListsOpen, RunsOver};
 
 use crate::calling::{call_function, is_call, one_less};
 use crate::place::{Here, here_at, is_none};
-use crate::returning::{return_counted, return_values};
+use crate::returning::{return_single, return_values};
 use crate::spreading::spread;
 use crate::stack::{Stop, closed_from, run_round};
 use crate::storing::store_at;
@@ -443,46 +443,16 @@ fn return_at(stack: &mut Stack, funcs: &Pool<Func>, codes: &Codes, i: Instructio
     ensures kept { IfNone result (stack.new ≡ stack.old) }
     ensures listed { stack.new.open_cells ≡ stack.old.open_cells }
 {
-    if !is_return(i) {
-        return None;
-    }
-    let closed = closed_from(stack);
-    return_from(stack, funcs, codes, i, closed)
-}
-
-/// A return from a frame of which nothing is open or to be closed from the register `closed` on.
-#[inline(always)]
-fn return_from(
-    stack: &mut Stack,
-    funcs: &Pool<Func>,
-    codes: &Codes,
-    i: Instruction,
-    closed: Option<usize>,
-) -> Option<()>
-    requires top { HasLuaTop stack.old }
-    requires closed { IfSome closed (λ register. IsClosedFrom stack.old register) }
-    requires codes { HaveCode funcs.now.objects codes.now }
-    ensures returns { IfSome result (λ _. ReturnsIn stack.old stack.new funcs.now.objects codes.now i) }
-    ensures kept { IfNone result (stack.new ≡ stack.old) }
-    ensures listed { stack.new.open_cells ≡ stack.old.open_cells }
-{
-    match return_one(stack, funcs, codes, i, closed) {
+    match return_one(stack, funcs, codes, i) {
         Some(()) => Some(()),
-        None => return_values(stack, funcs, codes, i, closed),
+        None => return_otherwise(stack, funcs, codes, i),
     }
 }
 
-/// A RETURN of one value: a path of its own, in which the second value is known to be nil.
+/// A RETURN of one value to a frame that wants one: a path of its own.
 #[inline(always)]
-fn return_one(
-    stack: &mut Stack,
-    funcs: &Pool<Func>,
-    codes: &Codes,
-    i: Instruction,
-    closed: Option<usize>,
-) -> Option<()>
+fn return_one(stack: &mut Stack, funcs: &Pool<Func>, codes: &Codes, i: Instruction) -> Option<()>
     requires top { HasLuaTop stack.old }
-    requires closed { IfSome closed (λ register. IsClosedFrom stack.old register) }
     requires codes { HaveCode funcs.now.objects codes.now }
     ensures returns { IfSome result (λ _. ReturnsIn stack.old stack.new funcs.now.objects codes.now i) }
     ensures kept { IfNone result (stack.new ≡ stack.old) }
@@ -490,9 +460,42 @@ fn return_one(
 {
     let count = count_said(i)?;
     if count == 1 {
-        return return_counted(stack, funcs, codes, i, 1, closed);
+        return return_single(stack, funcs, codes, i);
     }
     None
+}
+
+/// Another return. The opcode is looked at here, so that at all other instructions nothing is called.
+#[inline(always)]
+fn return_otherwise(
+    stack: &mut Stack,
+    funcs: &Pool<Func>,
+    codes: &Codes,
+    i: Instruction,
+) -> Option<()>
+    requires top { HasLuaTop stack.old }
+    requires codes { HaveCode funcs.now.objects codes.now }
+    ensures returns { IfSome result (λ _. ReturnsIn stack.old stack.new funcs.now.objects codes.now i) }
+    ensures kept { IfNone result (stack.new ≡ stack.old) }
+    ensures listed { stack.new.open_cells ≡ stack.old.open_cells }
+{
+    if !is_return(i) {
+        return None;
+    }
+    return_from(stack, funcs, codes, i)
+}
+
+/// Does so.
+#[inline(never)]
+fn return_from(stack: &mut Stack, funcs: &Pool<Func>, codes: &Codes, i: Instruction) -> Option<()>
+    requires top { HasLuaTop stack.old }
+    requires codes { HaveCode funcs.now.objects codes.now }
+    ensures returns { IfSome result (λ _. ReturnsIn stack.old stack.new funcs.now.objects codes.now i) }
+    ensures kept { IfNone result (stack.new ≡ stack.old) }
+    ensures listed { stack.new.open_cells ≡ stack.old.open_cells }
+{
+    let closed = closed_from(stack);
+    return_values(stack, funcs, codes, i, closed)
 }
 
 /// How many values a RETURN returns, where it says so. The compiler writes no other opcode for returns.

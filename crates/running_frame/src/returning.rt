@@ -4,6 +4,7 @@ ghost use Rattle.std.specs.Prelude.{◌≡◌, ◌+◌, ◌<◌, ◌≤◌, leng
 ghost use Rattle.code_core.specs.Instruction.{b_of, opcode_of};
 ghost use Rattle.int_core.specs.Value.{range, write_all};
 ghost use Rattle.lua_stack.specs.Frames.{HasLuaTop, HasRegisters, TopBecomes, with_registers};
+ghost use Rattle.table_core.specs.declared.value.Value.TheVariants.{Nil};
 ghost use Rattle.lua_stack.specs.declared.frame.Wait.TheVariants.{Dropped, ForCall, ForIterator, ForValue};
 ghost use Rattle.running_frame.specs.Calling.{HaveCode};
 ghost use Rattle.running_frame.specs.Returning.{HasKept, IsCaller, IsGiven, IsInFront, IsTaker, ReturnsIn, TakesIn, Wants, WantsAnywhere, count_of, is_operator, taken};
@@ -55,7 +56,7 @@ pub(crate) fn return_values(
 
 /// The return of so many values.
 #[inline(always)]
-pub(crate) fn return_counted(
+fn return_counted(
     stack: &mut Stack,
     funcs: &Pool<Func>,
     codes: &Codes,
@@ -80,6 +81,71 @@ pub(crate) fn return_counted(
     stack.pop();
     hand(stack, taker, given);
     Some(())
+}
+
+/// The return of one value to a frame that wants one, as most returns are: the value is read and written as it stands.
+#[inline(always)]
+pub(crate) fn return_single(
+    stack: &mut Stack,
+    funcs: &Pool<Func>,
+    codes: &Codes,
+    i: Instruction,
+) -> Option<()>
+    requires top { HasLuaTop stack.old }
+    requires says { count_of (opcode_of i) (b_of i) ≡ Some 1 }
+    requires codes { HaveCode funcs.now.objects codes.now }
+    ensures returns { IfSome result (λ _. ReturnsIn stack.old stack.new funcs.now.objects codes.now i) }
+    ensures kept { IfNone result (stack.new ≡ stack.old) }
+    ensures listed { stack.new.open_cells ≡ stack.old.open_cells }
+{
+    let bare = stack.is_bare();
+    if !bare {
+        return None;
+    }
+    let register = i.a() as usize;
+    let registers = stack.registers();
+    if register >= registers.len() {
+        return None;
+    }
+    let value = value_in(registers, register);
+    let caller = caller_of(stack)?;
+    let taker = taker_of(funcs, codes, caller)?;
+    let one = wants_one(taker);
+    if !one {
+        return None;
+    }
+    stack.pop();
+    give(stack, taker, value);
+    Some(())
+}
+
+/// The value of a register that is there.
+#[inline(always)]
+fn value_in(registers: &[Value], register: usize) -> Value
+    requires { register < length registers.now }
+    ensures { slice_get registers.now register ≡ Some result }
+{
+    registers[register]
+}
+
+/// Whether one value is wanted.
+#[inline(always)]
+fn wants_one(taker: Taker) -> bool
+    ensures { result ≡ true → taker.count ≡ 1 }
+{
+    taker.count == 1
+}
+
+/// The Lua frame on top gets the one value that it wants, and runs on.
+#[inline(always)]
+fn give(stack: &mut Stack, wants: Taker, value: Value)
+    requires one { wants.count ≡ 1 }
+    requires room { HasKept stack.old (wants.register + wants.count) }
+    ensures { TopBecomes stack.old stack.new (λ f t. taken wants (f value) (f Nil) t) }
+{
+    stack.set(wants.register, value);
+    stack.set_wait(Wait::Running);
+    stack.set_pc(wants.to);
 }
 
 /// How many values an instruction returns, where it says so.

@@ -1,24 +1,30 @@
-use Rattle.std.proofs.Common.{◌≡◌, ap, sym, subst, ◌∙◌}
+use Rattle.std.proofs.Common.{◌≡◌, sym, subst, ◌∙◌}
+use Rattle.std.specs.Prelude.{IfNone, IfSome}
 use Rattle.std.proofs.lemmas.Option.{IfSome_then}
 use Rattle.lua_stack.specs.Frames.{HasLuaTop, KeptStack}
 use Rattle.running_frame.specs.Returning.{ReturnsIn}
 use Rattle.running_frame.proofs.Takers.{none_then}
 use Rattle.running_frame.proofs.crossing.return_at.Goals as goal
 
-pub return_from-requires-clause-top : goal.return_from-requires-clause-top
-return_from-requires-clause-top c = subst HasLuaTop (sym c.closed_from-closed.ensures.kept) c.requires.top
+pub returns-in-Some-clause-returns : goal.returns-in-Some-clause-returns
+returns-in-Some-clause-returns c =
+    subst (λ o. IfSome o (λ _. ReturnsIn c.args.stack.now c.return_one.new.stack c.args.funcs.now.objects c.args.codes.now c.args.i)) c.in-Some.is c.return_one.ensures.returns
 
-pub return_from-requires-clause-closed : goal.return_from-requires-clause-closed
-return_from-requires-clause-closed c = c.closed_from-closed.ensures.closed
+pub return_otherwise-requires-clause-top : goal.return_otherwise-requires-clause-top
+return_otherwise-requires-clause-top c =
+    let k = subst (λ o. IfNone o (c.return_one.new.stack ≡ c.args.stack.now)) c.in-None.is c.return_one.ensures.kept in
+    subst HasLuaTop (sym k) c.requires.top
 
-pub returns-clause-returns : goal.returns-clause-returns
-returns-clause-returns c =
-    IfSome_then c.return_from.result c.return_from.ensures.returns
-    (λ o x. subst (λ (s : KeptStack). ReturnsIn s c.return_from.new.stack c.args.funcs.now.objects c.args.codes.now c.args.i) c.closed_from-closed.ensures.kept x)
+pub returns-in-None-clause-returns : goal.returns-in-None-clause-returns
+returns-in-None-clause-returns c =
+    let k = subst (λ o. IfNone o (c.return_one.new.stack ≡ c.args.stack.now)) c.in-None.is c.return_one.ensures.kept in
+    IfSome_then c.return_otherwise.result c.return_otherwise.ensures.returns
+    (λ o x. subst (λ (s : KeptStack). ReturnsIn s c.return_otherwise.new.stack c.args.funcs.now.objects c.args.codes.now c.args.i) k x)
 
-pub returns-clause-kept : goal.returns-clause-kept
-returns-clause-kept c =
-    none_then c.return_from.result (λ (e : c.return_from.new.stack ≡ c.closed_from-closed.new.stack). e ∙ c.closed_from-closed.ensures.kept) c.return_from.ensures.kept
+pub returns-in-None-clause-kept : goal.returns-in-None-clause-kept
+returns-in-None-clause-kept c =
+    let k = subst (λ o. IfNone o (c.return_one.new.stack ≡ c.args.stack.now)) c.in-None.is c.return_one.ensures.kept in
+    none_then c.return_otherwise.result (λ (e : c.return_otherwise.new.stack ≡ c.return_one.new.stack). e ∙ k) c.return_otherwise.ensures.kept
 
-pub returns-clause-listed : goal.returns-clause-listed
-returns-clause-listed c = c.return_from.ensures.listed ∙ ap (λ (s : KeptStack). s.open_cells) c.closed_from-closed.ensures.kept
+pub returns-in-None-clause-listed : goal.returns-in-None-clause-listed
+returns-in-None-clause-listed c = c.return_otherwise.ensures.listed ∙ c.return_one.ensures.listed

@@ -3,7 +3,7 @@ use Rattle.code_core.specs.Instruction.{b_of, opcode_of}
 use Rattle.running_frame.proofs.Calls.{said_counts}
 use Rattle.running_frame.proofs.crossing.return_one.Goals as goal
 
-pub return_counted-requires-clause-says : goal.return_counted-requires-clause-says
-return_counted-requires-clause-says c =
+pub return_single-requires-clause-says : goal.return_single-requires-clause-says
+return_single-requires-clause-says c =
     let one : c.in_ok-count.count ≡ 1 = search rules in
     said_counts (opcode_of c.args.i) (b_of c.args.i) 1 (sym c.in_ok-count.ensures ∙ ap (λ n. Some n) one)
