@@ -16,7 +16,7 @@ ghost use Rattle.running_frame.specs.Upvalues.{GoesOver, ListsOpen, RunsOver};
 
 use crate::calling::{call_function, is_call, one_less};
 use crate::place::{Here, here_at, is_none};
-use crate::returning::{return_single, return_values};
+use crate::returning::{return_none, return_single, return_values};
 use crate::spreading::spread;
 use crate::stack::{Stop, closed_from, run_round};
 use crate::storing::store_at;
@@ -449,7 +449,7 @@ fn return_at(stack: &mut Stack, funcs: &Pool<Func>, codes: &Codes, i: Instructio
     }
 }
 
-/// A RETURN of one value to a frame that wants one: a path of its own.
+/// A RETURN of one value to a frame that wants one, or of none: paths of their own.
 #[inline(always)]
 fn return_one(stack: &mut Stack, funcs: &Pool<Func>, codes: &Codes, i: Instruction) -> Option<()>
     requires top { HasLuaTop stack.old }
@@ -461,6 +461,9 @@ fn return_one(stack: &mut Stack, funcs: &Pool<Func>, codes: &Codes, i: Instructi
     let count = count_said(i)?;
     if count == 1 {
         return return_single(stack, funcs, codes, i);
+    }
+    if count == 0 {
+        return return_none(stack, funcs, codes, i);
     }
     None
 }

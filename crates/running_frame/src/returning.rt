@@ -119,6 +119,28 @@ pub(crate) fn return_single(
     Some(())
 }
 
+/// The return of nothing from a frame of which nothing is open or to be closed, as most functions end that are called for what they do.
+#[inline(always)]
+pub(crate) fn return_none(
+    stack: &mut Stack,
+    funcs: &Pool<Func>,
+    codes: &Codes,
+    i: Instruction,
+) -> Option<()>
+    requires top { HasLuaTop stack.old }
+    requires says { count_of (opcode_of i) (b_of i) ≡ Some 0 }
+    requires codes { HaveCode funcs.now.objects codes.now }
+    ensures returns { IfSome result (λ _. ReturnsIn stack.old stack.new funcs.now.objects codes.now i) }
+    ensures kept { IfNone result (stack.new ≡ stack.old) }
+    ensures listed { stack.new.open_cells ≡ stack.old.open_cells }
+{
+    let bare = stack.is_bare();
+    if !bare {
+        return None;
+    }
+    return_counted(stack, funcs, codes, i, 0, Some(0))
+}
+
 /// The value of a register that is there.
 #[inline(always)]
 fn value_in(registers: &[Value], register: usize) -> Value

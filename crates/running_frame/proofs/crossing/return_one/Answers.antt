@@ -7,3 +7,8 @@ pub return_single-requires-clause-says : goal.return_single-requires-clause-says
 return_single-requires-clause-says c =
     let one : c.in_ok-count.count ≡ 1 = search rules in
     said_counts (opcode_of c.args.i) (b_of c.args.i) 1 (sym c.in_ok-count.ensures ∙ ap (λ n. Some n) one)
+
+pub return_none-requires-clause-says : goal.return_none-requires-clause-says
+return_none-requires-clause-says c =
+    let nothing : c.in_ok-count.count ≡ 0 = search rules in
+    said_counts (opcode_of c.args.i) (b_of c.args.i) 0 (sym c.in_ok-count.ensures ∙ ap (λ n. Some n) nothing)
