@@ -200,7 +200,9 @@ fn run_and_cross(
     ensures opened { AreOpenAlike cells.old.objects cells.new.objects }
     ensures listed { stack.new.open_cells ≡ stack.old.open_cells }
 {
-    let at = run_round(stack, closure, strings, tables, cells, budget, memo, start);
+    let at = run_round(
+        stack, closure, strings, tables, cells, budget, co, memo, start,
+    );
     match read_once(stack, closure, cells, co, again, at) {
         Some(_) => Some(true),
         None => leave_over(
@@ -218,8 +220,8 @@ fn run_and_cross(
     }
 }
 
-/// A GETUPVAL of a variable of a frame below, where the frame has read none since it came on top: one that reads more of them goes on where their values are
-/// remembered.
+/// One more GETUPVAL of a variable of a frame below, where there was none such since the frame came on top: one that reads more of them goes on where their values
+/// are remembered.
 #[inline(always)]
 fn read_once(
     stack: &mut Stack,

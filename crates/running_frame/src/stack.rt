@@ -283,12 +283,46 @@ fn run_round_apart(
     ensures opened { AreOpenAlike cells.old.objects cells.new.objects }
     ensures listed { stack.new.open_cells ≡ stack.old.open_cells }
 {
-    run_round(stack, closure, strings, tables, cells, budget, memo, start)
+    run_once(stack, closure, strings, tables, cells, budget, memo, start)
+}
+
+/// Some rounds of that loop: after a GETUPVAL of a variable of a frame below, which is read between two of them, the frame goes on. One that reads many goes on
+/// where their values are remembered, so a few rounds do.
+#[inline(always)]
+pub(crate) fn run_round(
+    stack: &mut Stack,
+    closure: Closure,
+    strings: &Strings,
+    tables: &mut Pool<Table>,
+    cells: &mut Pool<Cell>,
+    budget: &mut u64,
+    co: CoroId,
+    memo: &Memo,
+    start: usize,
+) -> usize
+    ghost g: { Running }
+    requires runs { RunsAt g (code closure strings.now) stack.old tables.old.objects cells.old.objects budget.old start }
+    requires known { AllHold g.around closure.upvalues.now cells.old.objects memo.now }
+    requires own { co.0 ≡ g.around.context.coroutine }
+    ensures reaches { Reaches g.around.rows (standing g stack.old tables.old.objects cells.old.objects budget.old) (standing g stack.new tables.new.objects cells.new.objects budget.new) }
+    ensures runs { RunsAt g (code closure.entry strings.now) stack.new tables.new.objects cells.new.objects budget.new result }
+    ensures opened { AreOpenAlike cells.old.objects cells.new.objects }
+    ensures listed { stack.new.open_cells ≡ stack.old.open_cells }
+{
+    let mut pc = start;
+    for _ in 0..4 {
+        let at = run_once(stack, closure, strings, tables, cells, budget, memo, pc);
+        let Some(to) = read_open(stack, closure, cells, co, at) else {
+            return at;
+        };
+        pc = to;
+    }
+    pc
 }
 
 /// One round of that loop. It needs no limit: between two units of the budget a frame goes ahead in its code. The loop becomes part of whoever calls this.
 #[inline(always)]
-pub(crate) fn run_round(
+fn run_once(
     stack: &mut Stack,
     closure: Closure,
     strings: &Strings,

@@ -13,7 +13,7 @@ use Rattle.running_frame.proofs.Remembered.{nothing_holds}
 use Rattle.running_frame.proofs.crossing.run_and_cross.Goals as goal
 
 pub run_round-at-requires : goal.run_round-at-requires
-run_round-at-requires g c = (c.requires.0, nothing_holds g.g.around c.args.closure.upvalues.now c.args.cells.now.objects c.args.memo.now c.requires.1.1.1.1)
+run_round-at-requires g c = (c.requires.0, (nothing_holds g.g.around c.args.closure.upvalues.now c.args.cells.now.objects c.args.memo.now c.requires.1.1.1.1, c.requires.1.1.1.0))
 
 pub read_once-requires : goal.read_once-requires
 read_once-requires g c =

@@ -1,25 +1,65 @@
-use Rattle.std.proofs.Common.{sym}
-use Rattle.lua_heap.specs.Reading.{value}
-use Rattle.running_frame.proofs.OnStack.{loop_ready, round_reaches, round_runs, stays_so}
+use Rattle.std.proofs.Common.{◌≡◌, refl, ap, sym, subst, ◌∙◌, rules}
+use Rattle.machine_arms_tables.specs.Frame.{code}
+use Rattle.machine_focus.specs.Focus.{Reaches}
+use Rattle.lua_stack.specs.Frames.{KeptStack}
+use Rattle.machine_loop.proofs.Recalled.{still_hold}
+use Rattle.running_frame.specs.Inheriting.{GoesWith}
+use Rattle.running_frame.specs.Standing.{RunsAt, standing}
+use Rattle.running_frame.proofs.Chained.{reaches_none, reaches_then}
+use Rattle.running_frame.proofs.FoundFields.{over_goes}
 use Rattle.running_frame.proofs.stack.run_round.Goals as goal
 
-pub run_frame-pc-requires : goal.run_frame-pc-requires
-run_frame-pc-requires g c =
-    let x = c.requires.0 in
-    let m = x.may in
-    let v = value g.g.around.texts in
-    let below = g.g.around.context.below in
-    (loop_ready g.g _ _ _ _ _ m c.registers_mut-registers.result.now c.args.start x.runs (sym x.at_pc) (c.registers_mut-registers.ensures.registers v below m.top m.is), c.requires.1)
+pub loop-init : goal.loop-init
+loop-init g c = record {
+  reaches = reaches_none g.g.around.rows (standing g.g c.args.stack.now c.args.tables.now.objects c.args.cells.now.objects c.args.budget.now);
+  runs = c.requires.0;
+  opened = refl;
+  listed = refl;
+}
 
-pub set_pc-requires : goal.set_pc-requires
-set_pc-requires g c = stays_so c.requires.0 c.registers_mut-registers.result.now c.run_frame-pc.new.registers c.registers_mut-registers.ensures.registers c.run_frame-pc.auto.registers
+pub run_once-at-requires : goal.run_once-at-requires
+run_once-at-requires g c =
+    (c.loop.invariant.runs, still_hold g.g.around c.args.closure.upvalues.now c.args.cells.now.objects c.loop.cells.objects c.loop.invariant.opened c.args.memo.now c.requires.1.0)
 
-pub returns-clause-reaches : goal.returns-clause-reaches
-returns-clause-reaches g c =
-    round_reaches c.requires.0 c.registers_mut-registers.result.now c.run_frame-pc.new.registers c.registers_mut-registers.ensures.registers c.run_frame-pc.auto.registers
-    c.set_pc.new.self c.run_frame-pc.new.tables.objects c.run_frame-pc.new.cells.objects c.run_frame-pc.result c.run_frame-pc.new.fuel c.set_pc.ensures c.run_frame-pc.ensures.runs
+pub read_open-requires : goal.read_open-requires
+read_open-requires g c =
+    let x = c.run_once-at.ensures.runs in (
+      record {
+        tables = c.run_once-at.new.tables.objects;
+        fuel = c.run_once-at.new.budget;
+        runs = subst (λ texts. RunsAt g.g (code c.args.closure texts) c.run_once-at.new.stack c.run_once-at.new.tables.objects c.run_once-at.new.cells.objects c.run_once-at.new.budget c.run_once-at.result) (sym x.may.closure.texts_are) x;
+      },
+      c.requires.1.1,
+    )
 
-pub returns-clause-runs : goal.returns-clause-runs
-returns-clause-runs g c =
-    round_runs c.requires.0 c.registers_mut-registers.result.now c.run_frame-pc.new.registers c.registers_mut-registers.ensures.registers c.run_frame-pc.auto.registers
-    c.set_pc.new.self c.run_frame-pc.new.tables.objects c.run_frame-pc.new.cells.objects c.run_frame-pc.result c.run_frame-pc.new.fuel c.set_pc.ensures c.run_frame-pc.ensures.ready c.run_frame-pc.ensures.opened
+pub returns-in_default-clause-reaches : goal.returns-in_default-clause-reaches
+returns-in_default-clause-reaches g c =
+    let kept : c.read_open.new.stack ≡ c.run_once-at.new.stack = search rules in
+    subst (λ (s : KeptStack). Reaches g.g.around.rows (standing g.g c.args.stack.now c.args.tables.now.objects c.args.cells.now.objects c.args.budget.now) (standing g.g s c.run_once-at.new.tables.objects c.run_once-at.new.cells.objects c.run_once-at.new.budget))
+    (sym kept) (reaches_then g.g.around.rows c.loop.invariant.reaches c.run_once-at.ensures.reaches)
+
+pub returns-in_default-clause-runs : goal.returns-in_default-clause-runs
+returns-in_default-clause-runs g c =
+    let kept : c.read_open.new.stack ≡ c.run_once-at.new.stack = search rules in
+    subst (λ (s : KeptStack). RunsAt g.g (code c.args.closure c.args.strings.now) s c.run_once-at.new.tables.objects c.run_once-at.new.cells.objects c.run_once-at.new.budget c.run_once-at.result) (sym kept) c.run_once-at.ensures.runs
+
+pub returns-in_default-clause-opened : goal.returns-in_default-clause-opened
+returns-in_default-clause-opened g c = c.loop.invariant.opened ∙ c.run_once-at.ensures.opened
+
+pub returns-in_default-clause-listed : goal.returns-in_default-clause-listed
+returns-in_default-clause-listed g c =
+    let kept : c.read_open.new.stack ≡ c.run_once-at.new.stack = search rules in
+    ap (λ (s : KeptStack). s.open_cells) kept ∙ c.run_once-at.ensures.listed ∙ c.loop.invariant.listed
+
+pub loop-preserved : goal.loop-preserved
+loop-preserved g c =
+    let r = c.run_once-at.ensures in
+    let fuel = c.run_once-at.new.budget in
+    let o : GoesWith g.g (code c.args.closure c.args.strings.now) c.run_once-at.new.stack c.read_open.new.stack c.run_once-at.new.tables.objects c.run_once-at.new.cells.objects c.run_once-at.result c.in-Some.to =
+    over_goes r.runs.may.closure.texts_are c.in-Some.ensures.goes in
+    record {
+      reaches = reaches_then g.g.around.rows (reaches_then g.g.around.rows c.loop.invariant.reaches r.reaches) (o.reaches fuel r.runs);
+      runs = o.runs fuel r.runs;
+      opened = c.loop.invariant.opened ∙ r.opened;
+      listed = o.listed ∙ r.listed ∙ c.loop.invariant.listed;
+    }

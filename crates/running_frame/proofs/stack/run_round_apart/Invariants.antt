@@ -1,4 +1,4 @@
 use Rattle.running_frame.proofs.stack.run_round_apart.Given as goal
 
-abbrev pub ghost-run_round : goal.ghost-run_round
-ghost-run_round g a = g.g
+abbrev pub ghost-run_once : goal.ghost-run_once
+ghost-run_once g a = g.g
