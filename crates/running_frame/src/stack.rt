@@ -20,6 +20,9 @@ use machine_loop::{Memo, run_frame};
 use object_pool::Pool;
 use table_core::{CoroId, Table, TableId};
 
+/// How many variables of frames below a frame reads one by one, before their values are remembered.
+const READS: u64 = 4;
+
 /// Where the frame on top stops, and from which register on nothing of it is open or to be closed, where that is known.
 #[derive(Clone, Copy, Debug)]
 pub(crate) struct Stop {
@@ -310,7 +313,7 @@ pub(crate) fn run_round(
     ensures listed { stack.new.open_cells ≡ stack.old.open_cells }
 {
     let mut pc = start;
-    for _ in 0..4 {
+    for _ in 0..READS {
         let at = run_once(stack, closure, strings, tables, cells, budget, memo, pc);
         let Some(to) = read_open(stack, closure, cells, co, at) else {
             return at;
