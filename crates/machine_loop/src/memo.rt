@@ -136,8 +136,20 @@ pub(crate) fn read_known(
     ensures kept { IfNone result (registers.new ≡ registers.old) }
 {
     let i = fetch(closure.words, pc);
+    if is_empty(memo) {
+        return None;
+    }
     match i.opcode() {
         Some(Opcode::GetUpval) => read_value(closure, registers, memo, i, pc),
         _ => None,
+    }
+}
+
+/// Whether no value is known, as most often: then nothing is called for it.
+#[inline(always)]
+fn is_empty(memo: &Memo) -> bool {
+    match memo.first {
+        None => true,
+        Some(_) => false,
     }
 }
