@@ -52,6 +52,7 @@ impl Stack {
     }
 
     /// Takes the frame on top away, once its cells are closed.
+    #[inline]
     pub fn pop(&mut self)
         requires there { 0 < length self.old.frames }
         requires closed { OnTop self.old (λ f t. NoneFrom self.old 0) }
