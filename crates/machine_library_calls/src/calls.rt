@@ -1,5 +1,5 @@
 // Calls of functions that look at values and tables alone (OP_CALL and OP_TFORCALL of lvm.c).
-ghost use Rattle.std.specs.Prelude.{◌≡◌, ◌-◌, [], IfNone, IfOk, IfSome, OnErr, length};
+ghost use Rattle.std.specs.Prelude.{◌≡◌, ◌-◌, [], IfNone, IfOk, IfSome, OnErr, OnOk, length};
 ghost use Rattle.instruction_forms.specs.declared.form.Form.TheVariants.{Call};
 ghost use Rattle.lib_base.specs.Functions.{function_row};
 ghost use Rattle.library_rows.specs.Library.{all_entries};
@@ -25,6 +25,7 @@ use machine_moves::Ending;
 use machine_primitives::library_function;
 use running_frame::Here;
 use std::alloc::AllocError;
+use table_core::Value;
 
 /// A call, as its instruction tells it: the register of what is called, one more than the number of the arguments after it or 0 for those up to the end of
 /// the open list, the register from which on the frame gives its registers up, and whether an iterator is called.
@@ -133,13 +134,22 @@ fn call_now(
     }
 }
 
-/// The arguments of a call move, and the primitive is called in the next step. A refusal changes nothing.
+/// The arguments of a call move, in the place of what moved before, and the primitive is called in the next step. After a refusal nothing moves.
 pub(crate) fn call_later(world: &mut World, called: &PrimitiveCall) -> Result<Ending, AllocError>
     ensures later { IfOk result (λ ending. (ending_of ending ≡ calls_primitive called.now.number) × (world.new.moving.items ≡ called.now.arguments)) }
     ensures rest { world.new ≡ record world.old { moving = world.new.moving } }
-    ensures err { OnErr result (world.new ≡ world.old) }
+    ensures err { OnErr result (world.new.moving.items ≡ []) }
 {
-    let sent = called.arguments.as_slice().to_vec(world.alloc)?;
-    world.moving = sent;
+    replace_with(&mut world.moving, called.arguments.as_slice())?;
     Ok(Ending::CallsPrimitive(called.number))
+}
+
+/// Puts other values into a list, in the memory that it has where they fit. After a refusal it is empty.
+fn replace_with(list: &mut Vec<Value>, values: &[Value]) -> Result<(), AllocError>
+    ensures ok { OnOk result (list.new.items ≡ values.now) }
+    ensures err { OnErr result (list.new.items ≡ []) }
+{
+    list.clear();
+    list.extend_from_slice(values)?;
+    Ok(())
 }
