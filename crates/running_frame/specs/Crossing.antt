@@ -20,7 +20,7 @@ use Rattle.step_laws.specs.Steps.{IsReady}
 use Rattle.running_frame.specs.Spreading.{CrossesOver}
 use Rattle.running_frame.specs.Storing.{StoresOpen}
 
--- the word at a place of the code is a call, a return, or a store to a variable of a frame below, and that is done
+-- the word at a place of the code is a call, a return, a VARARG, or a store to a variable of a frame below, and that is done
 pub record LeavesFrame (co : ℕ) (upvalues : List CellId) (words : List Instruction) (s u : KeptStack) (cells : List Cell) (size : ℕ) (funcs : List Func) (codes : Codes) (pc fuel left : ℕ) : Type 0 where
   pub word : Instruction
   pub at_pc : slice_get words pc ≡ Some word

@@ -71,6 +71,9 @@ fn is_left(here: Here) -> bool {
     }
     match here.word.opcode() {
         Some(Opcode::Call) => true,
+        Some(Opcode::TailCall) => true,
+        Some(Opcode::TForCall) => true,
+        Some(Opcode::VarArg) => true,
         Some(Opcode::Return) => true,
         Some(Opcode::Return0) => true,
         Some(Opcode::Return1) => true,

@@ -10,14 +10,14 @@ ghost use Rattle.running_frame.specs.Calling.{AreFunctions, CallsIn, HaveCode};
 ghost use Rattle.running_frame.specs.Crossing.{Ground, LeavesFrame, MayCross, runs_on, world_with};
 ghost use Rattle.running_frame.specs.Remembering.{KnowsNothing};
 ghost use Rattle.running_frame.specs.Returning.{CallsOrReturns, ReturnsIn, said_of};
-ghost use Rattle.running_frame.specs.Spreading.{CrossesOver, Spreads};
+ghost use Rattle.running_frame.specs.Spreading.{CrossesOver};
 ghost use Rattle.running_frame.specs.Standing.{MayRun, RunsAt, standing};
 ghost use Rattle.running_frame.specs.Upvalues.{GoesOver, ListsOpen, RunsOver};
 
 use crate::calling::{call_function, is_call, one_less};
+use crate::frames::cross;
 use crate::place::{Here, here_at, is_none};
 use crate::returning::{return_none, return_single, return_values};
-use crate::spreading::spread;
 use crate::stack::{Stop, closed_from, run_round};
 use crate::storing::store_at;
 use crate::upvalues::read_open;
@@ -273,7 +273,7 @@ fn leave_over(
     }
 }
 
-/// A call, a return or a store to a variable of a frame below, at which the frame on top stands. `None`, with all as before, at any other instruction, and where
+/// A call, a return, a VARARG or a store to a variable of a frame below, at which the frame on top stands. `None`, with all as before, at any other instruction, and where
 /// it takes more than the stack.
 #[inline(always)]
 fn leave_frame(
@@ -303,7 +303,7 @@ fn leave_frame(
     }
 }
 
-/// A call or a return.
+/// A call, a return or a VARARG.
 #[inline(always)]
 fn cross_over_at(
     stack: &mut Stack,
@@ -323,13 +323,13 @@ fn cross_over_at(
 {
     match cross_at(stack, size, funcs, codes, budget, i) {
         Some(()) => Some(()),
-        None => spread_at(stack, size, funcs, codes, words, budget, pc, i),
+        None => cross_otherwise(stack, size, funcs, codes, words, budget, pc, i),
     }
 }
 
-/// A call with an open list, or a return that opens one. The opcode is looked at here, so that at all other instructions nothing is called.
+/// One that `cross_at` does not do. The opcode is looked at here, so that at all other instructions nothing is called.
 #[inline(always)]
-fn spread_at(
+fn cross_otherwise(
     stack: &mut Stack,
     size: usize,
     funcs: &Pool<Func>,
@@ -341,19 +341,19 @@ fn spread_at(
 ) -> Option<()>
     requires top { HasLuaTop stack.old }
     requires codes { HaveCode funcs.now.objects codes.now }
-    ensures spreads { IfSome result (λ _. Spreads stack.old stack.new size funcs.now.objects codes.now words.now pc i budget.old budget.new) }
+    ensures crosses { IfSome result (λ _. CrossesOver stack.old stack.new size funcs.now.objects codes.now words.now pc i budget.old budget.new) }
     ensures kept { IfNone result ((stack.new ≡ stack.old) × (budget.new ≡ budget.old)) }
     ensures listed { stack.new.open_cells ≡ stack.old.open_cells }
 {
-    if !may_spread(i) {
+    if !may_cross(i) {
         return None;
     }
-    spread_there(stack, size, funcs, codes, words, budget, pc, i)
+    cross_there(stack, size, funcs, codes, words, budget, pc, i)
 }
 
 /// Does so.
 #[inline(never)]
-fn spread_there(
+fn cross_there(
     stack: &mut Stack,
     size: usize,
     funcs: &Pool<Func>,
@@ -365,7 +365,7 @@ fn spread_there(
 ) -> Option<()>
     requires top { HasLuaTop stack.old }
     requires codes { HaveCode funcs.now.objects codes.now }
-    ensures spreads { IfSome result (λ _. Spreads stack.old stack.new size funcs.now.objects codes.now words.now pc i budget.old budget.new) }
+    ensures crosses { IfSome result (λ _. CrossesOver stack.old stack.new size funcs.now.objects codes.now words.now pc i budget.old budget.new) }
     ensures kept { IfNone result ((stack.new ≡ stack.old) × (budget.new ≡ budget.old)) }
     ensures listed { stack.new.open_cells ≡ stack.old.open_cells }
 {
@@ -378,15 +378,17 @@ fn spread_there(
         },
         closed,
     };
-    spread(stack, size, funcs, codes, words, budget, stop)
+    cross(stack, size, funcs, codes, words, budget, stop)
 }
 
-/// Whether an instruction may be one of these.
+/// Whether an instruction may be one of these: a call with an open list, of an iterator or in place of the frame, a VARARG, or a return, which may open a list.
 #[inline(always)]
-fn may_spread(i: Instruction) -> bool {
+fn may_cross(i: Instruction) -> bool {
     match i.opcode() {
         Some(Opcode::Call) => i.b() == 0,
-        Some(Opcode::TailCall) => i.b() == 0,
+        Some(Opcode::TailCall) => true,
+        Some(Opcode::TForCall) => true,
+        Some(Opcode::VarArg) => true,
         _ => is_return(i),
     }
 }

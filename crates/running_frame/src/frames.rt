@@ -226,7 +226,7 @@ fn store(
 }
 
 /// Calls a function, returns to a frame below, or writes extra arguments, where this changes nothing but the stack.
-fn cross(
+pub(crate) fn cross(
     stack: &mut Stack,
     size: usize,
     funcs: &Pool<Func>,
