@@ -117,6 +117,7 @@ fn cross_running(world: &mut World, budget: &mut u64)
             &mut world.tables,
             &mut world.cells,
             budget,
+            world.string_meta,
         ),
         _ => unreachable!(),
     }

@@ -8,6 +8,7 @@ ghost use Rattle.machine_focus.specs.Focus.{Reaches};
 ghost use Rattle.machine_loop.specs.Running.{Running};
 ghost use Rattle.running_frame.specs.Calling.{AreFunctions, CallsIn, HaveCode};
 ghost use Rattle.running_frame.specs.Crossing.{Ground, LeavesFrame, MayCross, runs_on, world_with};
+ghost use Rattle.running_frame.specs.Inheriting.{metatable_number};
 ghost use Rattle.running_frame.specs.Remembering.{KnowsNothing};
 ghost use Rattle.running_frame.specs.Returning.{CallsOrReturns, ReturnsIn, said_of};
 ghost use Rattle.running_frame.specs.Spreading.{CrossesOver};
@@ -16,6 +17,7 @@ ghost use Rattle.running_frame.specs.Upvalues.{GoesOver, ListsOpen, RunsOver};
 
 use crate::calling::{call_function, is_call, one_less};
 use crate::frames::cross;
+use crate::inherited::read_inherited;
 use crate::place::{Here, here_at, is_none};
 use crate::returning::{return_none, return_single, return_values};
 use crate::stack::{Stop, closed_from, run_round};
@@ -28,7 +30,7 @@ use lua_stack::Stack;
 use machine_arms_tables::Closure;
 use machine_loop::Memo;
 use object_pool::Pool;
-use table_core::{CellId, CoroId, Table};
+use table_core::{CellId, CoroId, Table, TableId};
 
 /// Goes from frame to frame of a stack, as long as each stops at a call or a return that takes no more than the stack. A function of its own, so that what frames
 /// want over and over stays at hand. That nothing is known of variables in frames below is said once for all frames.
@@ -42,10 +44,12 @@ pub(crate) fn cross_stack(
     tables: &mut Pool<Table>,
     cells: &mut Pool<Cell>,
     budget: &mut u64,
+    string_meta: Option<TableId>,
 )
     ghost outside: { Ground }
     requires may { MayCross outside (world_with outside stack.old strings.now funcs.now codes.now tables.old cells.old) stack.old }
     requires own { co ≡ runs_on outside }
+    requires meta { string_meta ≡ outside.world.string_meta }
     ensures reaches { Reaches outside.rows (plain (world_with outside stack.old strings.now funcs.now codes.now tables.old cells.old) budget.old) (plain (world_with outside stack.new strings.now funcs.now codes.now tables.new cells.new) budget.new) }
     ensures may { MayCross outside (world_with outside stack.new strings.now funcs.now codes.now tables.new cells.new) stack.new }
 {
@@ -55,7 +59,16 @@ pub(crate) fn cross_stack(
         third: None,
     };
     cross_all(
-        stack, co, strings, funcs, codes, tables, cells, &memo, budget,
+        stack,
+        co,
+        strings,
+        funcs,
+        codes,
+        tables,
+        cells,
+        &memo,
+        budget,
+        string_meta,
     );
 }
 
@@ -71,18 +84,30 @@ fn cross_all(
     cells: &mut Pool<Cell>,
     memo: &Memo,
     budget: &mut u64,
+    string_meta: Option<TableId>,
 )
     ghost outside: { Ground }
     requires may { MayCross outside (world_with outside stack.old strings.now funcs.now codes.now tables.old cells.old) stack.old }
     requires own { co ≡ runs_on outside }
     requires nothing { KnowsNothing memo.now }
+    requires meta { string_meta ≡ outside.world.string_meta }
     ensures reaches { Reaches outside.rows (plain (world_with outside stack.old strings.now funcs.now codes.now tables.old cells.old) budget.old) (plain (world_with outside stack.new strings.now funcs.now codes.now tables.new cells.new) budget.new) }
     ensures may { MayCross outside (world_with outside stack.new strings.now funcs.now codes.now tables.new cells.new) stack.new }
 {
     let mut again = false;
     for _ in 0..u64::MAX {
         let Some(was_read) = cross_next(
-            stack, co, strings, funcs, codes, tables, cells, memo, budget, again,
+            stack,
+            co,
+            strings,
+            funcs,
+            codes,
+            tables,
+            cells,
+            memo,
+            budget,
+            string_meta,
+            again,
         ) else {
             return;
         };
@@ -103,12 +128,14 @@ fn cross_next(
     cells: &mut Pool<Cell>,
     memo: &Memo,
     budget: &mut u64,
+    string_meta: Option<TableId>,
     again: bool,
 ) -> Option<bool>
     ghost outside: { Ground }
     requires may { MayCross outside (world_with outside stack.old strings.now funcs.now codes.now tables.old cells.old) stack.old }
     requires own { co ≡ runs_on outside }
     requires nothing { KnowsNothing memo.now }
+    requires meta { string_meta ≡ outside.world.string_meta }
     ensures reaches { Reaches outside.rows (plain (world_with outside stack.old strings.now funcs.now codes.now tables.old cells.old) budget.old) (plain (world_with outside stack.new strings.now funcs.now codes.now tables.new cells.new) budget.new) }
     ensures may { MayCross outside (world_with outside stack.new strings.now funcs.now codes.now tables.new cells.new) stack.new }
 {
@@ -133,6 +160,7 @@ fn cross_next(
         budget,
         co,
         memo,
+        string_meta,
         again,
     )
 }
@@ -151,6 +179,7 @@ fn cross_frame(
     budget: &mut u64,
     co: CoroId,
     memo: &Memo,
+    string_meta: Option<TableId>,
     again: bool,
 ) -> Option<bool>
     ghost g: { Running }
@@ -159,6 +188,7 @@ fn cross_frame(
     requires size { size ≡ g.around.context.closure.code.own.stack }
     requires own { co.0 ≡ g.around.context.coroutine }
     requires nothing { KnowsNothing memo.now }
+    requires meta { metatable_number string_meta ≡ g.string_metatable }
     ensures reaches { Reaches g.around.rows (standing g stack.old tables.old.objects cells.old.objects budget.old) (standing g stack.new tables.new.objects cells.new.objects budget.new) }
     ensures opened { AreOpenAlike cells.old.objects cells.new.objects }
     ensures listed { stack.new.open_cells ≡ stack.old.open_cells }
@@ -169,7 +199,20 @@ fn cross_frame(
         return None;
     }
     run_and_cross(
-        stack, closure, size, strings, funcs, codes, tables, cells, budget, co, memo, again, start,
+        stack,
+        closure,
+        size,
+        strings,
+        funcs,
+        codes,
+        tables,
+        cells,
+        budget,
+        co,
+        memo,
+        string_meta,
+        again,
+        start,
     )
 }
 
@@ -187,6 +230,7 @@ fn run_and_cross(
     budget: &mut u64,
     co: CoroId,
     memo: &Memo,
+    string_meta: Option<TableId>,
     again: bool,
     start: usize,
 ) -> Option<bool>
@@ -196,6 +240,7 @@ fn run_and_cross(
     requires size { size ≡ g.around.context.closure.code.own.stack }
     requires own { co.0 ≡ g.around.context.coroutine }
     requires nothing { KnowsNothing memo.now }
+    requires meta { metatable_number string_meta ≡ g.string_metatable }
     ensures reaches { Reaches g.around.rows (standing g stack.old tables.old.objects cells.old.objects budget.old) (standing g stack.new tables.new.objects cells.new.objects budget.new) }
     ensures opened { AreOpenAlike cells.old.objects cells.new.objects }
     ensures listed { stack.new.open_cells ≡ stack.old.open_cells }
@@ -205,6 +250,53 @@ fn run_and_cross(
     );
     match read_once(stack, closure, cells, co, again, at) {
         Some(_) => Some(true),
+        None => leave_or_read(
+            stack,
+            closure,
+            size,
+            strings,
+            funcs,
+            codes,
+            tables,
+            cells,
+            budget,
+            co,
+            string_meta,
+            again,
+            at,
+        ),
+    }
+}
+
+/// Reads a field that handlers of `__index` lead to without a call, as a method of a string, or leaves the frame. Told is whether it has read a variable of a frame
+/// below already.
+#[inline(always)]
+fn leave_or_read(
+    stack: &mut Stack,
+    closure: Closure,
+    size: usize,
+    strings: &Strings,
+    funcs: &Pool<Func>,
+    codes: &Codes,
+    tables: &Pool<Table>,
+    cells: &Pool<Cell>,
+    budget: &mut u64,
+    co: CoroId,
+    string_meta: Option<TableId>,
+    again: bool,
+    pc: usize,
+) -> Option<bool>
+    ghost g: { Running }
+    requires runs { RunsAt g (code closure strings.now) stack.old tables.now.objects cells.now.objects budget.old pc }
+    requires functions { AreFunctions g.around.context.base.functions funcs.now.objects codes.now }
+    requires size { size ≡ g.around.context.closure.code.own.stack }
+    requires own { co.0 ≡ g.around.context.coroutine }
+    requires meta { metatable_number string_meta ≡ g.string_metatable }
+    ensures reaches { Reaches g.around.rows (standing g stack.old tables.now.objects cells.now.objects budget.old) (standing g stack.new tables.now.objects cells.now.objects budget.new) }
+    ensures listed { stack.new.open_cells ≡ stack.old.open_cells }
+{
+    match read_inherited(stack, closure, strings, tables, string_meta, pc) {
+        Some(_) => Some(again),
         None => leave_over(
             stack,
             closure.words,
@@ -215,7 +307,7 @@ fn run_and_cross(
             cells,
             budget,
             co,
-            at,
+            pc,
         ),
     }
 }

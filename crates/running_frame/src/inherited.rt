@@ -19,6 +19,7 @@ use table_core::{Table, TableId, Value};
 
 /// GETFIELD, or SELF with a constant, of a field that handlers of `__index` lead to without a call. Told is where the frame goes on. `None`, with all as before,
 /// at any other instruction, where a function is to be called, and where the field is an error. `string_meta` is the metatable that all strings share.
+#[inline(always)]
 pub(crate) fn read_inherited(
     stack: &mut Stack,
     closure: Closure,
@@ -42,6 +43,7 @@ pub(crate) fn read_inherited(
 }
 
 /// GETFIELD: R[A] := R[B][K[C]].
+#[inline(never)]
 fn get_field(
     stack: &mut Stack,
     closure: Closure,
@@ -70,6 +72,7 @@ fn get_field(
 }
 
 /// SELF: R[A + 1] := R[B]; R[A] := R[B][K[C]]. The key of a method is a constant wherever the field C has room for it.
+#[inline(never)]
 fn get_method(
     stack: &mut Stack,
     closure: Closure,

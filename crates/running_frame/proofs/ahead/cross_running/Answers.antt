@@ -1,5 +1,6 @@
-use Rattle.std.proofs.Common.{length}
+use Rattle.std.proofs.Common.{length, ap, sym}
 use Rattle.library_rows.specs.Library.{all_entries}
+use Rattle.lua_heap.specs.declared.world.World.{World as Memory}
 use Rattle.move_laws.proofs.Running.{has_stack}
 use Rattle.machine_moves.proofs.InPlace.{found}
 use Rattle.machine_moves.proofs.Stacks.{within}
@@ -18,7 +19,7 @@ get_mut-requires g c = within c.running-co.ensures
 pub cross_stack-requires : goal.cross_stack-requires
 cross_stack-requires g c =
     let r = found c.running-co.ensures c.get_mut.ensures.value c.in-Running.is in
-    (begins_so g.outside c.args.world.now c.requires c.running-co.result c.in-Running.stack r, own_co g.outside c.args.world.now c.requires c.running-co.result c.in-Running.stack r)
+    (begins_so g.outside c.args.world.now c.requires c.running-co.result c.in-Running.stack r, (own_co g.outside c.args.world.now c.requires c.running-co.result c.in-Running.stack r, sym (ap (λ (W : Memory). W.string_meta) c.requires.is)))
 
 pub returns-clause-reaches : goal.returns-clause-reaches
 returns-clause-reaches g c =

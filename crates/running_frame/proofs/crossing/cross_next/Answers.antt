@@ -1,3 +1,5 @@
+use Rattle.std.proofs.Common.{ap}
+use Rattle.running_frame.specs.Inheriting.{metatable_number}
 use Rattle.running_frame.proofs.Crossed.{code_within, func_within, functions_so, may_after, may_run_so, own_so, reaches_after, size_so, top_there}
 use Rattle.running_frame.proofs.crossing.cross_next.Goals as goal
 
@@ -26,7 +28,7 @@ cross_frame-requires g c = (
           c.get-function.result.now c.get-function.ensures c.checked_code_is_there.ensures c.get-code.result.now c.get-code.ensures,
       (
         own_so g.outside c.args.strings.now c.args.funcs.now c.args.codes.now c.args.tables.now c.args.cells.now c.args.stack.now c.requires.0 c.args.co c.requires.1.0,
-        c.requires.1.1,
+        (c.requires.1.1.0, ap metatable_number c.requires.1.1.1),
       ),
     ),
   ),

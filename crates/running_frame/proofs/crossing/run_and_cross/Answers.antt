@@ -1,19 +1,15 @@
 use Rattle.std.proofs.Common.{◌≡◌, ap, sym, subst, ◌∙◌, rules}
-use Rattle.lua_heap.specs.Reading.{value}
-use Rattle.lua_stack.specs.Frames.{HasLuaTop, KeptStack}
+use Rattle.lua_stack.specs.Frames.{KeptStack}
 use Rattle.machine_arms_tables.specs.Frame.{code}
 use Rattle.machine_focus.specs.Focus.{Reaches}
 use Rattle.running_frame.specs.Standing.{RunsAt, standing}
-use Rattle.running_frame.specs.Upvalues.{ListsOpen}
 use Rattle.running_frame.proofs.Chained.{reaches_then}
-use Rattle.running_frame.proofs.Left.{left_or_not, read_or_not}
-use Rattle.running_frame.proofs.OnStack.{place_within}
-use Rattle.running_frame.proofs.OpenRead.{lists_open}
+use Rattle.running_frame.proofs.Left.{read_or_not}
 use Rattle.running_frame.proofs.Remembered.{nothing_holds}
 use Rattle.running_frame.proofs.crossing.run_and_cross.Goals as goal
 
 pub run_round-at-requires : goal.run_round-at-requires
-run_round-at-requires g c = (c.requires.0, (nothing_holds g.g.around c.args.closure.upvalues.now c.args.cells.now.objects c.args.memo.now c.requires.1.1.1.1, c.requires.1.1.1.0))
+run_round-at-requires g c = (c.requires.0, (nothing_holds g.g.around c.args.closure.upvalues.now c.args.cells.now.objects c.args.memo.now c.requires.1.1.1.1.0, c.requires.1.1.1.0))
 
 pub read_once-requires : goal.read_once-requires
 read_once-requires g c =
@@ -40,38 +36,25 @@ returns-in-Some-clause-listed g c =
     c.run_round-at.new.budget c.run_round-at.result c.run_round-at.ensures.runs c.read_once.result c.read_once.ensures.goes c.read_once.ensures.kept in
     o.1 ∙ c.run_round-at.ensures.listed
 
-pub leave_over-requires-clause-top : goal.leave_over-requires-clause-top
-leave_over-requires-clause-top g c =
+pub leave_or_read-requires : goal.leave_or_read-requires
+leave_or_read-requires g c =
     let kept : c.read_once.new.stack ≡ c.run_round-at.new.stack = search rules in
-    let m = c.run_round-at.ensures.runs.may in
-    subst HasLuaTop (sym kept) (record { value = value g.g.around.texts; below = g.g.around.context.below; top = m.top; is = m.is })
-
-pub leave_over-requires-clause-codes : goal.leave_over-requires-clause-codes
-leave_over-requires-clause-codes g c = c.requires.1.0.have
-
-pub leave_over-requires-clause-cells : goal.leave_over-requires-clause-cells
-leave_over-requires-clause-cells g c =
-    let kept : c.read_once.new.stack ≡ c.run_round-at.new.stack = search rules in
-    subst (λ (s : KeptStack). ListsOpen c.args.co.0 s c.run_round-at.new.cells.objects) (sym kept) (lists_open c.args.co.0 c.requires.1.1.1.0 c.run_round-at.ensures.runs)
-
-pub leave_over-requires-clause-there : goal.leave_over-requires-clause-there
-leave_over-requires-clause-there g c = place_within c.run_round-at.ensures.runs
+    let k = code c.args.closure c.args.strings.now in
+    let ts = c.run_round-at.new.tables.objects in
+    let cs = c.run_round-at.new.cells.objects in (
+      subst (λ (s : KeptStack). RunsAt g.g k s ts cs c.run_round-at.new.budget c.run_round-at.result) (sym kept) c.run_round-at.ensures.runs,
+      (c.requires.1.0, (c.requires.1.1.0, (c.requires.1.1.1.0, c.requires.1.1.1.1.1))),
+    )
 
 pub returns-in-None-clause-reaches : goal.returns-in-None-clause-reaches
 returns-in-None-clause-reaches g c =
     let kept : c.read_once.new.stack ≡ c.run_round-at.new.stack = search rules in
-    let k = code c.args.closure c.args.strings.now in
     let ts = c.run_round-at.new.tables.objects in
     let cs = c.run_round-at.new.cells.objects in
-    let fuel = c.run_round-at.new.budget in
-    let runs = subst (λ (s : KeptStack). RunsAt g.g k s ts cs fuel c.run_round-at.result) (sym kept) c.run_round-at.ensures.runs in
     reaches_then g.g.around.rows c.run_round-at.ensures.reaches
-    (subst (λ (s : KeptStack). Reaches g.g.around.rows (standing g.g s ts cs fuel) (standing g.g c.leave_over.new.stack ts cs c.leave_over.new.budget)) kept
-    (left_or_not g.g k c.read_once.new.stack ts cs fuel c.run_round-at.result runs
-    c.leave_over.new.stack c.args.size c.args.funcs.now.objects c.args.codes.now c.leave_over.new.budget c.args.co.0 c.requires.1.0 c.requires.1.1.0 c.requires.1.1.1.0
-    c.leave_over.result c.leave_over.ensures.leaves c.leave_over.ensures.kept))
+    (subst (λ (s : KeptStack). Reaches g.g.around.rows (standing g.g s ts cs c.run_round-at.new.budget) (standing g.g c.leave_or_read.new.stack ts cs c.leave_or_read.new.budget)) kept c.leave_or_read.ensures.reaches)
 
 pub returns-in-None-clause-listed : goal.returns-in-None-clause-listed
 returns-in-None-clause-listed g c =
     let kept : c.read_once.new.stack ≡ c.run_round-at.new.stack = search rules in
-    c.leave_over.ensures.listed ∙ ap (λ (s : KeptStack). s.open_cells) kept ∙ c.run_round-at.ensures.listed
+    c.leave_or_read.ensures.listed ∙ ap (λ (s : KeptStack). s.open_cells) kept ∙ c.run_round-at.ensures.listed
