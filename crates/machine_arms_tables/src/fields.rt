@@ -1,6 +1,8 @@
 // Fields that no handler decides (luaV_fastget of lvm.h; Lua 5.4 manual, 2.4).
 ghost use Rattle.std.specs.Prelude.{◌≡◌, ℕ, List, IfSome, IfNone, IsTrue, [], ◌∷◌, slice_get, Some, None, MatchOption};
 ghost use Rattle.int_core.specs.Operations.{index, store};
+ghost use Rattle.int_core.specs.Rows.{get};
+ghost use Rattle.table_core.specs.Value.{lua_values};
 ghost use Rattle.machine_arms_tables.specs.Fields.{is_raw, field_in, field_at_once, takes, with_field, Settles};
 
 use lua_heap::law;
@@ -19,12 +21,23 @@ pub(crate) fn table_at(tables: &Pool<Table>, id: TableId) -> Option<&Table>
     }
 }
 
+/// The value of a table at a key, or nil. Most keys are strings, which are looked for among strings alone.
+#[inline(always)]
+fn value_at(table: &Table, key: Value) -> Value
+    ensures { result ≡ get lua_values table.now.rows key }
+{
+    match key {
+        Value::Str(id) => table.get_string(id),
+        _ => table.get(key),
+    }
+}
+
 /// The field of a table that has a key. `None` where the metatable may have a handler for it.
 #[inline(always)]
 fn field_of(table: &Table, key: Value) -> Option<Value>
     ensures { result ≡ field_in table.now key }
 {
-    let v = table.get(key);
+    let v = value_at(table, key);
     if v == Value::Nil && table.metatable().is_some() {
         return None;
     }
@@ -52,7 +65,7 @@ pub(crate) fn field(tables: &Pool<Table>, object: Value, key: Value) -> Option<V
 fn is_raw(table: &Table, key: Value) -> bool
     ensures { result ≡ is_raw table.now key }
 {
-    table.metatable().is_none() || table.get(key) != Value::Nil
+    table.metatable().is_none() || value_at(table, key) != Value::Nil
 }
 
 /// Puts a value at a key of a table. `None`, with all as before, where the key is nil, where the metatable may have a handler for it, and
