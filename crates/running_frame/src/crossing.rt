@@ -16,7 +16,7 @@ ghost use Rattle.running_frame.specs.Standing.{MayRun, RunsAt, standing};
 ghost use Rattle.running_frame.specs.Upvalues.{GoesOver, ListsOpen, RunsOver};
 
 use crate::calling::{call_function, is_call, one_less};
-use crate::frames::cross;
+use crate::frames::{cross, reach_out};
 use crate::inherited::read_inherited;
 use crate::place::{Here, here_at, is_none};
 use crate::returning::{return_none, return_single, return_values};
@@ -297,18 +297,130 @@ fn leave_or_read(
 {
     match read_inherited(stack, closure, strings, tables, string_meta, pc) {
         Some(_) => Some(again),
-        None => leave_over(
+        None => leave_or_ask(
             stack,
-            closure.words,
-            closure.upvalues,
+            closure,
             size,
+            strings,
             funcs,
             codes,
+            tables,
             cells,
             budget,
             co,
+            string_meta,
             pc,
         ),
+    }
+}
+
+/// Leaves the frame, or calls the handler of a read or an operator over it. No variable was read then.
+#[inline(always)]
+fn leave_or_ask(
+    stack: &mut Stack,
+    closure: Closure,
+    size: usize,
+    strings: &Strings,
+    funcs: &Pool<Func>,
+    codes: &Codes,
+    tables: &Pool<Table>,
+    cells: &Pool<Cell>,
+    budget: &mut u64,
+    co: CoroId,
+    string_meta: Option<TableId>,
+    pc: usize,
+) -> Option<bool>
+    ghost g: { Running }
+    requires runs { RunsAt g (code closure strings.now) stack.old tables.now.objects cells.now.objects budget.old pc }
+    requires functions { AreFunctions g.around.context.base.functions funcs.now.objects codes.now }
+    requires size { size ≡ g.around.context.closure.code.own.stack }
+    requires own { co.0 ≡ g.around.context.coroutine }
+    requires meta { metatable_number string_meta ≡ g.string_metatable }
+    ensures reaches { Reaches g.around.rows (standing g stack.old tables.now.objects cells.now.objects budget.old) (standing g stack.new tables.now.objects cells.now.objects budget.new) }
+    ensures listed { stack.new.open_cells ≡ stack.old.open_cells }
+{
+    match leave_over(
+        stack,
+        closure.words,
+        closure.upvalues,
+        size,
+        funcs,
+        codes,
+        cells,
+        budget,
+        co,
+        pc,
+    ) {
+        Some(was_read) => Some(was_read),
+        None => ask_next(
+            stack,
+            closure,
+            strings,
+            funcs,
+            codes,
+            tables,
+            cells,
+            budget,
+            co,
+            string_meta,
+            pc,
+        ),
+    }
+}
+
+/// Calls the handler of a read or an operator. The opcode is looked at here, so that at all other instructions nothing is called.
+#[inline(always)]
+fn ask_next(
+    stack: &mut Stack,
+    closure: Closure,
+    strings: &Strings,
+    funcs: &Pool<Func>,
+    codes: &Codes,
+    tables: &Pool<Table>,
+    cells: &Pool<Cell>,
+    budget: &mut u64,
+    co: CoroId,
+    string_meta: Option<TableId>,
+    pc: usize,
+) -> Option<bool>
+    ghost g: { Running }
+    requires runs { RunsAt g (code closure strings.now) stack.old tables.now.objects cells.now.objects budget.old pc }
+    requires functions { AreFunctions g.around.context.base.functions funcs.now.objects codes.now }
+    requires own { co.0 ≡ g.around.context.coroutine }
+    requires meta { metatable_number string_meta ≡ g.string_metatable }
+    ensures reaches { Reaches g.around.rows (standing g stack.old tables.now.objects cells.now.objects budget.old) (standing g stack.new tables.now.objects cells.now.objects budget.new) }
+    ensures listed { stack.new.open_cells ≡ stack.old.open_cells }
+{
+    let here = here_at(closure.words, pc, true);
+    if !may_ask(here.word) {
+        return None;
+    }
+    match reach_out(
+        stack,
+        closure,
+        strings,
+        funcs,
+        codes,
+        tables,
+        cells,
+        budget,
+        co,
+        string_meta,
+        here,
+    ) {
+        None => Some(false),
+        Some(_) => None,
+    }
+}
+
+/// Whether a handler that is a function may be called at an instruction.
+#[inline(always)]
+fn may_ask(i: Instruction) -> bool {
+    match i.opcode() {
+        Some(Opcode::GetTable) => true,
+        Some(Opcode::GetField) => true,
+        Some(Opcode::MmBin) => true,
+        _ => false,
     }
 }
 

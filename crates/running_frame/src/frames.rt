@@ -135,7 +135,8 @@ fn write(
 
 /// Stores to a variable of a frame below, or calls the handler of a read, where the frame on top is at such an instruction: `None`. Else all reads as before, and told
 /// is where the frame is.
-fn reach_out(
+#[inline(never)]
+pub(crate) fn reach_out(
     stack: &mut Stack,
     closure: Closure,
     strings: &Strings,
