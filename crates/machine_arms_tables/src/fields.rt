@@ -1,7 +1,7 @@
 // Fields that no handler decides (luaV_fastget of lvm.h; Lua 5.4 manual, 2.4).
-ghost use Rattle.std.specs.Prelude.{◌≡◌, ℕ, List, IfSome, IfNone, IsTrue, [], ◌∷◌, slice_get, Some, None, MatchOption};
+ghost use Rattle.std.specs.Prelude.{◌≡◌, ℕ, List, IfSome, IfNone, IsTrue, [], ◌∷◌, slice_get, Some, None, MatchOption, false};
 ghost use Rattle.int_core.specs.Operations.{index, store};
-ghost use Rattle.int_core.specs.Rows.{get};
+ghost use Rattle.int_core.specs.Rows.{get, set};
 ghost use Rattle.table_core.specs.Value.{lua_values};
 ghost use Rattle.machine_arms_tables.specs.Fields.{is_raw, field_in, field_at_once, takes, with_field, Settles};
 
@@ -80,7 +80,24 @@ fn put(table: &mut Table, key: Value, v: Value) -> Option<()>
     if !is_raw(table, key) {
         return None;
     }
+    let stored = put_in_place(table, key, v);
+    if stored {
+        return Some(());
+    }
     table.set(named, v).ok()
+}
+
+/// Puts a value at a string that has a row, and answers whether it has one. At other keys nothing is done.
+#[inline(always)]
+fn put_in_place(table: &mut Table, key: Value, v: Value) -> bool
+    ensures put { IsTrue result → table.new.rows ≡ set lua_values table.old.rows key v }
+    ensures metatable { table.new.metatable ≡ table.old.metatable }
+    ensures kept { result ≡ false → table.new ≡ table.old }
+{
+    match key {
+        Value::Str(id) => table.set_string(id, v),
+        _ => false,
+    }
 }
 
 /// Puts a value at a key of a value that is a table. `None`, with all as before, where a handler may decide it, where it is an error, and
