@@ -57,7 +57,8 @@ fn field_above(
     }
 }
 
-/// The field that the handlers of a value lead to.
+/// The field that the handlers of a value lead to. Out of line, since most fields are those of the value itself.
+#[inline(never)]
 fn inherited(strings: &Strings, tables: &Pool<Table>, object: Value, key: Value) -> Option<Value>
     requires { field_at_once tables.now.objects object key ≡ None }
     ensures { IfSome result (λ v. Settles strings.now index (object ∷ key ∷ []) tables.now.objects tables.now.objects (v ∷ [])) }

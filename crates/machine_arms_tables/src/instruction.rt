@@ -17,7 +17,8 @@ use object_pool::Pool;
 use table_core::{Table, Value};
 
 /// Does an instruction on the registers of its frame, on tables and on closed cells, and answers where the frame goes on. `None`, with all as
-/// before, where it takes more than that: a call, a handler, an error, an open cell, a spent budget, memory that is wanting.
+/// before, where it takes more than that: a call, a handler (but that tables lead a SELF to its method), an error, an open cell, a spent budget, memory that is
+/// wanting.
 #[inline(always)]
 pub fn run_instruction(
     op: Opcode,
@@ -99,7 +100,8 @@ fn run_on_objects(
         Opcode::SetTable => set_element(closure, strings, tables, registers, i, pc, Reach::Own),
         Opcode::SetI => set_integer(closure, strings, tables, registers, i, pc, Reach::Own),
         Opcode::SetField => set_field(closure, strings, tables, registers, i, pc, Reach::Own),
-        Opcode::OpSelf => get_method(closure, strings, tables, registers, i, pc, Reach::Own),
+        // Most methods are those of a class, so handlers are followed at once.
+        Opcode::OpSelf => get_method(closure, strings, tables, registers, i, pc, Reach::Inherited),
         Opcode::Len => get_length(closure, strings, tables, registers, i, pc),
         Opcode::NewTable => new_table(closure, tables, registers, i, pc),
         _ => None,
