@@ -15,7 +15,7 @@ ghost use Rattle.running_frame.specs.Spreading.{CrossesOver};
 ghost use Rattle.running_frame.specs.Standing.{MayRun, RunsAt, standing};
 ghost use Rattle.running_frame.specs.Upvalues.{GoesOver, ListsOpen, RunsOver};
 
-use crate::calling::{call_function, is_call, one_less};
+use crate::calling::{call_function, callee, is_call, one_less};
 use crate::frames::{cross, reach_out};
 use crate::inherited::read_inherited;
 use crate::place::{Here, here_at, is_none};
@@ -549,7 +549,7 @@ fn cross_otherwise(
     ensures kept { IfNone result ((stack.new ≡ stack.old) × (budget.new ≡ budget.old)) }
     ensures listed { stack.new.open_cells ≡ stack.old.open_cells }
 {
-    if !may_cross(i) {
+    if !may_cross(stack, i) {
         return None;
     }
     cross_there(stack, size, funcs, codes, words, budget, pc, i)
@@ -585,15 +585,29 @@ fn cross_there(
     cross(stack, size, funcs, codes, words, budget, stop)
 }
 
-/// Whether an instruction may be one of these: a call with an open list, of an iterator or in place of the frame, a VARARG, or a return, which may open a list.
+/// Whether an instruction may be one of these: a call of a Lua function, over the frame or in its place, or of an iterator, a VARARG, or a return, which may open a
+/// list.
 #[inline(always)]
-fn may_cross(i: Instruction) -> bool {
+fn may_cross(stack: &Stack, i: Instruction) -> bool
+    requires { HasLuaTop stack.now }
+{
     match i.opcode() {
-        Some(Opcode::Call) => i.b() == 0,
-        Some(Opcode::TailCall) => true,
-        Some(Opcode::TForCall) => true,
+        Some(Opcode::Call) => names_function(stack, i),
+        Some(Opcode::TailCall) => names_function(stack, i),
+        Some(Opcode::TForCall) => names_function(stack, i),
         Some(Opcode::VarArg) => true,
         _ => is_return(i),
+    }
+}
+
+/// Whether what a call names is a Lua function: most often it is one of the libraries where it comes to this.
+#[inline(always)]
+fn names_function(stack: &Stack, i: Instruction) -> bool
+    requires { HasLuaTop stack.now }
+{
+    match callee(stack.registers(), i.a() as usize, 0) {
+        Some(_) => true,
+        None => false,
     }
 }
 
