@@ -109,7 +109,7 @@ fn run_on_objects(
 }
 
 /// Reads a field that the value has itself or that handlers which are tables lead to, or compares two tables or two strings, and answers where the frame goes on.
-/// `None`, with all as before, at any other instruction, where a handler is to be called, and where it is an error.
+/// `None`, with all as before, at any other instruction, as SELF, whose arm does so itself, where a handler is to be called, and where it is an error.
 #[inline(never)]
 pub fn settle_beyond(
     op: Opcode,
@@ -133,7 +133,6 @@ pub fn settle_beyond(
         Opcode::GetTable => get_element(closure, strings, tables, registers, i, pc, far),
         Opcode::GetI => get_integer(closure, strings, tables, registers, i, pc, far),
         Opcode::GetField => get_field(closure, strings, tables, registers, i, pc, far),
-        Opcode::OpSelf => get_method(closure, strings, tables, registers, i, pc, far),
         Opcode::Eq => equal_tables(closure, strings, tables, registers, i, pc),
         Opcode::Lt => less_texts(closure, strings, tables, registers, i, pc),
         Opcode::Le => less_equal_texts(closure, strings, tables, registers, i, pc),

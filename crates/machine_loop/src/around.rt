@@ -69,11 +69,11 @@ fn go_beyond(
     go_above(closure, strings, tables, cells, registers, pc)
 }
 
-/// Whether an opcode's number is from that of GETTABUP to that of SELF, among which are all that read a field or store to one, or from that of EQ to that of LE.
+/// Whether an opcode's number is from that of GETTABUP to that of SETFIELD, which read a field or store to one, or from that of EQ to that of LE.
 #[inline(always)]
 fn may_look_beyond(i: Instruction) -> bool {
     let number = number_in(i);
-    (11 <= number && number <= 20) || (57 <= number && number <= 59)
+    (11 <= number && number <= 18) || (57 <= number && number <= 59)
 }
 
 /// Does a read or comparison, or else a store.

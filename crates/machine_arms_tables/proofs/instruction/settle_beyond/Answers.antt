@@ -13,9 +13,6 @@ returns-in-GetI-clause-goes c = if_some c.get_integer.result (λ to goes fuel. b
 pub returns-in-GetField-clause-goes : goal.returns-in-GetField-clause-goes
 returns-in-GetField-clause-goes c = if_some c.get_field.result (λ to goes fuel. by_opcode c.in-GetField.is (goes c.args.cells.now.objects fuel)) c.get_field.ensures.goes
 
-pub returns-in-OpSelf-clause-goes : goal.returns-in-OpSelf-clause-goes
-returns-in-OpSelf-clause-goes c = if_some c.get_method.result (λ to goes fuel. by_opcode c.in-OpSelf.is (goes c.args.cells.now.objects fuel)) c.get_method.ensures.goes
-
 pub returns-in-Eq-clause-goes : goal.returns-in-Eq-clause-goes
 returns-in-Eq-clause-goes c = if_some c.equal_tables.result (λ to goes fuel. by_opcode c.in-Eq.is (goes c.args.cells.now.objects fuel)) c.equal_tables.ensures
 
