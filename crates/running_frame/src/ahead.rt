@@ -63,23 +63,17 @@ fn run_frames(world: &mut World, budget: &mut u64) -> Here
     find_here(world)
 }
 
-/// Whether nothing more is done here with a frame that has gone from frame to frame as far as it could: it waits, or stands at a call of what is no Lua function,
-/// a return to what is no Lua frame, or an instruction that the machine's step does.
+/// Whether nothing more is done here with a frame that has gone from frame to frame as far as it could: it waits, or does not stand at one of the three instructions
+/// that `run_frame` alone does.
 fn is_left(here: Here) -> bool {
     if !here.runs {
         return true;
     }
     match here.word.opcode() {
-        Some(Opcode::Call) => true,
-        Some(Opcode::TailCall) => true,
-        Some(Opcode::TForCall) => true,
-        Some(Opcode::VarArg) => true,
-        Some(Opcode::Return) => true,
-        Some(Opcode::Return0) => true,
-        Some(Opcode::Return1) => true,
-        Some(Opcode::Concat) => true,
-        Some(Opcode::Closure) => true,
-        _ => false,
+        Some(Opcode::GetUpval) => false,
+        Some(Opcode::Close) => false,
+        Some(Opcode::SetList) => here.word.b() != 1,
+        _ => true,
     }
 }
 
