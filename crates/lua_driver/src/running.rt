@@ -21,6 +21,7 @@ use step_laws::law::steps_stay_ready;
 
 /// Does steps until the turn ends. It ends, since each step makes a measure of the world smaller. Where memory runs out the world is in order, but not
 /// between two turns.
+#[inline(never)]
 pub fn run(world: &mut World, budget: &mut u64, begun: Ending) -> Allocated<Ending>
     requires ready { IsReady (length all_entries) (ending_of begun) world.old }
     ensures reaches { IfOk result (λ ended. AsRead (λ builds. Reaches (library builds) (ending_of begun) world.old budget.old world.new budget.new (ending_of ended))) }
@@ -39,6 +40,7 @@ pub fn run(world: &mut World, budget: &mut u64, begun: Ending) -> Allocated<Endi
 }
 
 /// Does the step after an ending. Where a Lua frame goes on, it first runs as long as it does so by itself.
+#[inline(always)]
 fn go_further(world: &mut World, budget: &mut u64, ending: Ending) -> Allocated<Ending>
     requires { IsReady (length all_entries) (ending_of ending) world.old }
     ensures goes { IfOk result (λ next. AsRead (λ builds. GoesFurther (library builds) (ending_of ending) world.old budget.old world.new budget.new (ending_of next))) }
