@@ -3,7 +3,7 @@ mod Bests
 mod ExpandRows
 mod Fields
 mod Following
-mod Interning
+pub mod Interning
 mod JoinRows
 mod ListRows
 mod Meaning

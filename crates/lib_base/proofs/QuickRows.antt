@@ -1,8 +1,10 @@
 -- Rows of functions of texts, by the arguments that they look at, and answers that take no memory.
-use Rattle.std.proofs.Common.{◌≡◌, ℕ, List, [], ◌∷◌, length, map, Option, Some, None, true, ap, sym, ◌∙◌}
-use Rattle.std.specs.Prelude.{◌&&◌, slice_get}
+use Rattle.std.proofs.Common.{◌≡◌, ℕ, List, [], ◌∷◌, length, map, Option, Some, None, Ok, true, ap, sym, subst, ◌∙◌}
+use Rattle.std.specs.Prelude.{◌&&◌, slice_get, IfSome}
+use Rattle.int_core.specs.Operations.{type_name}
 use Rattle.int_core.specs.Value.{Plain, Value, known, string, Shape, shape, nth, greatest_string}
 use Rattle.library_rows.specs.Arguments.{argument}
+use Rattle.library_rows.specs.Base.{types}
 use Rattle.library_rows.specs.Look.{done}
 use Rattle.library_rows.specs.Plainly.{Outcome, PlainRowsAreFunctions, done_as, plainly, results}
 use Rattle.library_rows.specs.Searches.{find_row, match_row}
@@ -15,6 +17,9 @@ use Rattle.lua_heap.specs.Strings.{AreShort}
 use Rattle.lua_heap.specs.declared.world.World.{World as Memory}
 use Rattle.lib_base.specs.declared.answer.Answer.{Answer}
 use Rattle.lib_base.specs.declared.answer.Answer.TheVariants.{One}
+use Rattle.lib_base.specs.declared.calls.Function.{Function}
+use Rattle.lib_base.specs.Answers.{Answers}
+use Rattle.lib_base.specs.Functions.{function_row}
 use Rattle.lib_base.specs.QuickAnswers.{IsQuickAnswer, IsToldAs}
 use Rattle.lib_base.specs.Raw.{heap_of}
 use Rattle.lib_base.proofs.ExpandRows.{by_limit, within}
@@ -60,3 +65,13 @@ pub quick_row : PlainRowsAreFunctions → (f : List Shape → Outcome) (argument
 quick_row law f arguments W ps None gives told = tt
 quick_row law f arguments W ps (Some answer) gives told =
     law f (map (value W.strings) arguments) (heap_of W) ∙ ap (done_as (heap_of W)) gives ∙ ap (by_limit (heap_of W) ps) told.1 ∙ sym told.0
+
+-- the name of a type is what `type` gives
+pub type_row : (arguments : List Kept) (W : Memory) (name : List ℕ) (o : Option Answer) → name ≡ type_name (shape (nth (map (value W.strings) arguments) 0)) → IsToldAs W (string name ∷ []) o → IsQuickAnswer types arguments W o
+type_row arguments W name None is told = tt
+type_row arguments W name (Some answer) is told = ap (λ n. done (heap_of W) (known (string n) ∷ [])) (sym is) ∙ sym told.0
+
+-- what a function of this name answers
+pub glance_as : (f g : Function) → f ≡ g → (arguments : List Kept) (W : Memory) (o : Option Answer) → IsQuickAnswer (function_row g) arguments W o → IfSome o (λ answer. Answers (function_row f) arguments W W (Ok answer))
+glance_as f g is arguments W None h = tt
+glance_as f g is arguments W (Some answer) h = subst (λ (x : Function). Answers (function_row x) arguments W W (Ok answer)) (sym is) h

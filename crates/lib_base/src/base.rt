@@ -3,9 +3,11 @@ ghost use Rattle.std.specs.Prelude.{◌≡◌, OnErr};
 ghost use Rattle.library_arguments.specs.Shapes.{shape_of};
 ghost use Rattle.library_rows.specs.Base.{asserts, collects_garbage, is_count, next_of, raw_equal, raw_get, raw_length, raw_set, selects, types};
 ghost use Rattle.lib_base.specs.Answers.{Answers, Changes, OnlyStrings, Stands};
+ghost use Rattle.lib_base.specs.QuickAnswers.{IsQuickAnswer};
 ghost use Rattle.lib_base.specs.Select.{IsBorderValue, IsLength, selected_place};
 
 use crate::answer::{Answer, all_from, argument};
+use crate::quick::there;
 use crate::raw;
 use crate::shapes::{argument_shape, table_argument, wrong_type};
 use crate::strings::string;
@@ -131,6 +133,20 @@ pub fn select(world: &World, arguments: &[Value]) -> Result<Answer, Fault>
     }
 }
 
+/// What `select` gives where that is the number of arguments.
+#[inline(always)]
+pub(crate) fn count_of_arguments(world: &World, arguments: &[Value]) -> Option<Answer>
+    requires { Stands world.now arguments.now }
+    ensures { IsQuickAnswer selects arguments.now world.now result }
+{
+    let first = argument_shape(world, arguments, 0);
+    let many = arguments.len().saturating_sub(1);
+    if is_count(first) {
+        return Some(Answer::One(Value::Int(many as i64)));
+    }
+    None
+}
+
 /// Whether the number of arguments is asked for.
 fn is_count(first: Shape) -> bool
     ensures { result ≡ is_count (shape_of first.entry) }
@@ -177,4 +193,14 @@ pub fn type_of(world: &mut World, arguments: &[Value]) -> Result<Answer, Fault>
     let name = argument_shape(world, arguments, 0).type_name();
     let made = string(world, arguments, name)?;
     Ok(Answer::One(made))
+}
+
+/// What `type` gives where that name is there as a string.
+#[inline(always)]
+pub(crate) fn name_of_type(world: &World, arguments: &[Value]) -> Option<Answer>
+    requires { Stands world.now arguments.now }
+    ensures { IsQuickAnswer types arguments.now world.now result }
+{
+    let name = argument_shape(world, arguments, 0).type_name();
+    there(world, name)
 }

@@ -6,6 +6,7 @@ mod answer;
 mod base;
 mod calls;
 mod expanding;
+mod glances;
 mod joining;
 pub mod law;
 mod lists;
@@ -24,4 +25,5 @@ pub mod texts;
 
 pub use answer::Answer;
 pub use calls::{Function, call};
+pub use glances::glance;
 pub use shapes::argument_shape;

@@ -1,5 +1,5 @@
 // Metatables (Lua 5.4 manual, 2.4 and 6.1).
-ghost use Rattle.std.specs.Prelude.{◌≡◌, OnErr, map};
+ghost use Rattle.std.specs.Prelude.{◌≡◌, Ok, OnErr, map};
 ghost use Rattle.int_core.specs.Value.{nth};
 ghost use Rattle.library_rows.specs.Base.{gets_metatable, meta_field, sets_metatable};
 ghost use Rattle.lua_heap.specs.Reading.{value};
@@ -18,9 +18,16 @@ use table_core::{TableId, Value};
 pub fn meta_field(world: &World, arguments: &[Value]) -> Result<Answer, Fault>
     ensures { Answers meta_field arguments.now world.now world.now result }
 {
+    Ok(field_of_metatable(world, arguments))
+}
+
+/// It, which is always there.
+pub(crate) fn field_of_metatable(world: &World, arguments: &[Value]) -> Answer
+    ensures { Answers meta_field arguments.now world.now world.now (Ok result) }
+{
     let metatable = raw::value_of(raw::metatable(world, argument(arguments, 0)));
     let found = raw::read_field(world, metatable, argument(arguments, 1));
-    Ok(Answer::One(found))
+    Answer::One(found)
 }
 
 /// `getmetatable`: the field `__metatable` of a value's metatable where there is one, else the metatable or nil.

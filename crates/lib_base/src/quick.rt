@@ -30,6 +30,18 @@ pub(crate) fn quick_answer(world: &World, function: Function, arguments: &[Value
     }
 }
 
+/// The same of all but `match`, whose captures may be no strings yet once they are found. `None` says nothing.
+#[inline(always)]
+pub(crate) fn quick_first(world: &World, function: Function, arguments: &[Value]) -> Option<Answer>
+    requires { Stands world.now arguments.now }
+    ensures { IsQuickAnswer (plainly (text_row function)) arguments.now world.now result }
+{
+    match function {
+        Function::Match => None,
+        _ => quick_answer(world, function, arguments),
+    }
+}
+
 /// What a function gives, before it becomes values.
 fn quick<'a>(world: &'a World, function: Function, arguments: &[Value]) -> Option<Quick<'a>>
     requires { Stands world.now arguments.now }
@@ -98,7 +110,7 @@ fn told(world: &World, quick: Quick) -> Option<Answer>
 }
 
 /// A string that is there already.
-fn there(world: &World, bytes: &[u8]) -> Option<Answer>
+pub(crate) fn there(world: &World, bytes: &[u8]) -> Option<Answer>
     ensures { IsToldAs world.now (string bytes.now ∷ []) result }
 {
     world.strings.len();

@@ -6,6 +6,7 @@ ghost use Rattle.library_rows.specs.Base.{kind_text, texts};
 ghost use Rattle.table_core.specs.declared.value.Value.TheVariants.{Int, Str};
 ghost use Rattle.lua_heap.specs.Reading.{value};
 ghost use Rattle.lib_base.specs.Answers.{Answers, IsArgument, OnlyStrings, Stands};
+ghost use Rattle.lib_base.specs.QuickAnswers.{IsQuickAnswer};
 ghost use Rattle.lib_base.specs.Raw.{heap_of};
 ghost use Rattle.lib_base.specs.Texts.{IsShown, shown_of};
 
@@ -54,6 +55,18 @@ fn own_text(world: &World, arguments: &[Value], id: StrId) -> Answer
     world.strings.len();
     world.bytes(id);
     Answer::One(Value::Str(id))
+}
+
+/// What `text` gives of a string. `None` says nothing.
+#[inline(always)]
+pub(crate) fn text_of_string(world: &World, arguments: &[Value]) -> Option<Answer>
+    requires { Stands world.now arguments.now }
+    ensures { IsQuickAnswer texts arguments.now world.now result }
+{
+    match argument(arguments, 0) {
+        Value::Str(id) => Some(own_text(world, arguments, id)),
+        _ => None,
+    }
 }
 
 /// The digits of an integer as a string, which is added where there is none.

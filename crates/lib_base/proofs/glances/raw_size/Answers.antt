@@ -1,0 +1,4 @@
+use Rattle.lib_base.proofs.glances.raw_size.Goals as goal
+
+pub returns-in-Ok : goal.returns-in-Ok
+returns-in-Ok c = c.in-Ok.ensures
