@@ -2,11 +2,13 @@
 use Rattle.std.proofs.Common.{◌≡◌, ℕ, suc, ◌+◌, List, [], ◌∷◌, ◌++◌, length, ap, refl, sym, subst, ◌∙◌, Bool}
 use Rattle.std.specs.Prelude.{map, pos}
 use Rattle.int_core.specs.Value.{Value, Shape, shape, integer, nil, is_known}
-use Rattle.machine_core.specs.Text.{Arg, read, read_list, read_register, read_registers, drop_pending, cut_from, Text, own, call, tail_call}
+use Rattle.machine_core.specs.Text.{Arg, list_end, read, read_list, read_register, read_registers, drop_pending, cut_from, Text, own, call, tail_call}
 use Rattle.machine_core.specs.InstructionRows.{read_values}
 use Rattle.machine_core.specs.FrameRows.{expand}
 use Rattle.machine_core.specs.Moves.{Ending as Ends, on_own, run}
 use Rattle.machine_core.specs.MachineStep.{from_world}
+use Rattle.machine_sound.specs.Sound.{Each, Sound, Valid, sizes}
+use Rattle.machine_sound.proofs.Values.{each_list, each_range}
 use Rattle.instruction_forms.specs.Forms.{wait_for_call}
 use Rattle.table_core.specs.declared.value.Value.{Value as Kept}
 use Rattle.lua_stack.specs.declared.frame.Wait.{Wait as KeptWait}
@@ -16,6 +18,7 @@ use Rattle.lua_heap.specs.Reading.{value}
 use Rattle.move_laws.specs.Memory.{IsSafe, IsSound, Makes, Steps}
 use Rattle.move_laws.proofs.Rows.{act_is, safe_after}
 use Rattle.move_laws.proofs.Sounds.{sound_top}
+use Rattle.move_laws.proofs.Valid.{reads_there, top_is_ok}
 use Rattle.machine_moves.specs.Ending.{ending_of}
 use Rattle.machine_moves.specs.declared.ending.Ending.{Ending}
 use Rattle.machine_calls.specs.declared.preparing.Prepared.TheVariants.{GivenUp}
@@ -27,12 +30,27 @@ use Rattle.machine_call_rows.proofs.Beyond.{none_beyond}
 
 -- values that are read
 
+list_valid : (W : Memory) (from : ℕ) (vs : List Kept) (told : Shape) → Makes W W (on_own (read_list from)) [] (map (value W.strings) vs) told
+    → (n : ℕ) → Sound n (plain W 0) → Each (Valid (sizes n (plain W 0))) (map (value W.strings) vs)
+list_valid W from vs told m n s =
+    let P = Valid (sizes n (plain W 0)) in
+    let a = reads_there (read_list from) [] (plain W 0) (plain W 0) (map (value W.strings) vs) told (m.is 0) in
+    subst (Each P) a.values (each_list P tt from a.place.top.own.registers (list_end a.place.function.code a.place.top.own) (top_is_ok n (plain W 0) a.place s a.is).frame.registers)
+
+registers_valid : (W : Memory) (from count : ℕ) (vs : List Kept) (told : Shape) → Makes W W (on_own (read_registers from count)) [] (map (value W.strings) vs) told
+    → (n : ℕ) → Sound n (plain W 0) → Each (Valid (sizes n (plain W 0))) (map (value W.strings) vs)
+registers_valid W from count vs told m n s =
+    let P = Valid (sizes n (plain W 0)) in
+    let a = reads_there (read_registers from count) [] (plain W 0) (plain W 0) (map (value W.strings) vs) told (m.is 0) in
+    subst (Each P) a.values (each_range P tt from count a.place.top.own.registers (top_is_ok n (plain W 0) a.place s a.is).frame.registers)
+
 pub list_read : (W : Memory) (from count : ℕ) (vs : List Kept) → count ≡ 0
     → ((env : List Value) → Makes W W (on_own (read_list from)) env (map (value W.strings) vs) (is_known (integer (pos (length vs))))) → ReadsValues W from count vs
 list_read W from count vs z m =
     let told : Shape = is_known (integer (pos (length vs))) in
     record {
       told = told;
+      valid = list_valid W from vs told (m []);
       goes = λ rest env fuel.
           subst (λ n. run (expand (read_values from n rest)) env (plain W fuel) ≡ run (expand (rest (length env) told)) (env ++ map (value W.strings) vs) (plain W fuel)) (sym z)
           (act_is (on_own (read_list from)) (λ n s. expand (rest n s)) env (plain W fuel) (plain W fuel) (map (value W.strings) vs) told ((m env).is fuel));
@@ -44,6 +62,7 @@ registers_read W from count n vs e m =
     let told : Shape = is_known nil in
     record {
       told = told;
+      valid = registers_valid W from n vs told (m []);
       goes = λ rest env fuel.
           subst (λ n. run (expand (read_values from n rest)) env (plain W fuel) ≡ run (expand (rest (length env) told)) (env ++ map (value W.strings) vs) (plain W fuel)) (sym e)
           (act_is (on_own (read_registers from n)) (λ n s. expand (rest n s)) env (plain W fuel) (plain W fuel) (map (value W.strings) vs) told ((m env).is fuel));

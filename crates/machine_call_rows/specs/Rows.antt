@@ -6,6 +6,7 @@ use Rattle.machine_core.specs.Text.{Text}
 use Rattle.machine_core.specs.InstructionRows.{read_values}
 use Rattle.machine_core.specs.FrameRows.{expand}
 use Rattle.machine_core.specs.Moves.{named, run}
+use Rattle.machine_sound.specs.Sound.{Each, Sound, Valid, sizes}
 use Rattle.instruction_forms.specs.Forms.{wait_for_call}
 use Rattle.table_core.specs.declared.value.Value.{Value as Kept}
 use Rattle.lua_stack.specs.declared.frame.Wait.{Wait as KeptWait}
@@ -29,9 +30,10 @@ pub record MayReadValues (W : Memory) (from count : ℕ) : Type 0 where
   pub env : List Value
   pub safe : IsSafe (expand (read_values from count rest)) env W
 
--- and these are the values that it reads
+-- and these are the values that it reads; in a sound world they are valid
 pub record ReadsValues (W : Memory) (from count : ℕ) (values : List Kept) : Type 0 where
   pub told : Shape
+  pub valid : (n : ℕ) → Sound n (plain W 0) → Each (Valid (sizes n (plain W 0))) (map (value W.strings) values)
   pub goes : (rest : ℕ → Shape → Text) (env : List Value) (fuel : ℕ)
       → run (expand (read_values from count rest)) env (plain W fuel) ≡ run (expand (rest (length env) told)) (env ++ map (value W.strings) values) (plain W fuel)
 

@@ -9,5 +9,5 @@ mod tails;
 
 pub use calls::{call, tail_call};
 pub use few::Few;
-pub use primitives::{PrimitiveCall, call_primitive};
+pub use primitives::{PrimitiveCall, arguments_of_call, call_primitive, wait_for_primitive};
 pub use tails::tail_call_primitive;

@@ -1,12 +1,13 @@
 // Calls of primitives with few arguments, which take no memory (precallC of ldo.c).
-ghost use Rattle.std.specs.Prelude.{◌≡◌, ◌+◌, ◌-◌, ◌<◌, ◌^◌, ℕ, [], IfNone, IfSome};
+ghost use Rattle.std.specs.Prelude.{◌≡◌, ◌+◌, ◌-◌, ◌<◌, ◌^◌, ℕ, List, [], IfNone, IfSome};
 ghost use Rattle.code_core.specs.Prototype.{Prototype};
 ghost use Rattle.instruction_forms.specs.Forms.{text_of};
 ghost use Rattle.instruction_forms.specs.declared.form.Form.TheVariants.{Call};
 ghost use Rattle.machine_core.specs.FrameRows.{expand};
 ghost use Rattle.move_laws.specs.Memory.{InOrder, IsSafe, IsSound};
-ghost use Rattle.machine_call_rows.specs.Primitives.{CallsPrimitive};
-ghost use Rattle.machine_call_rows.specs.Rows.{MayKeep};
+ghost use Rattle.table_core.specs.declared.value.Value.{Value as Kept};
+ghost use Rattle.machine_call_rows.specs.Primitives.{CallsPrimitive, MayCallPrimitive};
+ghost use Rattle.machine_call_rows.specs.Rows.{MayKeep, MayReadValues, ReadsValues};
 
 use crate::calls::{read_values, wait_of_call};
 use crate::few::Few;
@@ -71,4 +72,31 @@ pub fn call_primitive(
     *budget -= 1;
     told.number = number;
     Some(())
+}
+
+/// The arguments of such a call where they stand.
+#[inline(always)]
+pub fn arguments_of_call(world: &World, function: usize, count: usize) -> &[Value]
+    requires sound { IsSound world.now }
+    requires near { function + 1 < 2 ^ 64 }
+    requires safe { MayReadValues world.now (function + 1) count }
+    ensures { ReadsValues world.now (function + 1) count result.now }
+{
+    read_values(world, function + 1, count)
+}
+
+/// What `call_primitive` does to the frame on top where the call was seen before: the frame waits, and gives its registers up from `keeps` on.
+#[inline(always)]
+pub fn wait_for_primitive(world: &mut World, keeps: usize, iterates: bool)
+    requires sound { IsSound world.old }
+    requires keeps { MayKeep world.old keeps }
+    ensures calls { (fuel function count number : ℕ) (arguments : List Kept) → MayCallPrimitive world.old fuel function count number arguments → CallsPrimitive world.old world.new fuel function count keeps iterates number arguments }
+    ensures order { InOrder world.new }
+    ensures rest { world.new ≡ record world.old { cells = world.new.cells; coros = world.new.coros } }
+{
+    make_ready(
+        world,
+        wait_of_call(iterates),
+        Prepared::GivenUp { register: keeps },
+    );
 }
