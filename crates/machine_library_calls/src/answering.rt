@@ -22,6 +22,7 @@ use std::alloc::AllocError;
 use table_core::Value;
 
 /// The frame on top goes on with the results, or an error moves.
+#[inline(always)]
 pub(crate) fn take_answer(
     world: &mut World,
     here: Here,
@@ -43,6 +44,7 @@ pub(crate) fn take_answer(
 }
 
 /// The frame on top goes on with a single result.
+#[inline(always)]
 fn take_value(
     world: &mut World,
     here: Here,

@@ -17,6 +17,7 @@ ghost use Rattle.tree_core.specs.Tree.{Body};
 ghost use Rattle.machine_library_calls.specs.Calls.{Begun, Comes, IsCalled, begins};
 
 use crate::answering::take_answer;
+use crate::glancing::{give_result, see_result};
 use lib_base::{Function, call};
 use loaded_code::loading_is_safe;
 use lua_heap::World;
@@ -60,8 +61,34 @@ pub fn call_library(
     begin_call(world, budget, here, at)
 }
 
-/// Does the call where no value moves.
+/// Does the call where no value moves. What is at hand goes to its registers before anything else is tried.
 fn begin_call(
+    world: &mut World,
+    budget: &mut u64,
+    here: Here,
+    at: CallAt,
+) -> Result<Option<Ending>, AllocError>
+    ghost begun: { Begun }
+    requires began { begun ≡ begins world.old budget.old }
+    requires ready { IsReady (length all_entries) go world.old }
+    requires here { IsHere world.old here }
+    requires runs { RunsForm world.old here.pc (Call at.function at.count at.keeps at.iterates) }
+    requires still { world.old.moving.items ≡ [] }
+    ensures comes { IfOk result (λ done. IfSome done (λ ending. (builds : Builds Body) → BuildsSources builds → Comes (library builds) world.old budget.old world.new budget.new (ending_of ending))) }
+    ensures kept { IfOk result (λ done. IfNone done ((world.new ≡ world.old) × (budget.new ≡ budget.old))) }
+    ensures order { InOrder world.new }
+{
+    match see_result(world, *budget, here, at) {
+        None => call_with_arguments(world, budget, here, at),
+        Some(answer) => {
+            let ending = give_result(world, budget, here, at, answer)?;
+            Ok(Some(ending))
+        }
+    }
+}
+
+/// Does it with the arguments in an array.
+fn call_with_arguments(
     world: &mut World,
     budget: &mut u64,
     here: Here,

@@ -4,6 +4,7 @@
 
 mod answering;
 mod calls;
+mod glancing;
 mod tails;
 
 pub use calls::{CallAt, call_library};
