@@ -95,7 +95,7 @@ fn take_values(
 
 /// The frame on top, which runs again, takes results to its registers and goes on after its call. A refusal changes nothing that stands there.
 #[inline(always)]
-fn go_on(
+pub(crate) fn go_on(
     world: &mut World,
     here: Here,
     iterates: bool,

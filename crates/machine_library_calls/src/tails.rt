@@ -7,6 +7,8 @@ ghost use Rattle.loaded_code.specs.Laws.{library};
 ghost use Rattle.machine_core.specs.MachineStep.{look_row};
 ghost use Rattle.machine_core.specs.Moves.{go};
 ghost use Rattle.machine_moves.specs.Ending.{ending_of};
+ghost use Rattle.machine_returns.specs.Waking.{IsSolid};
+ghost use Rattle.machine_step.specs.Places.{GoesOnSo, IsAwake};
 ghost use Rattle.move_laws.specs.Memory.{InOrder};
 ghost use Rattle.source_builds.specs.Builds.{BuildsSources};
 ghost use Rattle.step_laws.specs.Steps.{IsReady};
@@ -14,7 +16,7 @@ ghost use Rattle.tree_core.specs.Tree.{Body};
 ghost use Rattle.machine_library_calls.specs.Calls.{Begun, Comes, begins};
 ghost use Rattle.machine_library_calls.specs.Tails.{HasLuaOnTop, IsTailAnswered, IsTailCalled, IsTailGiven, RunsTail};
 
-use crate::answering::raise_value;
+use crate::answering::{go_on, raise_value};
 use crate::calls::call_later;
 use lib_base::{Answer, Function, call};
 use loaded_code::loading_is_safe;
@@ -25,7 +27,7 @@ use machine_moves::{Ending, see_top};
 use machine_primitives::library_function;
 use machine_returns::{set_wait, wait_on_top};
 use machine_step::go_on_with;
-use running_frame::find_here;
+use running_frame::{Here, find_here};
 use std::alloc::AllocError;
 use table_core::Value;
 
@@ -177,9 +179,28 @@ fn hand_results(world: &mut World, values: &[Value]) -> Result<Ending, AllocErro
     if !here.runs {
         let wait = wait_on_top(world);
         set_wait(world, Wait::Running);
-        return go_on_with(world, here.pc, here.word, wait, values);
+        return go_on_below(world, here, wait, values);
     }
     move_results(world, values)
+}
+
+/// What is left of the instruction of the frame on top is done with these results. Most often it is a CALL, which takes them to its registers.
+#[inline(always)]
+fn go_on_below(
+    world: &mut World,
+    here: Here,
+    wait: Wait,
+    values: &[Value],
+) -> Result<Ending, AllocError>
+    requires solid { IsSolid world.old }
+    requires awake { IsAwake world.old here.pc here.word wait values.now }
+    ensures goes { IfOk result (λ next. GoesOnSo world.old world.new here.word wait values.now (ending_of next)) }
+    ensures order { InOrder world.new }
+{
+    match wait {
+        Wait::ForCall => go_on(world, here, false, values),
+        _ => go_on_with(world, here.pc, here.word, wait, values),
+    }
 }
 
 /// Values move to the Lua frame on top. A refusal changes nothing.

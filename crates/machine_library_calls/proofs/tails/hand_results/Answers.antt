@@ -10,14 +10,14 @@ use Rattle.machine_library_calls.proofs.tails.hand_results.Goals as goal
 pub find_here-here-requires : goal.find_here-here-requires
 find_here-here-requires g c = record { ready = ready_with c.requires c.loading_is_safe.ensures.safe }
 
-pub go_on_with-requires-clause-solid : goal.go_on_with-requires-clause-solid
-go_on_with-requires-clause-solid g c =
+pub go_on_below-requires-clause-solid : goal.go_on_below-requires-clause-solid
+go_on_below-requires-clause-solid g c =
     let law = c.loading_is_safe.ensures.safe in
     solid_with c.requires law c.set_wait.new.world c.find_here-here.result c.wait_on_top-wait.result c.find_here-here.ensures (not_true c.find_here-here.result.runs c.if-not-here.true) c.wait_on_top-wait.ensures
     c.set_wait.ensures.waits c.set_wait.ensures.stays.rest (c.set_wait.ensures.stays.listed (order_with c.requires law).listed)
 
-pub go_on_with-requires-clause-awake : goal.go_on_with-requires-clause-awake
-go_on_with-requires-clause-awake g c =
+pub go_on_below-requires-clause-awake : goal.go_on_below-requires-clause-awake
+go_on_below-requires-clause-awake g c =
     let law = c.loading_is_safe.ensures.safe in
     awake_with c.requires law c.set_wait.new.world c.find_here-here.result c.wait_on_top-wait.result c.find_here-here.ensures (not_true c.find_here-here.result.runs c.if-not-here.true) c.wait_on_top-wait.ensures
     c.set_wait.ensures.waits c.set_wait.ensures.stays.rest (c.set_wait.ensures.stays.listed (order_with c.requires law).listed)
@@ -25,11 +25,11 @@ go_on_with-requires-clause-awake g c =
 pub returns-then-not-here-clause-comes : goal.returns-then-not-here-clause-comes
 returns-then-not-here-clause-comes g c =
     let law = c.loading_is_safe.ensures.safe in
-    IfOk-weaker c.go_on_with.result _ _
+    IfOk-weaker c.go_on_below.result _ _
     (λ ending q builds are.
     comes_with c.requires law c.set_wait.new.world c.find_here-here.result c.wait_on_top-wait.result c.find_here-here.ensures (not_true c.find_here-here.result.runs c.if-not-here.true) c.wait_on_top-wait.ensures
-    c.set_wait.ensures.waits c.set_wait.ensures.stays.rest (c.set_wait.ensures.stays.listed (order_with c.requires law).listed) c.go_on_with.new.world ending q builds)
-    c.go_on_with.ensures.goes
+    c.set_wait.ensures.waits c.set_wait.ensures.stays.rest (c.set_wait.ensures.stays.listed (order_with c.requires law).listed) c.go_on_below.new.world ending q builds)
+    c.go_on_below.ensures.goes
 
 pub returns-clause-comes : goal.returns-clause-comes
 returns-clause-comes g c =
