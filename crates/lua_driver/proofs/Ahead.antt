@@ -24,6 +24,7 @@ use Rattle.source_builds.proofs.Knowing.{read_all}
 use Rattle.machine_library_calls.specs.Calls.{Comes}
 use Rattle.step_laws.specs.Steps.{Does, IsReady}
 use Rattle.running_frame.proofs.Chained.{steps_then}
+use Rattle.machine_step.specs.Step.{Goes}
 use Rattle.lua_driver.specs.Turns.{GoesFurther, Reaches}
 use Rattle.lua_driver.proofs.Reaching.{distance, comes_nearer, differ, reached_more, reached_none}
 
@@ -90,6 +91,15 @@ ready_to_go {W} e r = subst (λ e. IsReady (length all_entries) (ending_of e) W)
 
 pub at_once : {rows : ℕ → Row} {from to : Ending} {old new : Memory} {fuel left : ℕ} → IsReady (length all_entries) from old → Does rows from old fuel new left to → GoesFurther rows from old fuel new left to
 at_once {from = from} {old = old} {fuel = fuel} r d = record { mid = old; rest = fuel; at = from; goes_on = λ h. h; reaches = reached_none; ready = r; does = d }
+
+-- a step, whatever is built of the sources that were read
+pub read_once : {old new : Memory} {to : Ending} {fuel left : ℕ} → IsReady (length all_entries) go old → Goes old fuel new left to → AsRead (λ builds. GoesFurther (library builds) go old fuel new left to)
+read_once r g = read_all (λ builds are. at_once r (g.is (library builds)))
+
+-- a step after what changed nothing
+pub at_once_again : {rows : ℕ → Row} {to : Ending} {old again new : Memory} {fuel rest left : ℕ} → IsReady (length all_entries) go old → again ≡ old → rest ≡ fuel → Does rows go again rest new left to → GoesFurther rows go old fuel new left to
+at_once_again {rows} {to} {old} {again} {new} {fuel} {rest} {left} r e f d =
+    at_once r (subst (λ n. Does rows go old n new left to) f (subst (λ W. Does rows go W rest new left to) e d))
 
 pub further_so : {rows : ℕ → Row} {to : Ending} {old new : Memory} {fuel left : ℕ} → Comes rows old fuel new left to → GoesFurther rows go old fuel new left to
 further_so c = record { mid = c.mid; rest = c.rest; at = c.at; goes_on = λ h. c.goes_on; reaches = record { count = c.count; is = c.is }; ready = c.ready; does = c.does }

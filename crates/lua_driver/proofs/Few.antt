@@ -25,8 +25,8 @@ use Rattle.running_frame.specs.declared.place.Here.{Here}
 use Rattle.running_frame.specs.Here.{IsHere}
 use Rattle.machine_step.specs.Places.{RunsForm}
 use Rattle.machine_step.proofs.ByForm.{returns_there, safe as never_traps}
-use Rattle.machine_step.proofs.Steps.{runs_form, runs_word}
 use Rattle.lua_driver.specs.Returning.{Returns, ReturnsFew, ReturnsFrom, by_number, without_number}
+use Rattle.lua_driver.proofs.Forms.{form_here, runs_so}
 
 -- what a negated test says
 
@@ -37,7 +37,9 @@ waits_where false e = refl
 -- a frame runs at an instruction that is told how many values it returns
 pub returns_some : {here : Here} (op : Opcode) (count : ℕ) → here.runs ≡ true → opcode_of here.word ≡ Some op → form_at op here.word ≡ Some (ReturnSome (a_of here.word) count)
     → HasForm op here.word (ReturnSome (a_of here.word) count) → ReturnsFew here count
-returns_some {here} op count r o f h = record { runs = r; opcode = op; is_opcode = o; form = ReturnSome (a_of here.word) count; is_form = f; has = h; returns = without_number }
+returns_some {here} op count r o f h =
+    let form = ReturnSome (a_of here.word) count in
+    record { form = form; runs = runs_so op form r o f h refl; returns = without_number }
 
 -- the row of a RETURN reads the values, and returns them
 
@@ -69,7 +71,7 @@ module _ {W : Memory} {from count : ℕ} where
 
 module _ {W : Memory} {here : Here} {count : ℕ} where
   pub runs_few : IsSound W → IsHere W here → (f : ReturnsFew here count) → RunsForm W here.pc f.form
-  runs_few s h f = runs_form f.opcode f.form (runs_word s h.word h.wait f.runs) f.is_opcode (sym f.is_form) f.has
+  runs_few s h f = form_here s h f.runs
 
   pub returns_so : (from : ℕ) (read values : List Kept) (pending : Option Kept) → from ≡ a_of here.word → IsSound W → IsHere W here → ReturnsFew here count → SeesPending W 0 pending → pending ≡ None
       → ((env : List Value) → Makes W W (on_own (read_registers from count)) env (map (value W.strings) read) (is_known nil)) → read ≡ values → length values ≤ 1 → Returns W values

@@ -4,7 +4,4 @@ mod AnyRows
 mod Turned
 mod Few
 mod Handing
-mod CallForm
-mod TailForm
-mod MakeForm
-mod ConcatForm
+mod Forms

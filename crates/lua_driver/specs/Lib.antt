@@ -1,6 +1,4 @@
 pub mod Turns
-pub mod Calling
-pub mod TailCalling
-pub mod Making
-pub mod Concatenating
+pub mod Here
 pub mod Returning
+pub mod Words

@@ -1,20 +1,18 @@
 -- Returns of a value or of none.
-use Rattle.std.specs.Prelude.{◌≡◌, ◌≤◌, ℕ, suc, true, false, List, [], ◌∷◌, Some, length, map}
-use Rattle.code_core.specs.declared.opcode.Opcode.{Opcode}
-use Rattle.code_core.specs.Instruction.{a_of, opcode_of}
+use Rattle.std.specs.Prelude.{◌≡◌, ◌≤◌, ℕ, suc, false, List, [], ◌∷◌, length, map}
+use Rattle.code_core.specs.Instruction.{a_of}
 use Rattle.int_core.specs.Value.{Value, boolean, is_known, nil}
 use Rattle.machine_core.specs.Text.{read_registers, see_pending}
 use Rattle.machine_core.specs.Moves.{on_own}
 use Rattle.table_core.specs.declared.value.Value.{Value as Kept}
 use Rattle.instruction_forms.specs.declared.form.Form.{Form}
 use Rattle.instruction_forms.specs.declared.form.Form.TheVariants.{Return, ReturnSome}
-use Rattle.instruction_forms.specs.Waiting.{form_at}
 use Rattle.lua_heap.specs.declared.world.World.{World as Memory}
 use Rattle.lua_heap.specs.Reading.{value}
 use Rattle.move_laws.specs.Memory.{Makes}
-use Rattle.step_laws.specs.Steps.{HasForm}
 use Rattle.running_frame.specs.declared.place.Here.{Here}
 use Rattle.machine_step.specs.Places.{RunsForm}
+use Rattle.lua_driver.specs.Here.{RunsHere}
 use Rattle.lua_driver.specs.declared.returning.Returned.{Returned}
 use Rattle.lua_driver.specs.declared.returning.Returned.TheVariants.{Nothing, One, More}
 
@@ -25,12 +23,8 @@ pub data ReturnsFrom (from count : ℕ) : Form → Type 0 where
 
 -- a frame that runs at this word returns so many values
 pub record ReturnsFew (here : Here) (count : ℕ) : Type 0 where
-  pub runs : here.runs ≡ true
-  pub opcode : Opcode
-  pub is_opcode : opcode_of here.word ≡ Some opcode
   pub form : Form
-  pub is_form : form_at opcode here.word ≡ Some form
-  pub has : HasForm opcode here.word form
+  pub runs : RunsHere here form
   pub returns : ReturnsFrom (a_of here.word) count form
 
 abbrev pub AreTold : List Kept → Returned → Type 0

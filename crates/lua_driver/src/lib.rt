@@ -3,12 +3,11 @@
 #![tactic(auto)]
 
 mod calling;
-mod concatenating;
-mod making;
 mod returning;
 mod running;
 mod tail_calling;
 mod turning;
+mod words;
 
 pub use running::run;
 pub use turning::turn;

@@ -1,5 +1,5 @@
 // Returns of a value or of none to a Lua frame that waits for what comes: what is left of that frame's instruction is done at once (luaD_poscall of ldo.c).
-ghost use Rattle.std.specs.Prelude.{◌≡◌, ℕ, suc, [], IfOk, IfSome, length};
+ghost use Rattle.std.specs.Prelude.{◌≡◌, ℕ, [], IfOk, length};
 ghost use Rattle.library_rows.specs.Library.{all_entries};
 ghost use Rattle.machine_core.specs.Moves.{Row, go};
 ghost use Rattle.machine_moves.specs.Ending.{ending_of};
@@ -11,16 +11,16 @@ ghost use Rattle.source_builds.specs.Readings.{AsRead};
 ghost use Rattle.lua_driver.specs.Returning.{AreTold, Returns, ReturnsFew};
 ghost use Rattle.lua_driver.specs.Turns.{GoesFurther};
 
-use crate::calling::{call_at, call_here};
-use crate::concatenating::{concat_at, concat_here};
-use crate::making::{make_at, make_here};
-use crate::tail_calling::{tail_call_at, tail_call_here};
-use code_core::Opcode;
+use crate::calling::call_here;
+use crate::tail_calling::tail_call_here;
+use crate::words::{Quick, quick_at};
 use int_core::Allocated;
 use lua_heap::World;
 use lua_stack::{Top, Wait};
 use machine_calls::drop_frame;
 use machine_moves::{Ending, handed, read_registers, see_pending, see_top};
+use machine_objects::new_function;
+use machine_operations::concatenate;
 use machine_returns::{set_wait, wait_on_top};
 use machine_step::{go_on_with, step_from};
 use running_frame::{Here, find_here};
@@ -42,87 +42,15 @@ pub(crate) fn step_on(world: &mut World, budget: &mut u64, here: Here) -> Alloca
     ensures goes { IfOk result (λ next. AsRead (λ builds. GoesFurther (library builds) go world.old budget.old world.new budget.new (ending_of next))) }
     ensures order { InOrder world.new }
 {
-    match call_at(here) {
-        Some(at) => call_here(world, budget, here, at),
-        None => make_or_step(world, budget, here),
-    }
-}
-
-/// Does so where the word is no call over the frame.
-fn make_or_step(world: &mut World, budget: &mut u64, here: Here) -> Allocated<Ending>
-    requires ready { IsReady (length all_entries) go world.old }
-    requires here { IsHere world.old here }
-    ensures goes { IfOk result (λ next. AsRead (λ builds. GoesFurther (library builds) go world.old budget.old world.new budget.new (ending_of next))) }
-    ensures order { InOrder world.new }
-{
-    match make_at(here) {
-        Some(at) => make_here(world, here, at),
-        None => tail_call_or_step(world, budget, here),
-    }
-}
-
-/// Does so where the word makes no function either.
-fn tail_call_or_step(world: &mut World, budget: &mut u64, here: Here) -> Allocated<Ending>
-    requires ready { IsReady (length all_entries) go world.old }
-    requires here { IsHere world.old here }
-    ensures goes { IfOk result (λ next. AsRead (λ builds. GoesFurther (library builds) go world.old budget.old world.new budget.new (ending_of next))) }
-    ensures order { InOrder world.new }
-{
-    match tail_call_at(here) {
-        Some(at) => tail_call_here(world, budget, here, at),
-        None => return_or_step(world, budget, here),
-    }
-}
-
-/// Does so where the word is no call.
-fn return_or_step(world: &mut World, budget: &mut u64, here: Here) -> Allocated<Ending>
-    requires ready { IsReady (length all_entries) go world.old }
-    requires here { IsHere world.old here }
-    ensures goes { IfOk result (λ next. AsRead (λ builds. GoesFurther (library builds) go world.old budget.old world.new budget.new (ending_of next))) }
-    ensures order { InOrder world.new }
-{
-    match count_returned(here) {
-        Some(count) => return_few(world, budget, here, count),
-        None => concat_or_step(world, budget, here),
-    }
-}
-
-/// Does so where the word is no call and no return.
-fn concat_or_step(world: &mut World, budget: &mut u64, here: Here) -> Allocated<Ending>
-    requires ready { IsReady (length all_entries) go world.old }
-    requires here { IsHere world.old here }
-    ensures goes { IfOk result (λ next. AsRead (λ builds. GoesFurther (library builds) go world.old budget.old world.new budget.new (ending_of next))) }
-    ensures order { InOrder world.new }
-{
-    match concat_at(here) {
-        Some(at) => concat_here(world, budget, here, at),
-        None => step_from(world, budget, here),
-    }
-}
-
-/// How many values a frame returns that runs at this word, if that is a return of one value or of none.
-fn count_returned(here: Here) -> Option<usize>
-    ensures { IfSome result (λ count. ReturnsFew here count) }
-{
-    if !here.runs {
-        return None;
-    }
-    match here.word.opcode() {
-        Some(Opcode::Return) => few_of(here.word.b()),
-        Some(Opcode::Return0) => Some(0),
-        Some(Opcode::Return1) => Some(1),
-        _ => None,
-    }
-}
-
-/// How many values a RETURN gives that is told one more, where that is one or none.
-fn few_of(told: u8) -> Option<usize>
-    ensures { IfSome result (λ count. told ≡ suc count) }
-{
-    match told {
-        1 => Some(0),
-        2 => Some(1),
-        _ => None,
+    match quick_at(here) {
+        Quick::Calls(at) => call_here(world, budget, here, at),
+        Quick::TailCalls { function, count } => {
+            tail_call_here(world, budget, here, function, count)
+        }
+        Quick::Returns { count } => return_few(world, budget, here, count),
+        Quick::Makes { inner, to } => new_function(world, here.pc, inner, to),
+        Quick::Concats { first, count } => concatenate(world, budget, here.pc, first, count),
+        Quick::Other => step_from(world, budget, here),
     }
 }
 

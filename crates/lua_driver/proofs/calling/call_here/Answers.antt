@@ -8,11 +8,9 @@ use Rattle.move_laws.specs.Memory.{IsSafe, IsSound, Steps}
 use Rattle.machine_moves.specs.Ending.{ending_of}
 use Rattle.machine_call_rows.specs.Rows.{MayKeep}
 use Rattle.step_laws.proofs.Ready.{ready_is_sound}
-use Rattle.loaded_code.specs.Laws.{library}
-use Rattle.source_builds.proofs.Knowing.{read_all}
 use Rattle.machine_step.proofs.ByForm.{does, keeps, safe, small}
-use Rattle.lua_driver.proofs.Ahead.{at_once, done_here, nothing_done}
-use Rattle.lua_driver.proofs.CallForm.{form_here}
+use Rattle.lua_driver.proofs.Ahead.{done_here, nothing_done, read_once}
+use Rattle.lua_driver.proofs.Forms.{form_here}
 use Rattle.lua_driver.proofs.calling.call_here.Goals as goal
 
 pub call_library-requires-clause-runs : goal.call_library-requires-clause-runs
@@ -46,5 +44,5 @@ returns-in-None-clause-goes c =
     (λ next t.
     let steps : Steps row [] W c.args.budget.now V left (ending_of next) =
     subst (λ fuel. Steps row [] W fuel V left (ending_of next)) k.1 (subst (λ X. Steps row [] X c.call_library.new.budget V left (ending_of next)) k.0 (t r.runs.place.function.code c.args.here.pc)) in
-    read_all (λ builds are. at_once c.requires.ready ((does r steps).is (library builds))))
+    read_once c.requires.ready (does r steps))
     c.call.ensures.steps

@@ -6,12 +6,12 @@ use Rattle.step_laws.specs.Steps.{IsReady}
 use Rattle.step_laws.proofs.Ready.{ready_is_sound}
 use Rattle.source_builds.proofs.Knowing.{read_map}
 use Rattle.running_frame.specs.Here.{IsHere}
-use Rattle.lua_driver.proofs.Ahead.{done_here, nothing_done}
-use Rattle.lua_driver.proofs.TailForm.{at_once_again, tail_form_here}
+use Rattle.lua_driver.proofs.Ahead.{at_once_again, done_here, nothing_done}
+use Rattle.lua_driver.proofs.Forms.{form_here}
 use Rattle.lua_driver.proofs.tail_calling.tail_call_here.Goals as goal
 
 pub tail_call_library-requires-clause-runs : goal.tail_call_library-requires-clause-runs
-tail_call_library-requires-clause-runs c = tail_form_here (ready_is_sound (length all_entries) _ c.args.world.now c.requires.ready) c.requires.here c.requires.calls
+tail_call_library-requires-clause-runs c = record { pc = c.args.here.pc; runs = form_here (ready_is_sound (length all_entries) _ c.args.world.now c.requires.ready) c.requires.here c.requires.calls }
 
 pub returns-in-Some-clause-goes : goal.returns-in-Some-clause-goes
 returns-in-Some-clause-goes c = done_here c.in-Some.is c.in_ok-done.ensures.comes
