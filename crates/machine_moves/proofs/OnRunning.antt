@@ -34,18 +34,18 @@ module _ {W : Memory} {s : KeptStack} (r : RunsOn W s) where
   registers_on place n is room = registers_there W r.co s place n r.runs is room
 
   -- a move of the machine that is a change of the frame on top
-  pub own_on : (t : KeptStack) (place : Place) (change : (Kept → Value) → LuaFrame → LuaFrame) (m : Own) (env : List Value)
+  pub own_on : {t : KeptStack} {change : (Kept → Value) → LuaFrame → LuaFrame} (place : Place) (m : Own) (env : List Value)
       → place_of (plain W 0) ≡ Some place → fits m place.function.code place.top.own ≡ true → TopBecomes s t change
       → ((number frame : ℕ) (cells : List Cell) → cells_after m number frame place.top.own cells ≡ cells)
       → record place.top { own = effect m place.function.code env place.top.own } ≡ change (value W.strings) place.top
       → Makes W (with_running W t) (on_own m) env (reads m place.function.code env place.top.own) (tells m place.function.code env place.top.own)
-  own_on t place change m env is fit becomes cells same = own_made W (with_running W t) r.co s t place change m env r.runs is fit (changes_on t) becomes cells same
+  own_on {t} {change} place m env is fit becomes cells same = own_made W (with_running W t) r.co s t place change m env r.runs is fit (changes_on t) becomes cells same
 
   -- the frame on top still stands where it stood
-  pub stands_on : (t : KeptStack) (change : (Kept → Value) → LuaFrame → LuaFrame) → TopBecomes s t change
+  pub stands_on : {t : KeptStack} {change : (Kept → Value) → LuaFrame → LuaFrame} → TopBecomes s t change
       → ((u : LuaFrame) → (change (value W.strings) u).function ≡ u.function) → ((u : LuaFrame) → (change (value W.strings) u).own.pc ≡ u.own.pc)
       → (pc : ℕ) → StandsAt W pc → StandsAt (with_running W t) pc
-  stands_on t change becomes function same pc k = record {
+  stands_on {t} {change} becomes function same pc k = record {
     place = with_top k.place (change (value W.strings) k.place.top);
     is = place_after W (with_running W t) r.co s t k.place change r.runs k.is (changes_on t) becomes (function k.place.top);
     at = same k.place.top ∙ k.at;
@@ -54,9 +54,9 @@ module _ {W : Memory} {s : KeptStack} (r : RunsOn W s) where
   pub listed_on : (t : KeptStack) → t.open_cells ≡ s.open_cells → CellsAreListed W → CellsAreListed (with_running W t)
   listed_on t cells = listed_after W (with_running W t) r.co s t r.runs (changes_on t) cells
 
-  pub stays_on : (t : KeptStack) (change : (Kept → Value) → LuaFrame → LuaFrame) → TopBecomes s t change
+  pub stays_on : {t : KeptStack} {change : (Kept → Value) → LuaFrame → LuaFrame} → TopBecomes s t change
       → ((u : LuaFrame) → (change (value W.strings) u).function ≡ u.function) → ((u : LuaFrame) → (change (value W.strings) u).own.pc ≡ u.own.pc) → StaysOnTop W (with_running W t)
-  stays_on t change becomes function same = record { at = stands_on t change becomes function same; listed = listed_on t becomes.cells; rest = refl }
+  stays_on {t} becomes function same = record { at = stands_on becomes function same; listed = listed_on t becomes.cells; rest = refl }
 
   pub kept_on : (t : KeptStack) → t ≡ s → with_running W t ≡ W
   kept_on t same = sym (put_there W r.co t r.runs) ∙ kept_whole W r.co s t r.runs same

@@ -3,16 +3,16 @@ use Rattle.std.specs.Prelude.{◌≡◌, ℕ, ℤ, ◌≤◌, ◌<◌, ◌∷◌
 use Rattle.code_core.specs.declared.instruction.Instruction.{Instruction}
 use Rattle.code_core.specs.Check.{at, in_front}
 use Rattle.int_core.specs.Limits.{greatest_depth}
-use Rattle.int_core.specs.Value.{Value}
+use Rattle.int_core.specs.Value.{Value, is_known, nil}
 use Rattle.machine_core.specs.World.{Place, place_of}
-use Rattle.machine_core.specs.Text.{behind, last_pending, pay}
-use Rattle.machine_core.specs.Moves.{move, made, outside, move_pc, place_from}
+use Rattle.machine_core.specs.Text.{Own, behind, last_pending, pay}
+use Rattle.machine_core.specs.Moves.{move, made, on_own, outside, move_pc, place_from}
 use Rattle.table_core.specs.declared.value.CoroId.{CoroId}
 use Rattle.table_core.specs.declared.value.Value.{Value as Kept}
 use Rattle.lua_stack.specs.Frames.{KeptStack, NoneFrom}
 use Rattle.lua_heap.specs.declared.world.World.{World as Memory}
 use Rattle.lua_heap.specs.Plain.{plain}
-use Rattle.move_laws.specs.Memory.{HasFrame, Runs, Makes}
+use Rattle.move_laws.specs.Memory.{HasFrame, Runs, Makes, StaysOnTop}
 
 pub record RunsAs (W : Memory) (co : CoroId) : Type 0 where
   pub stack : KeptStack
@@ -31,6 +31,11 @@ pub record CanGo (W : Memory) (pc : ℕ) : Type 0 where
 -- the frame on top goes on there, however far that is
 pub record Goes (old new : Memory) (pc : ℕ) : Type 0 where
   pub makes : (place : Place) → place_of (plain old 0) ≡ Some place → (z : ℤ) → place_from place.top.own.pc z ≡ Some pc → (env : List Value) → Makes old new (move_pc z) env [] tt
+
+-- the frame on top does a move of its own that reads nothing, and stays where it stands
+pub record DoesOwn (old new : Memory) (m : Own) : Type 0 where
+  pub makes : (env : List Value) → Makes old new (on_own m) env [] (is_known nil)
+  pub stays : StaysOnTop old new
 
 -- a unit is paid from what is left of the budget, in whatever world
 abbrev pub Pays : (old new : ℕ) (paid : Bool) → Type 0

@@ -1,12 +1,12 @@
 // Open lists: values in registers, as many as there are, up to where the next instruction takes them.
 ghost use Rattle.std.specs.Prelude.{◌≡◌, ℕ, [], List, drop, length, map, pos, OnErr, OnOk};
-ghost use Rattle.int_core.specs.Value.{Value as Meant, integer, known, nil, is_known};
+ghost use Rattle.int_core.specs.Value.{Value as Meant, integer, nil, is_known};
 ghost use Rattle.lua_heap.specs.Cells.{CellsAreListed};
 ghost use Rattle.lua_heap.specs.Reading.{value as meant};
 ghost use Rattle.machine_core.specs.Text.{end_list as ends, read_list as reads_open, read_varargs as reads, write_list as writes};
 ghost use Rattle.machine_core.specs.Moves.{on_own};
-ghost use Rattle.move_laws.specs.Memory.{CanDo, HasFrame, IsSound, Makes, StandsAt, StaysOnTop};
-ghost use Rattle.machine_moves.specs.Moves.{CanCut, IsInFront};
+ghost use Rattle.move_laws.specs.Memory.{CanDo, HasFrame, IsSound, Makes, StandsAt};
+ghost use Rattle.machine_moves.specs.Moves.{CanCut, DoesOwn, IsInFront};
 
 use crate::chain::{running_stack, running_stack_mut};
 use crate::code::code_on_top;
@@ -65,8 +65,7 @@ pub fn write_list(world: &mut World, at: usize, values: &[Value]) -> Allocated<(
 /// Ends an open list: as many registers are left as the code has.
 pub fn end_list(world: &mut World, stack_size: usize)
     requires { CanCut world.old stack_size }
-    ensures makes { (env : List Meant) → Makes world.old world.new (on_own ends) env [] (is_known nil) }
-    ensures stays { StaysOnTop world.old world.new }
+    ensures { DoesOwn world.old world.new ends }
 {
     running_stack_mut(world).end_list(stack_size);
 }

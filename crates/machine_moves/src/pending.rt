@@ -1,12 +1,12 @@
 // The pending registers of the Lua frame on top: those of its variables that are still to be closed.
 ghost use Rattle.std.specs.Prelude.{◌≡◌, ℕ, [], List, OnErr, OnOk};
-ghost use Rattle.int_core.specs.Value.{Value as Meant, boolean, known, nil, is_known};
+ghost use Rattle.int_core.specs.Value.{Value as Meant, boolean, nil, is_known};
 ghost use Rattle.lua_heap.specs.Cells.{CellsAreListed};
 ghost use Rattle.lua_heap.specs.Reading.{value as meant};
 ghost use Rattle.machine_core.specs.Text.{drop_pending as drops, is_there, mark_pending as marks, see_pending as sees, take_pending as takes};
 ghost use Rattle.machine_core.specs.Moves.{on_own};
-ghost use Rattle.move_laws.specs.Memory.{CanDo, Makes, StandsAt, StaysOnTop};
-ghost use Rattle.machine_moves.specs.Moves.{CanSee, value_seen};
+ghost use Rattle.move_laws.specs.Memory.{CanDo, Makes, StandsAt};
+ghost use Rattle.machine_moves.specs.Moves.{CanSee, DoesOwn, value_seen};
 
 use crate::chain::{running_stack, running_stack_mut};
 use int_core::Allocated;
@@ -40,8 +40,7 @@ pub fn mark_pending(world: &mut World, register: usize) -> Allocated<()>
 /// The last pending register from one on is no longer pending.
 pub fn take_pending(world: &mut World, register: usize)
     requires { CanDo world.old (takes register) }
-    ensures makes { (env : List Meant) → Makes world.old world.new (on_own (takes register)) env [] (is_known nil) }
-    ensures stays { StaysOnTop world.old world.new }
+    ensures { DoesOwn world.old world.new (takes register) }
 {
     running_stack_mut(world).take_pending(register);
 }
@@ -49,8 +48,7 @@ pub fn take_pending(world: &mut World, register: usize)
 /// No register from one on is pending.
 pub fn drop_pending(world: &mut World, register: usize)
     requires { CanDo world.old (drops register) }
-    ensures makes { (env : List Meant) → Makes world.old world.new (on_own (drops register)) env [] (is_known nil) }
-    ensures stays { StaysOnTop world.old world.new }
+    ensures { DoesOwn world.old world.new (drops register) }
 {
     running_stack_mut(world).drop_pending(register);
 }

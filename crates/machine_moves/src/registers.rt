@@ -1,12 +1,12 @@
 // The registers of the Lua frame on top, and its place in the code.
-ghost use Rattle.std.specs.Prelude.{◌≡◌, ◌+◌, ◌≤◌, [], ◌∷◌, List, Some, drop, length, map, slice_get, take};
-ghost use Rattle.int_core.specs.Value.{Value as Meant, known, nil, shape, is_known};
+ghost use Rattle.std.specs.Prelude.{◌≡◌, ◌+◌, ◌≤◌, [], ◌∷◌, List, drop, length, map, take};
+ghost use Rattle.int_core.specs.Value.{Value as Meant, nil, shape, is_known};
 ghost use Rattle.lua_heap.specs.Cells.{CellsAreListed};
 ghost use Rattle.lua_heap.specs.Reading.{value as meant};
 ghost use Rattle.machine_core.specs.Text.{Arg, arg, written, read_register as reads, read_registers as reads_all, write_register as writes, write_nils};
 ghost use Rattle.machine_core.specs.Moves.{on_own};
 ghost use Rattle.move_laws.specs.Memory.{CanDo, Makes, StaysOnTop};
-ghost use Rattle.machine_moves.specs.Moves.{CanGo, Goes};
+ghost use Rattle.machine_moves.specs.Moves.{CanGo, DoesOwn, Goes};
 
 use crate::chain::{running_stack, running_stack_mut};
 use lua_heap::World;
@@ -52,8 +52,7 @@ pub fn write_register(world: &mut World, register: usize, v: Value)
 /// Sets registers in a row to nil.
 pub fn clear_registers(world: &mut World, from: usize, count: usize)
     requires { CanDo world.old (write_nils from count) }
-    ensures makes { (env : List Meant) → Makes world.old world.new (on_own (write_nils from count)) env [] (is_known nil) }
-    ensures stays { StaysOnTop world.old world.new }
+    ensures { DoesOwn world.old world.new (write_nils from count) }
 {
     running_stack_mut(world).write_nils(from, count);
 }

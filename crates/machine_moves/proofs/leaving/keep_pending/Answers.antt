@@ -11,12 +11,11 @@ running_stack_mut-requires c = has_stack c.args.world.now c.requires.place c.req
 pub keep_pending-requires-clause-there : goal.keep_pending-requires-clause-there
 keep_pending-requires-clause-there c = registers_on c.running_stack_mut.ensures.runs c.requires.place c.args.stack_size c.requires.is c.requires.room
 
-pub returns-clause-makes : goal.returns-clause-makes
-returns-clause-makes c = λ env.
-    let p = c.requires.place in
-    own_on c.running_stack_mut.ensures.runs c.keep_pending.new.self p (λ f t. with_opened 0 (with_registers (blanked (is_pending t.own.pending) 0 c.args.stack_size t.own.registers) t)) keep_pending env
-    c.requires.is refl c.keep_pending.ensures (λ co frame cells. refl) (ap (λ n. with_opened 0 (with_registers (blanked (is_pending p.top.own.pending) 0 n p.top.own.registers) p.top)) (sym c.requires.size))
-
-pub returns-clause-stays : goal.returns-clause-stays
-returns-clause-stays c =
-    stays_on c.running_stack_mut.ensures.runs c.keep_pending.new.self (λ f t. with_opened 0 (with_registers (blanked (is_pending t.own.pending) 0 c.args.stack_size t.own.registers) t)) c.keep_pending.ensures (λ u. refl) (λ u. refl)
+pub returns : goal.returns
+returns c =
+    let top = c.requires.place.top in
+    record {
+      makes = λ env. own_on c.running_stack_mut.ensures.runs c.requires.place keep_pending env c.requires.is refl c.keep_pending.ensures (λ co frame cells. refl)
+          (ap (λ n. with_opened 0 (with_registers (blanked (is_pending top.own.pending) 0 n top.own.registers) top)) (sym c.requires.size));
+      stays = stays_on c.running_stack_mut.ensures.runs c.keep_pending.ensures (λ u. refl) (λ u. refl);
+    }

@@ -12,12 +12,11 @@ running_stack_mut-requires c = has_stack c.args.world.now c.requires.place c.req
 pub keep_results-requires-clause-there : goal.keep_results-requires-clause-there
 keep_results-requires-clause-there c = registers_on c.running_stack_mut.ensures.runs c.requires.place (max c.args.stack_size (behind c.args.from c.args.count)) c.requires.is c.requires.room
 
-pub returns-clause-makes : goal.returns-clause-makes
-returns-clause-makes c = λ env.
-    let p = c.requires.place in
-    own_on c.running_stack_mut.ensures.runs c.keep_results.new.self p (λ f t. with_opened 0 (with_registers (blanked (λ i. is_pending t.own.pending i || (nat_le c.args.from i && nat_lt i (c.args.from + c.args.count))) 0 (max c.args.stack_size (behind c.args.from c.args.count)) t.own.registers) t)) (keep_results c.args.from c.args.count) env
-    c.requires.is refl c.keep_results.ensures (λ co frame cells. refl) (ap (λ n. with_opened 0 (with_registers (blanked (λ i. is_pending p.top.own.pending i || (nat_le c.args.from i && nat_lt i (c.args.from + c.args.count))) 0 (max n (behind c.args.from c.args.count)) p.top.own.registers) p.top)) (sym c.requires.size))
-
-pub returns-clause-stays : goal.returns-clause-stays
-returns-clause-stays c =
-    stays_on c.running_stack_mut.ensures.runs c.keep_results.new.self (λ f t. with_opened 0 (with_registers (blanked (λ i. is_pending t.own.pending i || (nat_le c.args.from i && nat_lt i (c.args.from + c.args.count))) 0 (max c.args.stack_size (behind c.args.from c.args.count)) t.own.registers) t)) c.keep_results.ensures (λ u. refl) (λ u. refl)
+pub returns : goal.returns
+returns c =
+    let top = c.requires.place.top in
+    record {
+      makes = λ env. own_on c.running_stack_mut.ensures.runs c.requires.place (keep_results c.args.from c.args.count) env c.requires.is refl c.keep_results.ensures (λ co frame cells. refl)
+          (ap (λ n. with_opened 0 (with_registers (blanked (λ i. is_pending top.own.pending i || (nat_le c.args.from i && nat_lt i (c.args.from + c.args.count))) 0 (max n (behind c.args.from c.args.count)) top.own.registers) top)) (sym c.requires.size));
+      stays = stays_on c.running_stack_mut.ensures.runs c.keep_results.ensures (λ u. refl) (λ u. refl);
+    }

@@ -12,12 +12,8 @@ running_stack_mut-requires c = has_stack c.args.world.now c.requires.place c.req
 pub end_list-requires-clause-there : goal.end_list-requires-clause-there
 end_list-requires-clause-there c = registers_on c.running_stack_mut.ensures.runs c.requires.place c.args.stack_size c.requires.is c.requires.room
 
-pub returns-clause-makes : goal.returns-clause-makes
-returns-clause-makes c = λ env.
-    let p = c.requires.place in
-    own_on c.running_stack_mut.ensures.runs c.end_list.new.self p (λ f t. with_opened 0 (with_registers (take c.args.stack_size t.own.registers) t)) end_list env
-    c.requires.is refl c.end_list.ensures (λ co frame cells. refl) (ap (λ n. with_opened 0 (with_registers (take n p.top.own.registers) p.top)) (sym c.requires.size))
-
-pub returns-clause-stays : goal.returns-clause-stays
-returns-clause-stays c =
-    stays_on c.running_stack_mut.ensures.runs c.end_list.new.self (λ f t. with_opened 0 (with_registers (take c.args.stack_size t.own.registers) t)) c.end_list.ensures (λ u. refl) (λ u. refl)
+pub returns : goal.returns
+returns c = record {
+  makes = λ env. own_on c.running_stack_mut.ensures.runs c.requires.place end_list env c.requires.is refl c.end_list.ensures (λ co frame cells. refl) (ap (λ n. with_opened 0 (with_registers (take n c.requires.place.top.own.registers) c.requires.place.top)) (sym c.requires.size));
+  stays = stays_on c.running_stack_mut.ensures.runs c.end_list.ensures (λ u. refl) (λ u. refl);
+}

@@ -25,13 +25,11 @@ pub returns-clause-makes : goal.returns-clause-makes
 returns-clause-makes c =
     let p = c.requires.place in
     on_ok c.write_list.result c.write_list.ensures.ok (λ becomes env slot e.
-    own_on c.running_stack_mut.ensures.runs c.write_list.new.self p (λ f t. with_opened (length c.args.values.now) (with_registers (write_all c.args.at (map f c.args.values.now) t.own.registers) t)) (write_list c.args.at slot) env
-    c.requires.is c.requires.fits becomes (λ co frame cells. refl)
+    own_on c.running_stack_mut.ensures.runs p (write_list c.args.at slot) env c.requires.is c.requires.fits becomes (λ co frame cells. refl)
     (ap (λ vs. list_put c.args.at p.top (length vs) vs) e ∙ ap (λ n. list_put c.args.at p.top n (map (meant c.args.world.now.strings) c.args.values.now)) (length-map c.args.values.now (meant c.args.world.now.strings))))
 
 pub returns-clause-at : goal.returns-clause-at
-returns-clause-at c =
-    on_ok c.write_list.result c.write_list.ensures.ok (λ becomes. stands_on c.running_stack_mut.ensures.runs c.write_list.new.self (λ f t. with_opened (length c.args.values.now) (with_registers (write_all c.args.at (map f c.args.values.now) t.own.registers) t)) becomes (λ u. refl) (λ u. refl))
+returns-clause-at c = on_ok c.write_list.result c.write_list.ensures.ok (λ becomes. stands_on c.running_stack_mut.ensures.runs becomes (λ u. refl) (λ u. refl))
 
 pub returns-clause-err : goal.returns-clause-err
 returns-clause-err c = on_err c.write_list.result c.write_list.ensures.err (λ e. kept_on c.running_stack_mut.ensures.runs c.write_list.new.self e)

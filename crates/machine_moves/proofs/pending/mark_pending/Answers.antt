@@ -1,6 +1,5 @@
-use Rattle.std.proofs.Common.{[], ◌∷◌, ◌++◌, refl}
+use Rattle.std.proofs.Common.{refl}
 use Rattle.machine_core.specs.Text.{mark_pending}
-use Rattle.lua_stack.specs.Frames.{with_pending}
 use Rattle.move_laws.proofs.Running.{has_stack}
 use Rattle.machine_moves.proofs.OnTop.{on_ok, on_err}
 use Rattle.machine_moves.proofs.Stacks.{less}
@@ -16,12 +15,11 @@ mark_pending-requires c = registers_on c.running_stack_mut.ensures.runs c.requir
 pub returns-clause-makes : goal.returns-clause-makes
 returns-clause-makes c =
     on_ok c.mark_pending.result c.mark_pending.ensures.ok (λ becomes env.
-    own_on c.running_stack_mut.ensures.runs c.mark_pending.new.self c.requires.place (λ f t. with_pending (t.own.pending ++ c.args.register ∷ []) t) (mark_pending c.args.register) env
-    c.requires.is c.requires.fits becomes (λ co frame cells. refl) refl)
+    own_on c.running_stack_mut.ensures.runs c.requires.place (mark_pending c.args.register) env c.requires.is c.requires.fits becomes (λ co frame cells. refl) refl)
 
 pub returns-clause-at : goal.returns-clause-at
 returns-clause-at c =
-    on_ok c.mark_pending.result c.mark_pending.ensures.ok (λ becomes. stands_on c.running_stack_mut.ensures.runs c.mark_pending.new.self (λ f t. with_pending (t.own.pending ++ c.args.register ∷ []) t) becomes (λ u. refl) (λ u. refl))
+    on_ok c.mark_pending.result c.mark_pending.ensures.ok (λ becomes. stands_on c.running_stack_mut.ensures.runs becomes (λ u. refl) (λ u. refl))
 
 pub returns-clause-err : goal.returns-clause-err
 returns-clause-err c = on_err c.mark_pending.result c.mark_pending.ensures.err (λ e. kept_on c.running_stack_mut.ensures.runs c.mark_pending.new.self e)

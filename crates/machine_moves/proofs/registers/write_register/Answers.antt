@@ -14,11 +14,10 @@ pub set-requires : goal.set-requires
 set-requires c = registers_on c.running_stack_mut.ensures.runs c.requires.place _ c.requires.is (less _ _ c.requires.fits)
 
 pub returns-clause-makes : goal.returns-clause-makes
-returns-clause-makes c =
-    let p = c.requires.place in
-    λ env x e. own_on c.running_stack_mut.ensures.runs c.set.new.self p (λ f t. with_registers (write c.args.register (f c.args.v) t.own.registers) t) (writes c.args.register x) env
-    c.requires.is c.requires.fits c.set.ensures (λ co frame cells. refl)
-    (ap (λ (u : Meant). with_registers (write c.args.register u p.top.own.registers) p.top) e)
+returns-clause-makes c = λ env x e.
+    let top = c.requires.place.top in
+    own_on c.running_stack_mut.ensures.runs c.requires.place (writes c.args.register x) env c.requires.is c.requires.fits c.set.ensures (λ co frame cells. refl)
+    (ap (λ (u : Meant). with_registers (write c.args.register u top.own.registers) top) e)
 
 pub returns-clause-stays : goal.returns-clause-stays
-returns-clause-stays c = stays_on c.running_stack_mut.ensures.runs c.set.new.self (λ f t. with_registers (write c.args.register (f c.args.v) t.own.registers) t) c.set.ensures (λ u. refl) (λ u. refl)
+returns-clause-stays c = stays_on c.running_stack_mut.ensures.runs c.set.ensures (λ u. refl) (λ u. refl)

@@ -1,5 +1,4 @@
 use Rattle.std.proofs.Common.{◌≡◌, ◌≤◌, ◌+◌, ℕ, zero, suc, List, [], length, refl, ap, subst, ◌∙◌, arith}
-use Rattle.std.specs.Prelude.{map}
 use Rattle.int_core.specs.Value.{Value as Meant, range, without_last, write_all}
 use Rattle.lua_heap.specs.Plain.{plain}
 use Rattle.lua_heap.specs.Reading.{value as meant}
@@ -50,10 +49,8 @@ write_padded-requires c =
 pub returns-clause-makes : goal.returns-clause-makes
 returns-clause-makes c = λ env slot e.
     let p = c.requires.place in
-    own_on c.running_stack_mut.ensures.runs c.write_padded.new.stack p (λ f t. with_registers (write_all c.args.at (range 0 c.args.count (map f c.args.values.now)) t.own.registers) t) (write_registers c.args.at c.args.count slot) env
-    c.requires.is c.requires.fits c.write_padded.ensures (λ co frame cells. refl)
+    own_on c.running_stack_mut.ensures.runs p (write_registers c.args.at c.args.count slot) env c.requires.is c.requires.fits c.write_padded.ensures (λ co frame cells. refl)
     (ap (λ vs. with_registers (write_all c.args.at vs p.top.own.registers) p.top) (range_from slot c.args.count env ∙ ap (range 0 c.args.count) e))
 
 pub returns-clause-stays : goal.returns-clause-stays
-returns-clause-stays c =
-    stays_on c.running_stack_mut.ensures.runs c.write_padded.new.stack (λ f t. with_registers (write_all c.args.at (range 0 c.args.count (map f c.args.values.now)) t.own.registers) t) c.write_padded.ensures (λ u. refl) (λ u. refl)
+returns-clause-stays c = stays_on c.running_stack_mut.ensures.runs c.write_padded.ensures (λ u. refl) (λ u. refl)

@@ -1,5 +1,4 @@
 use Rattle.std.proofs.Common.{refl}
-use Rattle.lua_stack.specs.Frames.{wait_of, with_wait}
 use Rattle.move_laws.proofs.Running.{has_stack}
 use Rattle.machine_moves.specs.Lending.{with_running}
 use Rattle.machine_moves.proofs.OnRunning.{changes_on, stays_on, top_on}
@@ -18,4 +17,4 @@ returns-clause-waits c =
     wait_set c.args.world.now (with_running c.args.world.now c.set_wait.new.self) c.running_stack_mut.ensures.runs.co c.running_stack_mut.result.now c.set_wait.new.self c.args.wait r (changes_on c.running_stack_mut.ensures.runs c.set_wait.new.self) c.set_wait.ensures
 
 pub returns-clause-stays : goal.returns-clause-stays
-returns-clause-stays c = stays_on c.running_stack_mut.ensures.runs c.set_wait.new.self (λ f t. with_wait (wait_of f c.args.wait) t) c.set_wait.ensures (λ u. refl) (λ u. refl)
+returns-clause-stays c = stays_on c.running_stack_mut.ensures.runs c.set_wait.ensures (λ u. refl) (λ u. refl)
