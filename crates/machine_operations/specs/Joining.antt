@@ -1,5 +1,5 @@
 -- Operands that are joined, from the last one on.
-use Rattle.std.specs.Prelude.{◌≡◌, ℕ, zero, suc, ◌+◌, List, [], ◌∷◌, ◌++◌, drop, length, map}
+use Rattle.std.specs.Prelude.{◌≡◌, ◌<◌, ◌^◌, ℕ, zero, suc, ◌+◌, List, [], ◌∷◌, ◌++◌, drop, length, map}
 use Rattle.int_core.specs.Ask.{values}
 use Rattle.int_core.specs.Operations.{concat}
 use Rattle.int_core.specs.Value.{Value, Shape, shape, nth}
@@ -18,7 +18,7 @@ use Rattle.meta_ops.specs.declared.outcome.Outcome.{Outcome}
 use Rattle.meta_ops.specs.declared.outcome.Outcome.TheVariants.{Found, Ask}
 use Rattle.meta_ops.specs.Heap.{IsIn}
 use Rattle.meta_ops.specs.Outcome.{fault_text}
-use Rattle.move_laws.specs.Memory.{IsSafe, Makes}
+use Rattle.move_laws.specs.Memory.{HasFrame, IsSafe, IsSound, Makes}
 use Rattle.machine_moves.specs.Operations.{values_of, told_of}
 use Rattle.machine_operations.specs.declared.joining.Joined.{Joined}
 use Rattle.machine_operations.specs.declared.joining.Joined.TheVariants.{Whole, Asks, Fails}
@@ -47,6 +47,14 @@ pub record MayJoin (W : Memory) (first left : ℕ) (whole : Kept) : Type 0 where
   pub env : List Value
   pub named : Names W first left env whole
   pub safe : IsSafe (expand_by when (joins first left (read 0))) env W
+
+-- so many operands may be joined to the value behind them
+pub record CanJoin (W : Memory) (first count : ℕ) (v : Kept) : Type 0 where
+  pub sound : IsSound W
+  pub frame : HasFrame W
+  pub last : IsIn W.strings W.tables.objects v
+  pub room : first + count < 2 ^ 64
+  pub safe : MayJoin W first count v
 
 -- what is then done
 abbrev pub row_of : When → List (List ℕ) → (first slot : ℕ) → Joined → Row

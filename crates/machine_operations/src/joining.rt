@@ -1,8 +1,7 @@
 // Operands of a concatenation that are joined (luaV_concat of lvm.c).
-ghost use Rattle.std.specs.Prelude.{◌≡◌, ◌+◌, ◌<◌, ◌≤◌, ◌^◌, IfOk};
-ghost use Rattle.meta_ops.specs.Heap.{IsIn};
-ghost use Rattle.move_laws.specs.Memory.{HasFrame, IsSound, ReadsSame};
-ghost use Rattle.machine_operations.specs.Joining.{Joins, MayJoin};
+ghost use Rattle.std.specs.Prelude.{◌≡◌, IfOk};
+ghost use Rattle.move_laws.specs.Memory.{IsSound, ReadsSame};
+ghost use Rattle.machine_operations.specs.Joining.{CanJoin, Joins};
 
 use crate::concatenation::join_one;
 use crate::whole_texts::{join_whole, joined_text};
@@ -26,33 +25,10 @@ pub enum Joined {
     Fails(Fault),
 }
 
-/// Joins so many operands, in registers from `first` on, to what stands behind them, from the last one on and as far as no handler is asked for.
-/// The world stands for the same as before, also after a refusal.
+/// Joins so many operands, in registers from `first` on, to what stands behind them, from the last one on and as far as no handler is asked for. Where all have
+/// texts they are joined at once, so that the texts between make no strings. The world stands for the same as before, also after a refusal.
 pub fn join(world: &mut World, first: usize, count: usize, last: Value) -> Allocated<Joined>
-    requires sound { IsSound world.old }
-    requires frame { HasFrame world.old }
-    requires last { IsIn world.old.strings world.old.tables.objects last }
-    requires room { first + count < 2 ^ 64 }
-    requires safe { MayJoin world.old first count last }
-    ensures joins { IfOk result (λ joined. Joins world.old world.new first count last joined) }
-    ensures same { ReadsSame world.old world.new }
-    ensures sound { IsSound world.new }
-    ensures rest { world.new ≡ record world.old { strings = world.new.strings } }
-{
-    if count < 2 {
-        return join_in_turn(world, first, count, last);
-    }
-    join_at_once(world, first, count, last)
-}
-
-/// Joins them at once where all have texts, so that the texts between make no strings.
-fn join_at_once(world: &mut World, first: usize, count: usize, last: Value) -> Allocated<Joined>
-    requires sound { IsSound world.old }
-    requires frame { HasFrame world.old }
-    requires last { IsIn world.old.strings world.old.tables.objects last }
-    requires some { 1 ≤ count }
-    requires room { first + count < 2 ^ 64 }
-    requires safe { MayJoin world.old first count last }
+    requires { CanJoin world.old first count last }
     ensures joins { IfOk result (λ joined. Joins world.old world.new first count last joined) }
     ensures same { ReadsSame world.old world.new }
     ensures sound { IsSound world.new }
@@ -66,11 +42,7 @@ fn join_at_once(world: &mut World, first: usize, count: usize, last: Value) -> A
 
 /// Joins them one after another.
 fn join_in_turn(world: &mut World, first: usize, count: usize, last: Value) -> Allocated<Joined>
-    requires sound { IsSound world.old }
-    requires frame { HasFrame world.old }
-    requires last { IsIn world.old.strings world.old.tables.objects last }
-    requires room { first + count < 2 ^ 64 }
-    requires safe { MayJoin world.old first count last }
+    requires { CanJoin world.old first count last }
     ensures joins { IfOk result (λ joined. Joins world.old world.new first count last joined) }
     ensures same { ReadsSame world.old world.new }
     ensures sound { IsSound world.new }

@@ -2,9 +2,8 @@
 ghost use Rattle.std.specs.Prelude.{◌≡◌, ℕ, ◌+◌, ◌<◌, ◌≤◌, ◌^◌, [], IfOk, IfSome, length};
 ghost use Rattle.int_core.specs.Value.{greatest_string};
 ghost use Rattle.machine_core.specs.Text.{read_register as reads};
-ghost use Rattle.meta_ops.specs.Heap.{IsIn};
 ghost use Rattle.move_laws.specs.Memory.{CanDo, HasFrame, IsSound, ReadsSame};
-ghost use Rattle.machine_operations.specs.Joining.{Joins, MayJoin};
+ghost use Rattle.machine_operations.specs.Joining.{CanJoin, Joins};
 ghost use Rattle.machine_operations.specs.WholeTexts.{AreTexts, AreWhole};
 
 use crate::joining::Joined;
@@ -15,16 +14,15 @@ use meta_ops::{append_text, is_short, law};
 use std::alloc::Global;
 use table_core::Value;
 
-/// The texts of so many operands, in registers from `first` on, and of the last one behind them, where all have texts and a string may be so long. `None` says
-/// nothing, also where memory runs out.
+/// The texts of two or more operands, in registers from `first` on, and of the last one behind them, where all have texts and a string may be so long. `None`
+/// says nothing, also where memory runs out.
 pub(crate) fn joined_text(world: &World, first: usize, count: usize, last: Value) -> Option<Vec<u8>>
-    requires sound { IsSound world.now }
-    requires last { IsIn world.now.strings world.now.tables.objects last }
-    requires some { 1 ≤ count }
-    requires room { first + count < 2 ^ 64 }
-    requires safe { MayJoin world.now first count last }
+    requires { CanJoin world.now first count last }
     ensures { IfSome result (λ text. AreWhole world.now first count last text.items) }
 {
+    if count < 2 {
+        return None;
+    }
     let mut text = texts_in_front(world, first, count)?;
     append_text(&mut text, &world.strings, last)?;
     if !is_short(text.as_slice()) {

@@ -14,19 +14,16 @@ use Rattle.machine_operations.specs.declared.joining.Joined.TheVariants.{Whole, 
 use Rattle.machine_operations.proofs.Came.{asks_leads, came_comes, came_may, can_prepare, fails_leads, first_there, frame_at, stands_same, whole_leads, whole_may}
 use Rattle.machine_operations.proofs.concatenating.join_on.Goals as goal
 
-pub join-requires-clause-sound : goal.join-requires-clause-sound
-join-requires-clause-sound c = c.requires.stands.sound
-
-pub join-requires-clause-frame : goal.join-requires-clause-frame
-join-requires-clause-frame c = frame_at c.requires.stands.at
-
-pub join-requires-clause-last : goal.join-requires-clause-last
-join-requires-clause-last c =
+pub join-requires : goal.join-requires
+join-requires c =
     let W = c.args.world.now in
-    subst (λ v. IsIn W.strings W.tables.objects v) (sym c.first_or_nil-last.ensures) (first_there c.operands_are_there.ensures W c.args.came.now c.requires.came)
-
-pub join-requires-clause-safe : goal.join-requires-clause-safe
-join-requires-clause-safe c = came_may c.args.world.now c.args.first c.args.left c.args.came.now c.first_or_nil-last.result c.first_or_nil-last.ensures c.requires.safe
+    record {
+      sound = c.requires.stands.sound;
+      frame = frame_at c.requires.stands.at;
+      last = subst (λ v. IsIn W.strings W.tables.objects v) (sym c.first_or_nil-last.ensures) (first_there c.operands_are_there.ensures W c.args.came.now c.requires.came);
+      room = c.requires.size;
+      safe = came_may W c.args.first c.args.left c.args.came.now c.first_or_nil-last.result c.first_or_nil-last.ensures c.requires.safe;
+    }
 
 pub keep-requires : goal.keep-requires
 keep-requires c =

@@ -1,4 +1,4 @@
-use Rattle.std.proofs.Common.{◌≡◌, suc, ◌+◌, ◌-◌, ◌≤◌, arith, length, subst}
+use Rattle.std.proofs.Common.{rules, ◌≡◌, suc, ◌+◌, ◌-◌, ◌≤◌, arith, length, subst}
 use Rattle.int_core.specs.Value.{greatest_string}
 use Rattle.meta_ops.specs.Concat.{AppendsText}
 use Rattle.machine_operations.specs.Joining.{MayJoin}
@@ -19,9 +19,10 @@ append_text-requires c = let W = c.args.world.now in is_string W.strings W.table
 pub returns : goal.returns
 returns c =
     let W = c.args.world.now in
+    let some : 1 ≤ c.args.count = search (arith, rules) in
     let appends : AppendsText W.strings c.in_ok-text.text.items c.append_text.new.text.items c.args.last = c.in_ok-append_text.ensures in
     record {
-      some = c.requires.some;
+      some = some;
       short = subst (λ t. length t ≤ greatest_string) c.as_slice.ensures.value (c.is_short.ensures c.if-not-is_short.false);
       front = c.in_ok-text.text.items;
       piece = appends.piece;
