@@ -1,6 +1,7 @@
 -- What rows on a world in memory suppose, and what they read.
-use Rattle.std.specs.Prelude.{◌≡◌, ℕ, List, ◌++◌, Some, IsSome, length}
+use Rattle.std.specs.Prelude.{◌≡◌, ◌+◌, ◌<◌, ◌^◌, ℕ, List, [], ◌++◌, Some, IsSome, length}
 use Rattle.code_core.specs.Check.{extra_at}
+use Rattle.code_core.specs.Prototype.{Prototype}
 use Rattle.int_core.specs.Value.{Value}
 use Rattle.machine_core.specs.World.{Place, place_of}
 use Rattle.machine_core.specs.Text.{Arg, arg, Text}
@@ -13,9 +14,10 @@ use Rattle.lua_heap.specs.Cells.{CellsAreListed}
 use Rattle.lua_heap.specs.Codes.{AreCodes}
 use Rattle.lua_heap.specs.Plain.{plain}
 use Rattle.lua_heap.specs.Reading.{value}
+use Rattle.instruction_forms.specs.declared.form.Form.{Form}
 use Rattle.instruction_forms.specs.declared.operand.Operand.{Operand}
-use Rattle.instruction_forms.specs.Forms.{with_operand}
-use Rattle.move_laws.specs.Memory.{IsSafe}
+use Rattle.instruction_forms.specs.Forms.{text_of, with_operand}
+use Rattle.move_laws.specs.Memory.{InOrder, IsSafe, StandsAt}
 use Rattle.machine_moves.specs.Code.{HasCode}
 
 -- the world in memory is one that its own calls have made, and a function with checked code is on top
@@ -23,6 +25,13 @@ pub record HasFunction (W : Memory) : Type 0 where
   pub codes : AreCodes W.strings W.codes
   pub listed : CellsAreListed W
   pub frame : HasCode W
+
+-- the frame on top is at this place, and an instruction of this form does not trap there, whatever the code
+pub record MayDo (W : Memory) (pc : ℕ) (form : Form) : Type 0 where
+  pub at : StandsAt W pc
+  pub room : pc + 2 < 2 ^ 64
+  pub order : InOrder W
+  pub safe : (p : Prototype) → IsSafe (expand (text_of p pc form)) [] W
 
 -- a word behind the instruction carries a number for it
 pub record HasExtra (W : Memory) (pc : ℕ) : Type 0 where

@@ -1,5 +1,5 @@
 // Instructions that put values into registers and upvalues (MOVE to LOADNIL, GETUPVAL and SETUPVAL, of lopcodes.h).
-ghost use Rattle.std.specs.Prelude.{◌≡◌, ◌+◌, ◌<◌, ◌^◌, ℕ, [], Some, cond};
+ghost use Rattle.std.specs.Prelude.{◌≡◌, ◌+◌, ◌<◌, ◌^◌, [], Some, cond};
 ghost use Rattle.code_core.specs.Prototype.{Prototype};
 ghost use Rattle.machine_core.specs.World.{Place, place_of};
 ghost use Rattle.machine_core.specs.FrameRows.{expand};
@@ -7,8 +7,8 @@ ghost use Rattle.machine_core.specs.Moves.{go};
 ghost use Rattle.instruction_forms.specs.Forms.{text_of};
 ghost use Rattle.instruction_forms.specs.declared.form.Form.TheVariants.{Load, LoadFar, Clear, StoreUpvalue};
 ghost use Rattle.lua_heap.specs.Plain.{plain};
-ghost use Rattle.move_laws.specs.Memory.{InOrder, IsSafe, IsSound, Leads, StandsAt, StandsSound};
-ghost use Rattle.machine_rows.specs.Rows.{HasExtra, IsExtra};
+ghost use Rattle.move_laws.specs.Memory.{InOrder, IsSafe, IsSound, Leads, StandsSound};
+ghost use Rattle.machine_rows.specs.Rows.{HasExtra, IsExtra, MayDo};
 
 use crate::operands::read_operand;
 use instruction_forms::Operand;
@@ -55,10 +55,7 @@ pub fn extra_argument(world: &World, pc: usize) -> usize
 
 /// So many registers become nil.
 pub fn clear(world: &mut World, pc: usize, from: usize, count: usize)
-    requires at { StandsAt world.old pc }
-    requires room { pc + 2 < 2 ^ 64 }
-    requires order { InOrder world.old }
-    requires safe { (p : Prototype) → IsSafe (expand (text_of p pc (Clear from count))) [] world.old }
+    requires { MayDo world.old pc (Clear from count) }
     ensures leads { (p : Prototype) → Leads (expand (text_of p pc (Clear from count))) [] world.old world.new go }
     ensures order { InOrder world.new }
 {
@@ -68,10 +65,7 @@ pub fn clear(world: &mut World, pc: usize, from: usize, count: usize)
 
 /// A register's value goes to an upvalue.
 pub fn store_upvalue(world: &mut World, pc: usize, from: usize, upvalue: usize)
-    requires at { StandsAt world.old pc }
-    requires room { pc + 2 < 2 ^ 64 }
-    requires order { InOrder world.old }
-    requires safe { (p : Prototype) → IsSafe (expand (text_of p pc (StoreUpvalue from upvalue))) [] world.old }
+    requires { MayDo world.old pc (StoreUpvalue from upvalue) }
     ensures leads { (p : Prototype) → Leads (expand (text_of p pc (StoreUpvalue from upvalue))) [] world.old world.new go }
     ensures order { InOrder world.new }
 {
