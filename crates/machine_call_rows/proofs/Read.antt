@@ -15,8 +15,8 @@ use Rattle.lua_stack.specs.declared.frame.Wait.{Wait as KeptWait}
 use Rattle.lua_heap.specs.declared.world.World.{World as Memory}
 use Rattle.lua_heap.specs.Plain.{plain}
 use Rattle.lua_heap.specs.Reading.{value}
-use Rattle.move_laws.specs.Memory.{IsSafe, IsSound, Makes, Steps}
-use Rattle.move_laws.proofs.Rows.{act_is, safe_after}
+use Rattle.move_laws.specs.Memory.{CanDo, IsSafe, IsSound, Makes, Steps}
+use Rattle.move_laws.proofs.Rows.{act_is, can_do, safe_after}
 use Rattle.move_laws.proofs.Sounds.{sound_top}
 use Rattle.move_laws.proofs.Valid.{reads_there, top_is_ok}
 use Rattle.machine_moves.specs.Ending.{ending_of}
@@ -83,6 +83,10 @@ whole_text function count rest = own (read_register function) (with_arguments fu
 
 abbrev ReadsRegister : Memory → ℕ → Kept → Type 0
 ReadsRegister W function called = (env : List Value) → Makes W W (on_own (read_register function)) env (value W.strings called ∷ []) (shape (value W.strings called))
+
+-- the register of the value that is called is there
+pub reads_called : {W : Memory} (function count : ℕ) (rest : Arg → ℕ → Text) → IsSafe (expand (whole_text function count rest)) [] W → CanDo W (read_register function)
+reads_called function count rest s = can_do (read_register function) (λ f s. expand (with_arguments function count rest f s)) s
 
 pub may_read : {W : Memory} (function count : ℕ) (rest : Arg → ℕ → Text) (called : Kept) → IsSafe (expand (whole_text function count rest)) [] W → ReadsRegister W function called
     → MayReadValues W (function + 1) count

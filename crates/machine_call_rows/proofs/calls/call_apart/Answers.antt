@@ -1,20 +1,15 @@
 use Rattle.std.proofs.Common.{rules, ◌≡◌, ◌+◌, sym, subst}
-use Rattle.machine_core.specs.Text.{read_register}
-use Rattle.machine_core.specs.FrameRows.{expand}
 use Rattle.lua_heap.specs.Codes.{no_code}
-use Rattle.move_laws.proofs.Rows.{can_do}
 use Rattle.machine_moves.proofs.OnTop.{if_ok}
 use Rattle.machine_call_rows.specs.Rows.{ReadsValues}
-use Rattle.machine_call_rows.proofs.Read.{call_text, can_prepare, may_call, may_read, steps_call, with_arguments}
+use Rattle.machine_call_rows.proofs.Read.{call_text, can_prepare, may_call, may_read, reads_called, steps_call}
 use Rattle.machine_call_rows.proofs.calls.call_apart.Goals as goal
 
 pub read_register-called-requires : goal.read_register-called-requires
-read_register-called-requires c =
-    can_do (read_register c.args.function) (λ f s. expand (with_arguments c.args.function c.args.count (call_text c.args.keeps c.args.iterates) f s)) (c.requires.safe no_code 0)
+read_register-called-requires c = reads_called c.args.function c.args.count (call_text c.args.keeps c.args.iterates) (c.requires.safe no_code 0)
 
 pub read_values-requires-clause-safe : goal.read_values-requires-clause-safe
-read_values-requires-clause-safe c =
-    may_read c.args.function c.args.count (call_text c.args.keeps c.args.iterates) c.read_register-called.result (c.requires.safe no_code 0) c.read_register-called.ensures
+read_values-requires-clause-safe c = may_read c.args.function c.args.count (call_text c.args.keeps c.args.iterates) c.read_register-called.result (c.requires.safe no_code 0) c.read_register-called.ensures
 
 pub call_over-requires-clause-ready : goal.call_over-requires-clause-ready
 call_over-requires-clause-ready c = can_prepare c.args.world.now c.args.keeps c.requires.sound c.requires.keeps

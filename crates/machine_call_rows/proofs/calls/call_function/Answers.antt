@@ -1,19 +1,15 @@
 use Rattle.std.proofs.Common.{◌≡◌, ◌+◌, ◌-◌, suc, subst, arith}
 use Rattle.std.proofs.lemmas.Result.{IfOk-weaker}
-use Rattle.machine_core.specs.Text.{read_register}
-use Rattle.machine_core.specs.FrameRows.{expand}
 use Rattle.lua_heap.specs.Codes.{no_code}
-use Rattle.move_laws.proofs.Rows.{can_do}
 use Rattle.machine_calls.specs.declared.preparing.Prepared.TheVariants.{GivenUp}
 use Rattle.machine_calls.specs.Preparing.{CanPrepare}
 use Rattle.machine_calls.specs.Waiting.{MayCall}
 use Rattle.machine_call_rows.proofs.InPlace.{function_called, has_given, may_registers, steps_given}
-use Rattle.machine_call_rows.proofs.Read.{call_text, can_prepare, may_call, may_read, registers_read, with_arguments}
+use Rattle.machine_call_rows.proofs.Read.{call_text, can_prepare, may_call, may_read, reads_called, registers_read}
 use Rattle.machine_call_rows.proofs.calls.call_function.Goals as goal
 
 pub read_register-called-requires : goal.read_register-called-requires
-read_register-called-requires c =
-    can_do (read_register c.args.function) (λ f s. expand (with_arguments c.args.function c.args.count (call_text c.args.keeps c.args.iterates) f s)) (c.requires.safe no_code 0)
+read_register-called-requires c = reads_called c.args.function c.args.count (call_text c.args.keeps c.args.iterates) (c.requires.safe no_code 0)
 
 pub read_registers-arguments-requires : goal.read_registers-arguments-requires
 read_registers-arguments-requires c =
@@ -30,7 +26,7 @@ pub call_registers-requires-clause-room : goal.call_registers-requires-clause-ro
 call_registers-requires-clause-room c =
     let one_more : c.args.count ≡ suc (c.args.count - 1) = (let z = c.if-count-eq0.false in omega (arith, z)) in
     has_given c.args.world.now c.args.function (c.args.count - 1)
-    (can_do (read_register c.args.function) (λ f s. expand (with_arguments c.args.function c.args.count (call_text c.args.keeps c.args.iterates) f s)) (c.requires.safe no_code 0))
+    (reads_called c.args.function c.args.count (call_text c.args.keeps c.args.iterates) (c.requires.safe no_code 0))
     (may_registers c.args.world.now (c.args.function + 1) c.args.count (c.args.count - 1) one_more
     (may_read c.args.function c.args.count (call_text c.args.keeps c.args.iterates) c.read_register-called.result (c.requires.safe no_code 0) c.read_register-called.ensures))
 

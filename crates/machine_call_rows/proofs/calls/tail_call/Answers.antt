@@ -1,24 +1,19 @@
 use Rattle.std.proofs.Common.{rules, ◌≡◌, ◌+◌, sym, subst}
-use Rattle.machine_core.specs.Text.{read_register}
-use Rattle.machine_core.specs.FrameRows.{expand}
 use Rattle.lua_heap.specs.Codes.{no_code}
-use Rattle.move_laws.proofs.Rows.{can_do}
 use Rattle.machine_moves.proofs.OnTop.{if_ok}
 use Rattle.machine_call_rows.specs.Rows.{ReadsValues}
-use Rattle.machine_call_rows.proofs.Read.{may_read, may_tail_call, steps_tail_call, tail_text, with_arguments}
+use Rattle.machine_call_rows.proofs.Read.{may_read, may_tail_call, reads_called, steps_tail_call, tail_text}
 use Rattle.machine_call_rows.proofs.calls.tail_call.Goals as goal
 
 pub read_register-called-requires : goal.read_register-called-requires
-read_register-called-requires c =
-    can_do (read_register c.args.function) (λ f s. expand (with_arguments c.args.function c.args.count tail_text f s)) (c.requires.safe no_code 0)
+read_register-called-requires c = reads_called c.args.function c.args.count tail_text (c.requires.safe no_code 0)
 
 pub read_values-requires-clause-safe : goal.read_values-requires-clause-safe
-read_values-requires-clause-safe c =
-    may_read c.args.function c.args.count tail_text c.read_register-called.result (c.requires.safe no_code 0) c.read_register-called.ensures
+read_values-requires-clause-safe c = may_read c.args.function c.args.count tail_text c.read_register-called.result (c.requires.safe no_code 0) c.read_register-called.ensures
 
 pub call_in_place-requires-clause-frame : goal.call_in_place-requires-clause-frame
 call_in_place-requires-clause-frame c =
-    let d = can_do (read_register c.args.function) (λ f s. expand (with_arguments c.args.function c.args.count tail_text f s)) (c.requires.safe no_code 0) in
+    let d = reads_called c.args.function c.args.count tail_text (c.requires.safe no_code 0) in
     record { place = d.place; is = d.is }
 
 pub call_in_place-requires-clause-safe : goal.call_in_place-requires-clause-safe

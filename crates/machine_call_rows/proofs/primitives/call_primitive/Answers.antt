@@ -1,21 +1,16 @@
 use Rattle.std.proofs.Common.{◌+◌, ◌≤◌, ap, length, sym, subst}
-use Rattle.machine_core.specs.Text.{read_register}
-use Rattle.machine_core.specs.FrameRows.{expand}
 use Rattle.lua_heap.specs.Codes.{no_code}
 use Rattle.lua_heap.specs.declared.world.World.{World as Memory}
-use Rattle.move_laws.proofs.Rows.{can_do}
 use Rattle.machine_call_rows.specs.Rows.{ReadsValues}
 use Rattle.machine_call_rows.proofs.Primitive.{calls_primitive_so}
-use Rattle.machine_call_rows.proofs.Read.{call_text, can_prepare, may_read, with_arguments}
+use Rattle.machine_call_rows.proofs.Read.{call_text, can_prepare, may_read, reads_called}
 use Rattle.machine_call_rows.proofs.primitives.call_primitive.Goals as goal
 
 pub read_register-called-requires : goal.read_register-called-requires
-read_register-called-requires c =
-    can_do (read_register c.args.function) (λ f s. expand (with_arguments c.args.function c.args.count (call_text c.args.keeps c.args.iterates) f s)) (c.requires.safe no_code 0)
+read_register-called-requires c = reads_called c.args.function c.args.count (call_text c.args.keeps c.args.iterates) (c.requires.safe no_code 0)
 
 pub read_values-requires-clause-safe : goal.read_values-requires-clause-safe
-read_values-requires-clause-safe c =
-    may_read c.args.function c.args.count (call_text c.args.keeps c.args.iterates) c.read_register-called.result (c.requires.safe no_code 0) c.read_register-called.ensures
+read_values-requires-clause-safe c = may_read c.args.function c.args.count (call_text c.args.keeps c.args.iterates) c.read_register-called.result (c.requires.safe no_code 0) c.read_register-called.ensures
 
 pub make_ready-requires : goal.make_ready-requires
 make_ready-requires c = record { order = c.requires.sound.order; ready = can_prepare c.args.world.now c.args.keeps c.requires.sound c.requires.keeps }
