@@ -4,7 +4,7 @@ ghost use Rattle.code_core.specs.declared.opcode.Opcode.TheVariants.{Move, LoadI
 ghost use Rattle.machine_arms_numbers.specs.Numbers.{cleared};
 ghost use Rattle.machine_view.specs.View.{IsAt, Goes};
 
-use crate::registers::{behind, constant, get_b, set_a, set_a_integer};
+use crate::registers::{behind, constant, get_b, put_integer, put_value};
 use code_core::{Instruction, fetch};
 use table_core::Value;
 
@@ -21,8 +21,7 @@ pub(crate) fn move_register(
     ensures { (fuel : ℕ) → Goes Move i words.now constants.now registers.old pc fuel registers.new result fuel }
 {
     let v = get_b(registers, i);
-    set_a(registers, i, v);
-    behind(words, pc, 1)
+    put_value(words, registers, i, pc, v, 1)
 }
 
 /// LOADI: R[A] := sBx.
@@ -37,8 +36,7 @@ pub(crate) fn load_integer(
     requires { IsAt LoadI i words.now constants.now registers.old pc }
     ensures { (fuel : ℕ) → Goes LoadI i words.now constants.now registers.old pc fuel registers.new result fuel }
 {
-    set_a_integer(registers, i, i64::from(i.sbx()));
-    behind(words, pc, 1)
+    put_integer(words, registers, i, pc, i64::from(i.sbx()), 1)
 }
 
 /// LOADK: R[A] := K[Bx].
@@ -54,8 +52,7 @@ pub(crate) fn load_constant(
     ensures { (fuel : ℕ) → Goes LoadK i words.now constants.now registers.old pc fuel registers.new result fuel }
 {
     let v = constant(constants, i.bx() as usize);
-    set_a(registers, i, v);
-    behind(words, pc, 1)
+    put_value(words, registers, i, pc, v, 1)
 }
 
 /// LOADKX: R[A] := K[Ax of the next instruction].
@@ -72,8 +69,7 @@ pub(crate) fn load_far_constant(
 {
     let extra = fetch(words, behind(words, pc, 1));
     let v = constant(constants, extra.ax() as usize);
-    set_a(registers, i, v);
-    behind(words, pc, 2)
+    put_value(words, registers, i, pc, v, 2)
 }
 
 /// LOADFALSE: R[A] := false.
@@ -88,8 +84,7 @@ pub(crate) fn load_false(
     requires { IsAt LoadFalse i words.now constants.now registers.old pc }
     ensures { (fuel : ℕ) → Goes LoadFalse i words.now constants.now registers.old pc fuel registers.new result fuel }
 {
-    set_a(registers, i, Value::Bool(false));
-    behind(words, pc, 1)
+    put_value(words, registers, i, pc, Value::Bool(false), 1)
 }
 
 /// LFALSESKIP: R[A] := false, and the next instruction is passed over.
@@ -104,8 +99,7 @@ pub(crate) fn load_false_skip(
     requires { IsAt LFalseSkip i words.now constants.now registers.old pc }
     ensures { (fuel : ℕ) → Goes LFalseSkip i words.now constants.now registers.old pc fuel registers.new result fuel }
 {
-    set_a(registers, i, Value::Bool(false));
-    behind(words, pc, 2)
+    put_value(words, registers, i, pc, Value::Bool(false), 2)
 }
 
 /// LOADTRUE: R[A] := true.
@@ -120,8 +114,7 @@ pub(crate) fn load_true(
     requires { IsAt LoadTrue i words.now constants.now registers.old pc }
     ensures { (fuel : ℕ) → Goes LoadTrue i words.now constants.now registers.old pc fuel registers.new result fuel }
 {
-    set_a(registers, i, Value::Bool(true));
-    behind(words, pc, 1)
+    put_value(words, registers, i, pc, Value::Bool(true), 1)
 }
 
 /// LOADNIL: R[A] to R[A + B] := nil.

@@ -55,25 +55,7 @@ pub(crate) fn set_above(registers: &mut [Value], i: Instruction, n: usize, v: Va
     registers[i.a() as usize + n] = v;
 }
 
-/// R[A] := v.
-#[inline(always)]
-pub(crate) fn set_a(registers: &mut [Value], i: Instruction, v: Value)
-    requires { a_of i < length registers.old }
-    ensures { registers.new ≡ slice_set registers.old (a_of i) v }
-{
-    registers[i.a() as usize] = v;
-}
-
-/// R[A] := an integer. It is made here, so that none of the bytes of another value goes with it.
-#[inline(always)]
-pub(crate) fn set_a_integer(registers: &mut [Value], i: Instruction, n: i64)
-    requires { a_of i < length registers.old }
-    ensures { registers.new ≡ slice_set registers.old (a_of i) (Int n) }
-{
-    registers[i.a() as usize] = Value::Int(n);
-}
-
-/// R[A + at] := an integer, made here as well.
+/// R[A + at] := an integer. It is made here, so that none of the bytes of another value goes with it.
 #[inline(always)]
 pub(crate) fn set_above_integer(registers: &mut [Value], i: Instruction, at: usize, n: i64)
     requires { a_of i + at < length registers.old }
@@ -125,7 +107,26 @@ pub(crate) fn behind(words: &[Instruction], pc: usize, by: usize) -> usize
     pc + by
 }
 
-/// R[A] := an integer, and the place `by` behind the instruction.
+/// R[A] := v, and the place `by` behind the instruction.
+#[inline(always)]
+pub(crate) fn put_value(
+    words: &[Instruction],
+    registers: &mut [Value],
+    i: Instruction,
+    pc: usize,
+    v: Value,
+    by: usize,
+) -> usize
+    requires there { a_of i < length registers.old }
+    requires next { pc + by < length words.now }
+    ensures registers { registers.new ≡ slice_set registers.old (a_of i) v }
+    ensures next { result ≡ pc + by }
+{
+    registers[i.a() as usize] = v;
+    behind(words, pc, by)
+}
+
+/// R[A] := an integer, made here as well, and the place `by` behind the instruction.
 #[inline(always)]
 pub(crate) fn put_integer(
     words: &[Instruction],
@@ -140,7 +141,7 @@ pub(crate) fn put_integer(
     ensures registers { registers.new ≡ slice_set registers.old (a_of i) (Int n) }
     ensures next { result ≡ pc + by }
 {
-    set_a_integer(registers, i, n);
+    registers[i.a() as usize] = Value::Int(n);
     behind(words, pc, by)
 }
 

@@ -1,9 +1,9 @@
 // Truths (Lua 5.4 manual, 3.3.4 and 3.4.5): nil and false are false.
-ghost use Rattle.std.specs.Prelude.{◌≡◌, ℕ};
+ghost use Rattle.std.specs.Prelude.{ℕ};
 ghost use Rattle.code_core.specs.declared.opcode.Opcode.TheVariants.{Not, Test, TestSet};
 ghost use Rattle.machine_view.specs.View.{IsAt, Goes};
 
-use crate::registers::{behind, branch, get_a, get_b, set_a, truthy};
+use crate::registers::{behind, branch, get_a, get_b, put_value, truthy};
 use code_core::Instruction;
 use table_core::Value;
 
@@ -20,8 +20,7 @@ pub(crate) fn negate_truth(
     ensures { (fuel : ℕ) → Goes Not i words.now constants.now registers.old pc fuel registers.new result fuel }
 {
     let truth = truthy(get_b(registers, i));
-    set_a(registers, i, Value::Bool(!truth));
-    behind(words, pc, 1)
+    put_value(words, registers, i, pc, Value::Bool(!truth), 1)
 }
 
 /// TEST: the next instruction is passed over where the truth of R[A] is not k.
@@ -56,6 +55,5 @@ pub(crate) fn test_set(
     if truthy(v) != i.k() {
         return behind(words, pc, 2);
     }
-    set_a(registers, i, v);
-    behind(words, pc, 1)
+    put_value(words, registers, i, pc, v, 1)
 }

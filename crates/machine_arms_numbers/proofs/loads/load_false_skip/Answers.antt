@@ -7,11 +7,8 @@ use Rattle.machine_arms_numbers.proofs.LoadRows.{written_does}
 use Rattle.machine_arms_numbers.proofs.LoadRows.{skip_lands}
 use Rattle.machine_arms_numbers.proofs.loads.load_false_skip.Goals as goal
 
-pub set_a-requires : goal.set_a-requires
-set_a-requires c = register_there c.requires 0 (a_of c.args.i) refl
-
-pub behind-requires : goal.behind-requires
-behind-requires c = skip_lands c.requires
+pub put_value-requires : goal.put_value-requires
+put_value-requires c = record { there = register_there c.requires 0 (a_of c.args.i) refl; next = skip_lands c.requires }
 
 pub returns : goal.returns
-returns c = written_does (written (Rattle.int_core.specs.Value.boolean false)) 2 (Boolean false) (λ p pc. refl) (λ texts. refl) (subst (λ n. n < length c.args.words.now) (sym c.behind.ensures) (skip_lands c.requires)) (register_there c.requires 0 (a_of c.args.i) refl) c.set_a.ensures c.behind.ensures
+returns c = written_does (written (Rattle.int_core.specs.Value.boolean false)) 2 (Boolean false) (λ p pc. refl) (λ texts. refl) (subst (λ n. n < length c.args.words.now) (sym c.put_value.ensures.next) (skip_lands c.requires)) (register_there c.requires 0 (a_of c.args.i) refl) c.put_value.ensures.registers c.put_value.ensures.next

@@ -15,11 +15,8 @@ fetch-extra-requires c = let l = next_there c.requires refl in let e = c.behind.
 pub constant-v-requires : goal.constant-v-requires
 constant-v-requires c = let l = far_constant_there c.requires (ap (slice_get c.args.words.now) (sym c.behind.ensures) ∙ c.fetch-extra.ensures) in let e = c.ax.ensures in omega (arith, l, e)
 
-pub set_a-requires : goal.set_a-requires
-set_a-requires c = register_there c.requires 0 (a_of c.args.i) refl
-
-pub behind-requires-2 : goal.behind-requires-2
-behind-requires-2 c = behind_there c.requires ExtraArg refl refl
+pub put_value-requires : goal.put_value-requires
+put_value-requires c = record { there = register_there c.requires 0 (a_of c.args.i) refl; next = behind_there c.requires ExtraArg refl refl }
 
 pub returns : goal.returns
-returns c = far_constant_does c.requires (ap (slice_get c.args.words.now) (sym c.behind.ensures) ∙ c.fetch-extra.ensures) (ap (slice_get c.args.constants.now) (sym c.ax.ensures) ∙ c.constant-v.ensures) c.set_a.ensures c.behind-2.ensures
+returns c = far_constant_does c.requires (ap (slice_get c.args.words.now) (sym c.behind.ensures) ∙ c.fetch-extra.ensures) (ap (slice_get c.args.constants.now) (sym c.ax.ensures) ∙ c.constant-v.ensures) c.put_value.ensures.registers c.put_value.ensures.next

@@ -7,11 +7,8 @@ use Rattle.machine_arms_numbers.proofs.loads.move_register.Goals as goal
 pub get_b-v-requires : goal.get_b-v-requires
 get_b-v-requires c = register_there c.requires 1 (b_of c.args.i) refl
 
-pub set_a-requires : goal.set_a-requires
-set_a-requires c = register_there c.requires 0 (a_of c.args.i) refl
-
-pub behind-requires : goal.behind-requires
-behind-requires c = next_there c.requires refl
+pub put_value-requires : goal.put_value-requires
+put_value-requires c = record { there = register_there c.requires 0 (a_of c.args.i) refl; next = next_there c.requires refl }
 
 pub returns : goal.returns
-returns c = move_does c.requires c.get_b-v.ensures c.set_a.ensures c.behind.ensures
+returns c = move_does c.requires c.get_b-v.ensures c.put_value.ensures.registers c.put_value.ensures.next

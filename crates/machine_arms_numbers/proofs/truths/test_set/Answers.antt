@@ -19,13 +19,10 @@ returns-then-truthy-k c =
     let q : same_truth (is_truthy c.get_b-v.result) (k_of c.args.i) ≡ false = same_not _ _ _ _ c.truthy.ensures c.k.ensures c.if-truthy-k.true in
     skip_does c.get_b-v.result c.requires c.get_b-v.ensures q c.behind.ensures
 
-pub set_a-requires : goal.set_a-requires
-set_a-requires c = register_there c.requires 0 (a_of c.args.i) refl
-
-pub behind-requires-2 : goal.behind-requires-2
-behind-requires-2 c = next_there c.requires refl
+pub put_value-requires : goal.put_value-requires
+put_value-requires c = record { there = register_there c.requires 0 (a_of c.args.i) refl; next = next_there c.requires refl }
 
 pub returns : goal.returns
 returns c =
     let q : same_truth (is_truthy c.get_b-v.result) (k_of c.args.i) ≡ true = same_so _ _ _ _ c.truthy.ensures c.k.ensures c.if-truthy-k.false in
-    set_does c.get_b-v.result c.requires c.get_b-v.ensures q c.set_a.ensures c.behind-2.ensures
+    set_does c.get_b-v.result c.requires c.get_b-v.ensures q c.put_value.ensures.registers c.put_value.ensures.next
