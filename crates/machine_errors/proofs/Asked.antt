@@ -1,5 +1,5 @@
 -- A frame is pushed, once what moves has been taken.
-use Rattle.std.proofs.Common.{◌≡◌, ◌++◌, ℕ, List, [], ◌∷◌, Option, Some, None, refl, ap, sym, ◌∙◌, Bool, true, false, append-nil}
+use Rattle.std.proofs.Common.{◌≡◌, ◌++◌, ℕ, List, [], ◌∷◌, Option, Some, None, refl, ap, sym, subst, ◌∙◌, Bool, true, false, append-nil}
 use Rattle.std.specs.Prelude.{cond, drop, map}
 use Rattle.int_core.specs.Value.{Value}
 use Rattle.machine_core.specs.World.{Frame, World, Stack, stack_of, put_frames, push}
@@ -8,15 +8,17 @@ use Rattle.machine_core.specs.FrameRows.{then}
 use Rattle.machine_core.specs.Moves.{Made, made, move, Over, over_pcall, over_xpcall, over_handler, frame_over, push_frame, give_with, has_room, asks, Row, stop, ends, run}
 use Rattle.table_core.specs.declared.value.Value.{Value as Kept}
 use Rattle.lua_heap.specs.declared.world.World.{World as Memory}
+use Rattle.lua_heap.specs.Cells.{CellsAreListed}
 use Rattle.lua_heap.specs.Plain.{plain}
 use Rattle.lua_heap.specs.Reading.{value}
 use Rattle.machine_moves.specs.declared.tops.Over.{Over as KeptOver}
 use Rattle.machine_moves.specs.declared.tops.Over.TheVariants.{Pcall, Xpcall, Handler}
 use Rattle.machine_moves.specs.Tops.{frame_pushed}
-use Rattle.move_laws.specs.Memory.{Makes}
+use Rattle.move_laws.specs.Memory.{IsSound, Makes}
 use Rattle.move_laws.proofs.Rows.{act_is}
 use Rattle.machine_errors.specs.Asking.{taken, AsksOver}
 use Rattle.machine_errors.proofs.Leaving.{world_made, with_moving}
+use Rattle.machine_errors.proofs.Texts.{order_kept, same_sound}
 
 -- what moves has no part in it
 
@@ -89,3 +91,12 @@ asked_full old new over asked p = record {
       let o = some_over (value old.strings) over in
       record { is = λ fuel. full_same (plain old fuel) (plain new fuel) (frame_over o.0 o.1) (has_room (plain old fuel) 1) ((p o.1 o.0 o.2).is fuel) };
 }
+
+-- a stack without room: the world reads the same, and is as sound as before
+
+pub without_room : {old new : Memory} {over : KeptOver} {asked : List Kept} {room : Bool} → AsksOver old new over asked room → room ≡ false → AsksOver old new over asked false
+without_room {old} {new} {over} {asked} a e = subst (AsksOver old new over asked) e a
+
+pub refused_sound : {old new : Memory} {over : KeptOver} {asked : List Kept} {room : Bool} → AsksOver old new over asked room → IsSound old → new ≡ record old { coros = new.coros; moving = new.moving } → (CellsAreListed old → CellsAreListed new)
+    → room ≡ false → IsSound new
+refused_sound a s rest listed e = same_sound s (a.same e) (order_kept s.order rest (listed s.order.listed))

@@ -5,7 +5,7 @@ use Rattle.std.specs.Option.{option_map}
 use Rattle.std.proofs.lemmas.List.{length-map}
 use Rattle.int_core.specs.Limits.{greatest_depth}
 use Rattle.int_core.specs.Value.{Value, bind, last, without_last}
-use Rattle.machine_core.specs.World.{LuaFrame, Frame, lua, in_progress, World, Stack, stack_of, put_frames, pop, push}
+use Rattle.machine_core.specs.World.{LuaFrame, Frame, lua, in_progress, World, Stack, stack_of, put_frames, pop, push, Place, place_of}
 use Rattle.machine_core.specs.Moves.{top_shape, top_now, runs_main, see_top, pop_frame, push_frame, Over, frame_over, push_all, Made, made, move}
 use Rattle.machine_sound.proofs.Lists.{bind_at, get_map, get_set_same, last_push, some_is}
 use Rattle.machine_sound.proofs.Frames.{stack_is}
@@ -13,12 +13,14 @@ use Rattle.table_core.specs.declared.value.CoroId.{CoroId}
 use Rattle.table_core.specs.declared.value.Value.{Value as Kept}
 use Rattle.lua_stack.specs.declared.frame.Top.{Top}
 use Rattle.lua_stack.specs.Frames.{KeptFrame, kept_closing, KeptStack, frame_of, frames, top_is}
+use Rattle.lua_heap.specs.declared.codes.Code.{Code}
 use Rattle.lua_heap.specs.declared.world.Coro.TheVariants.{Running}
 use Rattle.lua_heap.specs.declared.world.World.{World as Memory}
 use Rattle.lua_heap.specs.Reading.{value}
 use Rattle.lua_heap.specs.Plain.{plain, coroutine}
 use Rattle.move_laws.specs.Memory.{Runs, ChangesStack, HasStack, Makes}
 use Rattle.move_laws.proofs.Running.{changed_stack_is_put, set_same}
+use Rattle.machine_moves.specs.Code.{IsCodeOnTop}
 use Rattle.machine_moves.specs.Tops.{shape_of, is_other}
 use Rattle.lua_stack.proofs.Told.{last_map}
 use Rattle.lua_heap.proofs.Resumed.{without_mapped}
@@ -28,6 +30,10 @@ use Rattle.lua_heap.proofs.Resumed.{without_mapped}
 map_push : {A B : Type 0} (f : A → B) (xs : List A) (x : A) → map f (xs ++ x ∷ []) ≡ map f xs ++ f x ∷ []
 map_push f [] x = refl
 map_push f (y ∷ xs) x = ap (λ l. f y ∷ l) (map_push f xs x)
+
+-- the registers that the code on top needs
+pub size_on_top : {W : Memory} {code : Code} {place : Place} → IsCodeOnTop W code → place_of (plain W 0) ≡ Some place → code.stack ≡ place.function.code.own.stack
+size_on_top k is = k.says.stack ∙ ap (λ (p : Place). p.function.code.own.stack) (some_is k.is is)
 
 -- the machine's stack
 

@@ -1,14 +1,13 @@
 use Rattle.std.proofs.Common.{◌≡◌, ◌≤◌, [], ◌∷◌, length, ap, sym, subst, ◌∙◌}
 use Rattle.std.specs.Prelude.{get_or, map}
-use Rattle.machine_core.specs.World.{Place}
 use Rattle.machine_core.specs.Text.{read}
 use Rattle.machine_core.specs.Moves.{raised, stop}
-use Rattle.machine_sound.proofs.Lists.{some_is}
 use Rattle.lua_heap.specs.declared.world.World.{World as Memory}
 use Rattle.lua_heap.specs.Cells.{CellsAreListed}
 use Rattle.lua_heap.specs.Reading.{value}
 use Rattle.move_laws.proofs.Rows.{first, ended}
 use Rattle.move_laws.proofs.Order.{order_after}
+use Rattle.machine_moves.proofs.OnTop.{size_on_top}
 use Rattle.machine_errors.specs.Raising.{LeavesWith}
 use Rattle.machine_errors.proofs.Leaving.{begins, none_from_more, place_shut}
 use Rattle.machine_errors.proofs.raising.begin_leaving_with.Goals as goal
@@ -22,9 +21,7 @@ close_cells-requires-clause-frame c = record { place = c.requires.frame.place; i
 pub wait_to_leave-requires : goal.wait_to_leave-requires
 wait_to_leave-requires c =
     let p = c.requires.frame in
-    let k = c.code_on_top.ensures in
-    let same : k.place ≡ p.place = some_is k.is p.is in
-    let size = k.says.stack ∙ ap (λ (p : Place). p.function.code.own.stack) same in
+    let size = size_on_top c.code_on_top.ensures p.is in
     record {
       place = p.place;
       is = place_shut c.args.world.now c.close_cells.new.world p.place p.is (c.close_cells.ensures.makes []);
@@ -39,9 +36,7 @@ returns-clause-leads c = λ text b env.
     let shut = c.close_cells.new.world in
     let kept = c.wait_to_leave.new.world in
     let p = c.requires.frame in
-    let k = c.code_on_top.ensures in
-    let same : k.place ≡ p.place = some_is k.is p.is in
-    let size = k.says.stack ∙ ap (λ (p : Place). p.function.code.own.stack) same in
+    let size = size_on_top c.code_on_top.ensures p.is in
     let s : shut.strings ≡ old.strings = ap (λ (W : Memory). W.strings) c.close_cells.ensures.rest in
     let t : kept.strings ≡ old.strings = ap (λ (W : Memory). W.strings) c.wait_to_leave.ensures.rest ∙ s in
     let e : c.index-thrown.result.now ≡ b.thrown = c.index-thrown.ensures ∙ ap (λ vs. get_or vs 0 c.index-thrown.result.now) b.one in
