@@ -10,7 +10,9 @@ use Rattle.machine_core.specs.World.{Place}
 use Rattle.machine_core.specs.Text.{behind, is_there, list_end, list_values, read_list, read_registers}
 use Rattle.machine_core.specs.Moves.{made, on_own}
 use Rattle.machine_sound.proofs.Lists.{some_is}
+use Rattle.table_core.specs.declared.value.CoroId.{CoroId}
 use Rattle.table_core.specs.declared.value.Value.{Value as Kept}
+use Rattle.lua_stack.specs.Frames.{KeptStack, OnTop}
 use Rattle.lua_stack.proofs.Called.{range_is}
 use Rattle.lua_stack.proofs.LaidOut.{map_drop}
 use Rattle.lua_stack.proofs.Parts.{map_take}
@@ -19,8 +21,8 @@ use Rattle.lua_heap.specs.declared.codes.Code.{Code}
 use Rattle.lua_heap.specs.Codes.{IsCode}
 use Rattle.lua_heap.specs.Reading.{value}
 use Rattle.lua_heap.specs.Plain.{plain}
-use Rattle.move_laws.specs.Memory.{CanDo, IsSound, Makes}
-use Rattle.move_laws.proofs.Running.{own_read}
+use Rattle.move_laws.specs.Memory.{CanDo, IsSound, Makes, Runs}
+use Rattle.move_laws.proofs.Running.{of_top, own_read}
 use Rattle.move_laws.proofs.Sounds.{OpensFrom, opened_by, sound_top}
 use Rattle.machine_moves.specs.Code.{IsCodeOnTop}
 use Rattle.machine_moves.specs.Moves.{IsInFront}
@@ -125,3 +127,15 @@ within_kept p f kept {end} e l =
     let b = ap length e in
     let c = l.within in
     omega (arith, a, b, c)
+
+-- what is seen of an open list: where it ends, and the registers
+pub record SeesList (p : Place) (f : Kept → Value) (registers : List Kept) (end : ℕ) : Type 0 where
+  pub ends : EndsAt p end
+  pub kept : map f registers ≡ p.top.own.registers
+
+pub sees_list : {W : Memory} {at : ℕ} {word : Instruction} {co : CoroId} {stack : KeptStack} (from opened : ℕ) (registers : List Kept) → IsSound W → (d : CanDo W (read_list at)) → IsInFront W word → Runs W co stack → from ≡ a_of word
+    → OnTop stack (λ f t. opened ≡ t.own.opened) → OnTop stack (λ f t. map f registers ≡ t.own.registers) → SeesList d.place (value W.strings) registers (from + opened)
+sees_list {W} {at} {word} {co} {stack} from opened registers s d front r a o k = record {
+  ends = ends_as d.place word from opened (list_ends W at word s d front) a (of_top W co stack d.place (λ f t. opened ≡ t.own.opened) r d.is o);
+  kept = of_top W co stack d.place (λ f t. map f registers ≡ t.own.registers) r d.is k;
+}
