@@ -1,18 +1,18 @@
 -- Where a frame goes on.
-use Rattle.std.proofs.Common.{◌≡◌, ◌≢◌, ℕ, ◌+◌, List, Option, Some, None, refl, ap, sym, ◌∙◌, Bool, true, false}
+use Rattle.std.proofs.Common.{◌≡◌, ◌≢◌, ℕ, ◌+◌, List, [], ◌∷◌, Option, Some, None, refl, ap, sym, subst, ◌∙◌, Bool, true, false}
 use Rattle.std.specs.Prelude.{IsSome, pos, cond}
 use Rattle.int_core.specs.Value.{Value, same_truth}
 use Rattle.machine_core.specs.World.{Place, place_of}
-use Rattle.machine_core.specs.Text.{Arg, write_register, Text, go_by, trap}
-use Rattle.machine_core.specs.InstructionRows.{next, skip, tested, with_extra}
+use Rattle.machine_core.specs.Text.{Arg, read, write_register, Text, go_by, make_table, quick, trap}
+use Rattle.machine_core.specs.InstructionRows.{next, skip, tested, then, with_extra}
 use Rattle.code_core.specs.Prototype.{Prototype}
 use Rattle.code_core.specs.Check.{extra_at}
 use Rattle.machine_core.specs.FrameRows.{expand}
-use Rattle.machine_core.specs.Moves.{place_from, go, Row, stop, run}
+use Rattle.machine_core.specs.Moves.{outside, place_from, go, Row, stop, run}
 use Rattle.lua_heap.specs.declared.world.World.{World as Memory}
 use Rattle.lua_heap.specs.Plain.{plain}
-use Rattle.move_laws.specs.Memory.{CanDo, Leads, IsSafe, IsSound, StandsAt}
-use Rattle.move_laws.proofs.Rows.{first, ended, can_go}
+use Rattle.move_laws.specs.Memory.{CanDo, Leads, IsSafe, IsSound, Makes, StandsAt}
+use Rattle.move_laws.proofs.Rows.{first, ended, can_go, safe_after}
 use Rattle.move_laws.proofs.Sounds.{sound_top}
 use Rattle.machine_moves.specs.Moves.{CanGo, Goes}
 use Rattle.machine_rows.specs.Rows.{HasFunction}
@@ -56,6 +56,13 @@ extra_there {W} {env} p pc k s = by (extra_at p pc) refl
     by : (o : Option ℕ) → extra_at p pc ≡ o → (ax : ℕ) × (with_extra p pc k ≡ k ax)
     by (Some ax) e = (ax, ap (λ o. elim o as (λ _. Text) [ None ↦ trap | Some ax ↦ k ax ]) e)
     by None e = absurd (s.never 0 (ap (λ o. run (expand (elim o as (λ _. Text) [ None ↦ trap | Some ax ↦ k ax ])) env (plain W 0)) e))
+
+-- a table was made for the register that the instruction names
+pub safe_made : {W V : Memory} {v : Value} (p : Prototype) (pc to : ℕ) → IsSafe (expand (with_extra p pc (λ _. quick make_table (λ t. then (write_register to (read t)) skip)))) [] W → Makes W V (outside make_table) [] (v ∷ []) true
+    → IsSafe (expand (then (write_register to (read 0)) skip)) (v ∷ []) V
+safe_made {W} p pc to s m =
+    let k : ℕ → Text = λ _. quick make_table (λ t. then (write_register to (read t)) skip) in
+    safe_after (λ n _. expand (then (write_register to (read n)) skip)) (subst (λ t. IsSafe (expand t) [] W) (extra_there p pc k s).1 s) m
 
 pub has_extra : {W : Memory} {env : List Value} (p : Prototype) (pc : ℕ) (k : ℕ → Text) → IsSafe (expand (with_extra p pc k)) env W → IsSome (extra_at p pc)
 has_extra {W} {env} p pc k s = by (extra_at p pc) refl

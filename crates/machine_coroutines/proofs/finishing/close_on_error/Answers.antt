@@ -18,9 +18,8 @@ returns-clause-leads c =
     let W = c.args.world.now in
     let f = value W.strings in
     let vs = map f c.take_moving.result.items in
-    let taken : W.strings ≡ c.take_moving.new.world.strings = search rules in
     let moved : c.deref.result.now ≡ W.moving.items = search rules in
-    let error : nth vs 0 ≡ f c.first_of-error.result =
-    error_read f W.moving.items c.take_moving.result.items c.first_of-error.result c.take_moving.ensures.values (c.first_of-error.ensures W.strings ∙ ap (λ l. nth (map f l) 0) moved) in
+    let error : nth vs 0 ≡ f c.first_of-error.result = error_read f W.moving.items c.take_moving.result.items c.first_of-error.result c.take_moving.ensures.values (c.first_of-error.ensures W.strings ∙ ap (λ l. nth (map f l) 0) moved) in
+    let taken : W.strings ≡ c.take_moving.new.world.strings = search rules in
     first (λ e _. then (set_error (read e)) closing_row) (c.take_moving.ensures.makes [])
     (first (λ _ _. closing_row) (c.set_error.ensures.makes vs (read 0) (error ∙ ap (λ texts. value texts c.first_of-error.result) taken)) (c.close_next.ensures.leads (vs ++ [])))

@@ -4,10 +4,10 @@ use Rattle.machine_core.specs.Text.{read, Text, quick, make_table, write_registe
 use Rattle.machine_core.specs.InstructionRows.{then, skip}
 use Rattle.machine_core.specs.FrameRows.{expand}
 use Rattle.machine_core.specs.Moves.{go}
-use Rattle.move_laws.specs.Memory.{IsSafe, Leads}
+use Rattle.move_laws.specs.Memory.{Leads}
 use Rattle.move_laws.proofs.Kept.{order_kept, order_with_tables}
 use Rattle.move_laws.proofs.Rows.{first, can_do, safe_after}
-use Rattle.machine_rows.proofs.Going.{extra_there, goes_on, may_go, any_value}
+use Rattle.machine_rows.proofs.Going.{extra_there, goes_on, may_go, any_value, safe_made}
 use Rattle.machine_rows.proofs.objects.new_table.Goals as goal
 
 pub make_table-requires : goal.make_table-requires
@@ -16,19 +16,13 @@ make_table-requires c = record { place = c.requires.at.place; is = c.requires.at
 pub write_register-requires : goal.write_register-requires
 write_register-requires c =
     let p = c.requires.at.place in
-    let k : ℕ → Text = λ _. quick make_table (λ t. then (write_register c.args.to (read t)) skip) in
-    let s = c.requires.safe p c.requires.at.is in
-    let t = subst (λ t. IsSafe (expand t) [] c.args.world.now) (extra_there p.function.code c.args.pc k s).1 s in
-    let u = safe_after (λ n _. expand (then (write_register c.args.to (read n)) skip)) t (c.in_ok-table.ensures.makes []) in
+    let u = safe_made p.function.code c.args.pc c.args.to (c.requires.safe p c.requires.at.is) (c.in_ok-table.ensures.makes []) in
     any_value {x = read 0} (can_do (write_register c.args.to (read 0)) (λ _ _. expand skip) u)
 
 pub go_to-requires : goal.go_to-requires
 go_to-requires c =
     let p = c.requires.at.place in
-    let k : ℕ → Text = λ _. quick make_table (λ t. then (write_register c.args.to (read t)) skip) in
-    let s = c.requires.safe p c.requires.at.is in
-    let t = subst (λ t. IsSafe (expand t) [] c.args.world.now) (extra_there p.function.code c.args.pc k s).1 s in
-    let u = safe_after (λ n _. expand (then (write_register c.args.to (read n)) skip)) t (c.in_ok-table.ensures.makes []) in
+    let u = safe_made p.function.code c.args.pc c.args.to (c.requires.safe p c.requires.at.is) (c.in_ok-table.ensures.makes []) in
     let v = safe_after (λ _ _. expand skip) u (c.write_register.ensures.makes (object a_table c.in_ok-table.table.0 ∷ []) (read 0) refl) in
     may_go 2 (c.write_register.ensures.stays.at c.args.pc (c.make_table.ensures.at c.args.pc c.requires.at)) c.behind.ensures v
 
