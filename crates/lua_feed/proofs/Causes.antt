@@ -58,6 +58,13 @@ same_output Output r s a b = ap is_output_fault a ∙ sym (ap is_output_fault b)
 same_output Limit r s a b = ap is_output_fault a ∙ sym (ap is_output_fault b)
 same_output Memory r s a b = ap is_output_fault a ∙ sym (ap is_output_fault b)
 
+-- and so are the counts of its device
+pub input_handed : (before now : ℕ) (e : FeedFault) {T B : Type 0} (r : Result T FeedFault) (s : Result B FeedFault) → HasCause before now (is_input_fault r) → r ≡ Err e → s ≡ Err e → HasCause before now (is_input_fault s)
+input_handed before now e r s h a b = subst (HasCause before now) (same_input e r s a b) h
+
+pub output_handed : (before now : ℕ) (e : FeedFault) {T B : Type 0} (r : Result T FeedFault) (s : Result B FeedFault) → HasCause before now (is_output_fault r) → r ≡ Err e → s ≡ Err e → HasCause before now (is_output_fault s)
+output_handed before now e r s h a b = subst (HasCause before now) (same_output e r s a b) h
+
 pub same_fault : (given e : FeedFault) {T B : Type 0} (r : Result T FeedFault) (s : Result B FeedFault) → r ≡ Err e → s ≡ Err e → IsErrOf s given → IsErrOf r given
 same_fault given e r s a b k = let is : s ≡ Err given = k in cc
 

@@ -89,6 +89,10 @@ only_twice before None (Some a) h k = let n : None ≡ Some k.0 = k.2 in absurd 
 only_twice before (Some b) (Some a) h k =
     (h.0, h.1 ++ k.1, h.2, k.3 ∙ ap (λ t. t ++ k.1) (some_same k.0 b (sym k.2) ∙ h.3) ∙ append_assoc h.0 h.1 k.1)
 
+-- what was printed so far, and what a turn printed
+pub only_further : (xs ys : List ℕ) (before between after : Option (List ℕ)) → between ≡ option_map (λ t. t ++ xs) before → after ≡ option_map (λ t. t ++ ys) between → OnlyGrows before after
+only_further xs ys before between after g h = only_twice before between after (only_grown xs before between g) (only_grown ys between after h)
+
 -- lines
 
 same_lines : (text : Option (List ℕ)) → option_map lines_of text ≡ option_map (λ t. lines_of t) text
@@ -337,3 +341,10 @@ fed_front rows budget start (Some b) before first now rest after later taken f k
           let g : GoesOn rows budget (plain now 0) (rest_lines taken rest) f.printed r = f.comes.back (rest_lines taken rest) r x' in
           subst (λ (r : Run). GrowsByFront r.printed before later) g.is (front_behind f.printed g.rest.printed before after later f.grown (k.is (rest_lines taken rest) g.rest g.runs));
     }
+
+-- a turn was done and written, and no line followed
+pub turned_front : (rows : ℕ → Row) (budget : ℕ) (start : Memory) (text before : Option (List ℕ)) (first : ℕ) (now mid : Memory) (rest after later : Option (List ℕ)) (taken : ℕ) (e : Ending)
+    → Feeding rows budget start text before first now rest after taken → Turns rows now mid budget e → is_end e ≡ true → later ≡ option_map (λ t. t ++ turn_text e (plain mid 0)) after
+    → IsFedFront (Does rows (plain start 0) budget) first text before later
+turned_front rows budget start text before first now mid rest after later taken e f t h g =
+    fed_front rows budget start text before first now rest after later taken f (front_written rows budget now mid after later e t h g)

@@ -16,7 +16,7 @@ use Rattle.source_builds.proofs.Lookups.{read_some}
 use Rattle.lua_feed.specs.Faults.{fault_of_line, is_input_fault, is_output_fault}
 use Rattle.lua_feed.proofs.Causes.{cause_since, line_input, line_limit, line_no_output, no_input, no_limit, not_failed, same_output, unfailed, untouched}
 use Rattle.lua_feed.proofs.Closing.{yields, ended_otherwise}
-use Rattle.lua_feed.proofs.Fed.{fed_none, fed_on, fed_last, fed_suspended, fed_cut, fed_broken, fed_front, front_written, only_grown, only_twice}
+use Rattle.lua_feed.proofs.Fed.{fed_none, fed_on, fed_last, fed_suspended, fed_cut, fed_broken, fed_front, only_further, only_grown, only_twice, turned_front}
 use Rattle.lua_feed.proofs.feeding.feed.Goals as goal
 
 pub turns-init : goal.turns-init
@@ -80,22 +80,15 @@ returns-in-Some-clause-fed g c =
 -- no line was read
 
 pub returns-in_err-line-clause-front : goal.returns-in_err-line-clause-front
-returns-in_err-line-clause-front g c =
-    let e = c.in_ok-ending.ensures in
-    on_err _ c.from_residual-in_err-line.result
-    (read_both (λ builds are f t. fed_front (library builds) c.args.budget c.args.world.now (ahead c.args.reader.now (g.S.Source.left c.args.input.now)) (g.K.Sink.written c.args.out.now) c.args.reader.now.taken
-    c.turns.world (ahead c.turns.reader (g.S.Source.left c.turns.input)) (g.K.Sink.written c.turns.out) (g.K.Sink.written c.write_turn.new.out) c.turns.reader.taken f
-    (front_written (library builds) c.args.budget c.turns.world c.write_turn.new.world (g.K.Sink.written c.turns.out) (g.K.Sink.written c.write_turn.new.out) (ending_of c.in_ok-ending.ending) t e.ends e.written)) c.turns.invariant.so_far e.turns)
+returns-in_err-line-clause-front g c = on_err _ c.from_residual-in_err-line.result
+    (read_both (λ builds are f t. turned_front (library builds) c.args.budget c.args.world.now (ahead c.args.reader.now (g.S.Source.left c.args.input.now)) (g.K.Sink.written c.args.out.now) c.args.reader.now.taken
+    c.turns.world c.write_turn.new.world (ahead c.turns.reader (g.S.Source.left c.turns.input)) (g.K.Sink.written c.turns.out) (g.K.Sink.written c.write_turn.new.out) c.turns.reader.taken (ending_of c.in_ok-ending.ending)
+    f t c.in_ok-ending.ensures.ends c.in_ok-ending.ensures.written) c.turns.invariant.so_far c.in_ok-ending.ensures.turns)
 
 pub returns-in_err-line-clause-grows : goal.returns-in_err-line-clause-grows
 returns-in_err-line-clause-grows g c =
     let f = (read_some c.turns.invariant.so_far).2 in
-    let before = g.K.Sink.written c.args.out.now in
-    let between = g.K.Sink.written c.turns.out in
-    let after = g.K.Sink.written c.write_turn.new.out in
-    on_err _ c.from_residual-in_err-line.result
-    (only_twice before between after (only_grown f.printed before between f.grown)
-    (only_grown (turn_text (ending_of c.in_ok-ending.ending) (plain c.write_turn.new.world 0)) between after c.in_ok-ending.ensures.written))
+    on_err _ c.from_residual-in_err-line.result (only_further f.printed (turn_text (ending_of c.in_ok-ending.ending) (plain c.write_turn.new.world 0)) (g.K.Sink.written c.args.out.now) (g.K.Sink.written c.turns.out) (g.K.Sink.written c.write_turn.new.out) f.grown c.in_ok-ending.ensures.written)
 
 pub returns-in_err-line-clause-input : goal.returns-in_err-line-clause-input
 returns-in_err-line-clause-input g c =
@@ -131,10 +124,10 @@ returns-in_err-line-clause-limit g c = λ limit.
 pub returns-in_err-line-clause-broken : goal.returns-in_err-line-clause-broken
 returns-in_err-line-clause-broken g c = λ failed.
     let e = c.in_ok-ending.ensures in
+    let yielded : ending_of c.in_ok-ending.ending ≡ main_yielded = yields (ending_of c.in_ok-ending.ending) e.ends (sym c.close_at.ensures ∙ c.in_default.is) in
     let mid = c.write_turn.new.world in
     let later = g.K.Sink.written c.write_turn.new.out in
     let after = g.K.Sink.written c.turns.out in
-    let yielded : ending_of c.in_ok-ending.ending ≡ main_yielded = yields (ending_of c.in_ok-ending.ending) e.ends (sym c.close_at.ensures ∙ c.in_default.is) in
     read_both (λ builds are f t. fed_broken (library builds) c.args.budget c.args.world.now (ahead c.args.reader.now (g.S.Source.left c.args.input.now)) (g.K.Sink.written c.args.out.now) c.args.reader.now.taken
     c.turns.world mid (ahead c.turns.reader (g.S.Source.left c.turns.input)) after later c.turns.reader.taken f (subst (Turns (library builds) c.turns.world mid c.args.budget) yielded t)
     (subst (λ (k : Ending). later ≡ option_map (λ t. t ++ turn_text k (plain mid 0)) after) yielded e.written)) c.turns.invariant.so_far e.turns
@@ -172,23 +165,16 @@ hand_line-requires-clause-short g c =
     let n : length c.as_slice.result.now ≡ length line = ap length same in
     omega (arith, n, short)
 
-pub returns-in_err-hand_line-clause-front : goal.returns-in_err-hand_line-clause-front
-returns-in_err-hand_line-clause-front g c =
-    let e = c.in_ok-ending.ensures in
-    on_err _ c.from_residual-in_err-hand_line.result
-    (read_both (λ builds are f t. fed_front (library builds) c.args.budget c.args.world.now (ahead c.args.reader.now (g.S.Source.left c.args.input.now)) (g.K.Sink.written c.args.out.now) c.args.reader.now.taken
-    c.turns.world (ahead c.turns.reader (g.S.Source.left c.turns.input)) (g.K.Sink.written c.turns.out) (g.K.Sink.written c.write_turn.new.out) c.turns.reader.taken f
-    (front_written (library builds) c.args.budget c.turns.world c.write_turn.new.world (g.K.Sink.written c.turns.out) (g.K.Sink.written c.write_turn.new.out) (ending_of c.in_ok-ending.ending) t e.ends e.written)) c.turns.invariant.so_far e.turns)
-
 pub returns-in_err-hand_line-clause-grows : goal.returns-in_err-hand_line-clause-grows
 returns-in_err-hand_line-clause-grows g c =
     let f = (read_some c.turns.invariant.so_far).2 in
-    let before = g.K.Sink.written c.args.out.now in
-    let between = g.K.Sink.written c.turns.out in
-    let after = g.K.Sink.written c.write_turn.new.out in
-    on_err _ c.from_residual-in_err-hand_line.result
-    (only_twice before between after (only_grown f.printed before between f.grown)
-    (only_grown (turn_text (ending_of c.in_ok-ending.ending) (plain c.write_turn.new.world 0)) between after c.in_ok-ending.ensures.written))
+    on_err _ c.from_residual-in_err-hand_line.result (only_further f.printed (turn_text (ending_of c.in_ok-ending.ending) (plain c.write_turn.new.world 0)) (g.K.Sink.written c.args.out.now) (g.K.Sink.written c.turns.out) (g.K.Sink.written c.write_turn.new.out) f.grown c.in_ok-ending.ensures.written)
+
+pub returns-in_err-hand_line-clause-front : goal.returns-in_err-hand_line-clause-front
+returns-in_err-hand_line-clause-front g c = on_err _ c.from_residual-in_err-hand_line.result
+    (read_both (λ builds are f t. turned_front (library builds) c.args.budget c.args.world.now (ahead c.args.reader.now (g.S.Source.left c.args.input.now)) (g.K.Sink.written c.args.out.now) c.args.reader.now.taken
+    c.turns.world c.write_turn.new.world (ahead c.turns.reader (g.S.Source.left c.turns.input)) (g.K.Sink.written c.turns.out) (g.K.Sink.written c.write_turn.new.out) c.turns.reader.taken (ending_of c.in_ok-ending.ending)
+    f t c.in_ok-ending.ensures.ends c.in_ok-ending.ensures.written) c.turns.invariant.so_far c.in_ok-ending.ensures.turns)
 
 pub turns-smaller : goal.turns-smaller
 turns-smaller g c =

@@ -1,5 +1,4 @@
-use Rattle.std.proofs.Common.{rules, ◌≡◌, refl, subst}
-use Rattle.std.specs.Prelude.{Err}
+use Rattle.std.proofs.Common.{rules, refl, subst}
 use Rattle.machine_core.specs.World.{World}
 use Rattle.loaded_code.specs.Laws.{library}
 use Rattle.source_builds.specs.Readings.{AsRead}
@@ -7,11 +6,10 @@ use Rattle.source_builds.proofs.Knowing.{read_all, read_map}
 use Rattle.io_edge.specs.Lines.{ahead}
 use Rattle.lua_stack.proofs.Called.{on_err}
 use Rattle.lua_feed.specs.Closes.{close_of}
-use Rattle.lua_feed.specs.Faults.{is_input_fault, is_output_fault}
 use Rattle.lua_feed.specs.declared.fault.FeedFault.TheVariants.{Input, Limit}
 use Rattle.lua_feed.specs.Feeding.{Does, IsBrokenOff, IsCutOff, IsFed, IsFedFront}
 use Rattle.lua_feed.specs.Running.{started}
-use Rattle.lua_feed.proofs.Causes.{cause_since, same_fault, same_input, same_output}
+use Rattle.lua_feed.proofs.Causes.{input_handed, output_handed, same_fault}
 use Rattle.lua_feed.proofs.Fed.{only_same}
 use Rattle.lua_feed.proofs.Starting.{unfed_front}
 use Rattle.lua_feed.proofs.script.run_code.Goals as goal
@@ -34,20 +32,10 @@ pub returns-in_err-close-clause-grows : goal.returns-in_err-close-clause-grows
 returns-in_err-close-clause-grows g c = on_err _ c.from_residual-in_err-close.result c.in_err-close.ensures.grows
 
 pub returns-in_err-close-clause-input : goal.returns-in_err-close-clause-input
-returns-in_err-close-clause-input g c =
-    let fault = c.in_err-close.field-0.0 in
-    let was : c.feed.result ≡ Err fault = search rules in
-    let is : c.from_residual-in_err-close.result ≡ Err fault = search rules in
-    cause_since (g.S.Source.faults c.args.input.now) (g.S.Source.faults c.args.input.now) (g.S.Source.faults c.feed.new.input) (is_input_fault c.feed.result) (is_input_fault c.from_residual-in_err-close.result)
-    refl (same_input fault c.feed.result c.from_residual-in_err-close.result was is) c.feed.ensures.input
+returns-in_err-close-clause-input g c = input_handed (g.S.Source.faults c.args.input.now) (g.S.Source.faults c.feed.new.input) c.in_err-close.field-0.0 c.feed.result c.from_residual-in_err-close.result c.feed.ensures.input (search rules) (search rules)
 
 pub returns-in_err-close-clause-output : goal.returns-in_err-close-clause-output
-returns-in_err-close-clause-output g c =
-    let fault = c.in_err-close.field-0.0 in
-    let was : c.feed.result ≡ Err fault = search rules in
-    let is : c.from_residual-in_err-close.result ≡ Err fault = search rules in
-    cause_since (g.K.Sink.faults c.args.out.now) (g.K.Sink.faults c.args.out.now) (g.K.Sink.faults c.feed.new.out) (is_output_fault c.feed.result) (is_output_fault c.from_residual-in_err-close.result)
-    refl (same_output fault c.feed.result c.from_residual-in_err-close.result was is) c.feed.ensures.output
+returns-in_err-close-clause-output g c = output_handed (g.K.Sink.faults c.args.out.now) (g.K.Sink.faults c.feed.new.out) c.in_err-close.field-0.0 c.feed.result c.from_residual-in_err-close.result c.feed.ensures.output (search rules) (search rules)
 
 pub returns-clause-runs : goal.returns-clause-runs
 returns-clause-runs g c =
@@ -56,16 +44,10 @@ returns-clause-runs g c =
 
 pub returns-in_err-close-clause-limit : goal.returns-in_err-close-clause-limit
 returns-in_err-close-clause-limit g c = λ limit.
-    let fault = c.in_err-close.field-0.0 in
-    let was : c.feed.result ≡ Err fault = search rules in
-    let is : c.from_residual-in_err-close.result ≡ Err fault = search rules in
     subst (λ (W : World). AsRead (λ builds. IsCutOff (Does (library builds) W c.args.budget) c.args.reader.now.taken (ahead c.args.reader.now (g.S.Source.left c.args.input.now)) (g.K.Sink.written c.args.out.now) (g.K.Sink.written c.feed.new.out)))
-    c.in_ok-world.ensures.begun (c.feed.ensures.limit (same_fault Limit fault c.feed.result c.from_residual-in_err-close.result was is limit))
+    c.in_ok-world.ensures.begun (c.feed.ensures.limit (same_fault Limit c.in_err-close.field-0.0 c.feed.result c.from_residual-in_err-close.result (search rules) (search rules) limit))
 
 pub returns-in_err-close-clause-broken : goal.returns-in_err-close-clause-broken
 returns-in_err-close-clause-broken g c = λ failed.
-    let fault = c.in_err-close.field-0.0 in
-    let was : c.feed.result ≡ Err fault = search rules in
-    let is : c.from_residual-in_err-close.result ≡ Err fault = search rules in
     subst (λ (W : World). AsRead (λ builds. IsBrokenOff (Does (library builds) W c.args.budget) c.args.reader.now.taken (ahead c.args.reader.now (g.S.Source.left c.args.input.now)) (g.K.Sink.written c.args.out.now) (g.K.Sink.written c.feed.new.out)))
-    c.in_ok-world.ensures.begun (c.feed.ensures.broken (same_fault Input fault c.feed.result c.from_residual-in_err-close.result was is failed))
+    c.in_ok-world.ensures.begun (c.feed.ensures.broken (same_fault Input c.in_err-close.field-0.0 c.feed.result c.from_residual-in_err-close.result (search rules) (search rules) failed))
