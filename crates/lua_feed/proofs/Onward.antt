@@ -86,21 +86,25 @@ on_unread rows W budget taken text before after same = record {
   grown = same ∙ grows_none before;
 }
 
--- a line was handed over
+-- a line that was taken and handed over
+pub record LineFed (old mid : Memory) (taken taken' : ℕ) (line : List ℕ) (text next : Option (List ℕ)) : Type 0 where
+  pub handed : plain mid 0 ≡ handed_line (plain old 0) line
+  pub takes : TakesLine (Some line) text next
+  pub within : IsWithinLimits taken line
+  pub taken_is : taken' ≡ taken + length line + 1
 
-module _ (rows : ℕ → Row) (old mid : Memory) (budget taken taken' : ℕ) (line : List ℕ) (text next before after : Option (List ℕ)) (handed : plain mid 0 ≡ handed_line (plain old 0) line) (takes : TakesLine (Some line) text next)
-    (within : IsWithinLimits taken line) (counts : taken' ≡ taken + length line + 1) where
+module _ {old mid : Memory} {taken taken' : ℕ} {line : List ℕ} {text next : Option (List ℕ)} (rows : ℕ → Row) (budget : ℕ) (before after : Option (List ℕ)) (h : LineFed old mid taken taken' line text next) where
   goes : (lines : List (List ℕ)) (r : Run) → CodeRun rows (plain mid 0) lines budget r → CodeOnward rows (plain old 0) (line ∷ lines) budget r
-  goes lines r c = record { count = c.count; gives = subst (λ (V : World). run_from rows c.count V lines budget ≡ Some r) handed c.gives }
+  goes lines r c = record { count = c.count; gives = subst (λ (V : World). run_from rows c.count V lines budget ≡ Some r) h.handed c.gives }
 
   back : (lines : List (List ℕ)) (r : Run) → CodeOnward rows (plain old 0) (line ∷ lines) budget r → CodeRun rows (plain mid 0) lines budget r
-  back lines r c = record { count = c.count; gives = subst (λ (V : World). run_from rows c.count V lines budget ≡ Some r) (sym handed) c.gives }
+  back lines r c = record { count = c.count; gives = subst (λ (V : World). run_from rows c.count V lines budget ≡ Some r) (sym h.handed) c.gives }
 
   usable : (b n : List ℕ) → lines_of b ≡ line ∷ lines_of n → usable_lines taken b ≡ line ∷ usable_lines taken' n
-  usable b n e = ap (lines_within taken) e ∙ keeps_within taken line (lines_of n) within ∙ ap (λ m. line ∷ lines_within m (lines_of n)) (sym counts)
+  usable b n e = ap (lines_within taken) e ∙ keeps_within taken line (lines_of n) h.within ∙ ap (λ m. line ∷ lines_within m (lines_of n)) (sym h.taken_is)
 
   passing : (b n : List ℕ) → lines_of b ≡ line ∷ lines_of n → passes_limits taken b ≡ passes_limits taken' n
-  passing b n e = ap (pass_limits taken) e ∙ passes_on taken line (lines_of n) within ∙ ap (λ m. pass_limits m (lines_of n)) (sym counts)
+  passing b n e = ap (pass_limits taken) e ∙ passes_on taken line (lines_of n) h.within ∙ ap (λ m. pass_limits m (lines_of n)) (sym h.taken_is)
 
   one_more : (lines : List (List ℕ)) (text next : Option (List ℕ)) → TakesLine (Some line) text next → IfSome next (λ bytes. lines ≡ usable_lines taken' bytes) → IfSome text (λ bytes. line ∷ lines ≡ usable_lines taken bytes)
   one_more lines None next takes are = tt
@@ -130,13 +134,13 @@ module _ (rows : ℕ → Row) (old mid : Memory) (budget taken taken' : ℕ) (li
   on_fed new close f = record {
     fed = record {
       lines = line ∷ f.fed.lines;
-      are = one_line f.fed.lines text next takes f.fed.are;
+      are = one_line f.fed.lines text next h.takes f.fed.are;
       run = f.fed.run;
       runs = goes f.fed.lines f.fed.run f.fed.runs;
       closes = f.fed.closes;
       grown = f.fed.grown;
-      within = still_within close f.fed.run text next takes f.fed.within;
-      short = λ waits. each_cons Short line f.fed.lines within.short_line (f.fed.short waits);
+      within = still_within close f.fed.run text next h.takes f.fed.within;
+      short = λ waits. each_cons Short line f.fed.lines h.within.short_line (f.fed.short waits);
     };
     leaves = record { left = f.leaves.left; is = f.leaves.is };
   }
@@ -144,12 +148,12 @@ module _ (rows : ℕ → Row) (old mid : Memory) (budget taken taken' : ℕ) (li
   pub on_cut : IsCutOff (Does rows (plain mid 0) budget) taken' next before after → IsCutOff (GoesOn rows (plain old 0) budget) taken text before after
   on_cut f = record {
     lines = line ∷ f.lines;
-    are = one_more f.lines text next takes f.are;
+    are = one_more f.lines text next h.takes f.are;
     run = f.run;
     runs = goes f.lines f.run f.runs;
     waits = f.waits;
     grown = f.grown;
-    past = same_past true text next takes f.past;
+    past = same_past true text next h.takes f.past;
   }
 
   one_first : (lines : List (List ℕ)) (text next : Option (List ℕ)) → TakesLine (Some line) text next → IfSome next (λ bytes. (more : List (List ℕ)) × (usable_lines taken' bytes ≡ lines ++ more))
@@ -161,8 +165,8 @@ module _ (rows : ℕ → Row) (old mid : Memory) (budget taken taken' : ℕ) (li
   pub on_broken : IsBrokenOff (Does rows (plain mid 0) budget) taken' next before after → IsBrokenOff (GoesOn rows (plain old 0) budget) taken text before after
   on_broken f = record {
     lines = line ∷ f.lines;
-    are = one_first f.lines text next takes f.are;
-    short = each_cons Short line f.lines within.short_line f.short;
+    are = one_first f.lines text next h.takes f.are;
+    short = each_cons Short line f.lines h.within.short_line f.short;
     run = f.run;
     runs = goes f.lines f.run f.runs;
     waits = f.waits;
@@ -170,7 +174,7 @@ module _ (rows : ℕ → Row) (old mid : Memory) (budget taken taken' : ℕ) (li
   }
 
   pub on_front : IsFedFront (Does rows (plain mid 0) budget) taken' next before after → IsFedFront (GoesOn rows (plain old 0) budget) taken text before after
-  on_front f = record { is = by text next takes f.is }
+  on_front f = record { is = by text next h.takes f.is }
     where
       by : (text next : Option (List ℕ)) → TakesLine (Some line) text next → IfSome next (λ bytes. (run : Run) → Does rows (plain mid 0) budget (usable_lines taken' bytes) run → GrowsByFront run.printed before after)
           → IfSome text (λ bytes. (run : Run) → GoesOn rows (plain old 0) budget (usable_lines taken bytes) run → GrowsByFront run.printed before after)
@@ -178,13 +182,6 @@ module _ (rows : ℕ → Row) (old mid : Memory) (budget taken taken' : ℕ) (li
       by (Some b) None takes f = absurd (cc)
       by (Some b) (Some n) takes f =
           λ r x. f r (back (usable_lines taken' n) r (subst (λ ls. CodeOnward rows (plain old 0) ls budget r) (usable b n (some_same (lines_of b) (line ∷ lines_of n) takes)) x))
-
--- a line that was taken and handed over
-pub record LineFed (old mid : Memory) (taken taken' : ℕ) (line : List ℕ) (text next : Option (List ℕ)) : Type 0 where
-  pub handed : plain mid 0 ≡ handed_line (plain old 0) line
-  pub takes : TakesLine (Some line) text next
-  pub within : IsWithinLimits taken line
-  pub taken_is : taken' ≡ taken + length line + 1
 
 pub line_fed : (old mid : Memory) (taken taken' : ℕ) (o : Option (List ℕ)) (line bytes : List ℕ) (text next : Option (List ℕ)) → o ≡ Some line → TakesLine o text next → IfSome o (λ l. IsWithinLimits taken l)
     → taken' ≡ taken_with taken o → bytes ≡ line → plain mid 0 ≡ handed_line (plain old 0) bytes → LineFed old mid taken taken' line text next

@@ -59,32 +59,24 @@ feed-requires g c =
 
 pub returns-clause-fed : goal.returns-clause-fed
 returns-clause-fed g c =
-    let text = (ahead c.args.reader.now (g.S.Source.left c.args.input.now)) in
-    let next = ahead c.next_line.new.self (g.S.Source.left c.next_line.new.source) in
-    let h = line_fed c.args.world.now c.hand_line.new.world c.args.reader.now.taken c.next_line.new.self.taken _ c.in-Some.line c.as_slice.result.now text next c.in-Some.is
-    c.in_ok-line.ensures.line c.in_ok-line.ensures.within c.in_ok-line.ensures.taken (search rules) (c.in_ok-hand_line.ensures.handed 0) in
-    IfOk-weaker c.feed.result _ _ (λ close f. read_map (λ builds are f. on_fed (library builds) c.args.world.now c.hand_line.new.world c.args.budget c.args.reader.now.taken c.next_line.new.self.taken c.in-Some.line text next (g.K.Sink.written c.args.out.now) (g.K.Sink.written c.feed.new.out) h.handed h.takes h.within h.taken_is c.feed.new.world (close_of close) f) f) c.feed.ensures.fed
+    let h = line_fed c.args.world.now c.hand_line.new.world c.args.reader.now.taken c.next_line.new.self.taken _ c.in-Some.line c.as_slice.result.now (ahead c.args.reader.now (g.S.Source.left c.args.input.now)) (ahead c.next_line.new.self (g.S.Source.left c.next_line.new.source))
+    c.in-Some.is c.in_ok-line.ensures.line c.in_ok-line.ensures.within c.in_ok-line.ensures.taken (search rules) (c.in_ok-hand_line.ensures.handed 0) in
+    IfOk-weaker c.feed.result _ _ (λ close f. read_map (λ builds are f. on_fed (library builds) c.args.budget (g.K.Sink.written c.args.out.now) (g.K.Sink.written c.feed.new.out) h c.feed.new.world (close_of close) f) f) c.feed.ensures.fed
 
 pub returns-clause-front : goal.returns-clause-front
 returns-clause-front g c =
-    let text = (ahead c.args.reader.now (g.S.Source.left c.args.input.now)) in
-    let next = ahead c.next_line.new.self (g.S.Source.left c.next_line.new.source) in
-    let h = line_fed c.args.world.now c.hand_line.new.world c.args.reader.now.taken c.next_line.new.self.taken _ c.in-Some.line c.as_slice.result.now text next c.in-Some.is
-    c.in_ok-line.ensures.line c.in_ok-line.ensures.within c.in_ok-line.ensures.taken (search rules) (c.in_ok-hand_line.ensures.handed 0) in
-    on_err_weaker c.feed.result (read_map (λ builds are f. on_front (library builds) c.args.world.now c.hand_line.new.world c.args.budget c.args.reader.now.taken c.next_line.new.self.taken c.in-Some.line text next (g.K.Sink.written c.args.out.now) (g.K.Sink.written c.feed.new.out) h.handed h.takes h.within h.taken_is f)) c.feed.ensures.front
+    let h = line_fed c.args.world.now c.hand_line.new.world c.args.reader.now.taken c.next_line.new.self.taken _ c.in-Some.line c.as_slice.result.now (ahead c.args.reader.now (g.S.Source.left c.args.input.now)) (ahead c.next_line.new.self (g.S.Source.left c.next_line.new.source))
+    c.in-Some.is c.in_ok-line.ensures.line c.in_ok-line.ensures.within c.in_ok-line.ensures.taken (search rules) (c.in_ok-hand_line.ensures.handed 0) in
+    on_err_weaker c.feed.result (read_map (λ builds are f. on_front (library builds) c.args.budget (g.K.Sink.written c.args.out.now) (g.K.Sink.written c.feed.new.out) h f)) c.feed.ensures.front
 
 pub returns-clause-limit : goal.returns-clause-limit
 returns-clause-limit g c = λ limit.
-    let text = (ahead c.args.reader.now (g.S.Source.left c.args.input.now)) in
-    let next = ahead c.next_line.new.self (g.S.Source.left c.next_line.new.source) in
-    let h = line_fed c.args.world.now c.hand_line.new.world c.args.reader.now.taken c.next_line.new.self.taken _ c.in-Some.line c.as_slice.result.now text next c.in-Some.is
-    c.in_ok-line.ensures.line c.in_ok-line.ensures.within c.in_ok-line.ensures.taken (search rules) (c.in_ok-hand_line.ensures.handed 0) in
-    read_map (λ builds are f. on_cut (library builds) c.args.world.now c.hand_line.new.world c.args.budget c.args.reader.now.taken c.next_line.new.self.taken c.in-Some.line text next (g.K.Sink.written c.args.out.now) (g.K.Sink.written c.feed.new.out) h.handed h.takes h.within h.taken_is f) (c.feed.ensures.limit limit)
+    let h = line_fed c.args.world.now c.hand_line.new.world c.args.reader.now.taken c.next_line.new.self.taken _ c.in-Some.line c.as_slice.result.now (ahead c.args.reader.now (g.S.Source.left c.args.input.now)) (ahead c.next_line.new.self (g.S.Source.left c.next_line.new.source))
+    c.in-Some.is c.in_ok-line.ensures.line c.in_ok-line.ensures.within c.in_ok-line.ensures.taken (search rules) (c.in_ok-hand_line.ensures.handed 0) in
+    read_map (λ builds are f. on_cut (library builds) c.args.budget (g.K.Sink.written c.args.out.now) (g.K.Sink.written c.feed.new.out) h f) (c.feed.ensures.limit limit)
 
 pub returns-clause-broken : goal.returns-clause-broken
 returns-clause-broken g c = λ failed.
-    let text = (ahead c.args.reader.now (g.S.Source.left c.args.input.now)) in
-    let next = ahead c.next_line.new.self (g.S.Source.left c.next_line.new.source) in
-    let h = line_fed c.args.world.now c.hand_line.new.world c.args.reader.now.taken c.next_line.new.self.taken _ c.in-Some.line c.as_slice.result.now text next c.in-Some.is
-    c.in_ok-line.ensures.line c.in_ok-line.ensures.within c.in_ok-line.ensures.taken (search rules) (c.in_ok-hand_line.ensures.handed 0) in
-    read_map (λ builds are f. on_broken (library builds) c.args.world.now c.hand_line.new.world c.args.budget c.args.reader.now.taken c.next_line.new.self.taken c.in-Some.line text next (g.K.Sink.written c.args.out.now) (g.K.Sink.written c.feed.new.out) h.handed h.takes h.within h.taken_is f) (c.feed.ensures.broken failed)
+    let h = line_fed c.args.world.now c.hand_line.new.world c.args.reader.now.taken c.next_line.new.self.taken _ c.in-Some.line c.as_slice.result.now (ahead c.args.reader.now (g.S.Source.left c.args.input.now)) (ahead c.next_line.new.self (g.S.Source.left c.next_line.new.source))
+    c.in-Some.is c.in_ok-line.ensures.line c.in_ok-line.ensures.within c.in_ok-line.ensures.taken (search rules) (c.in_ok-hand_line.ensures.handed 0) in
+    read_map (λ builds are f. on_broken (library builds) c.args.budget (g.K.Sink.written c.args.out.now) (g.K.Sink.written c.feed.new.out) h f) (c.feed.ensures.broken failed)
