@@ -6,21 +6,11 @@ use Rattle.machine_returns.proofs.going_on.go_on_called.Goals as goal
 
 pub take_results-requires : goal.take_results-requires
 take_results-requires c =
-    record {
-      order = c.requires.solid.order;
-      at = c.requires.at;
-      room = c.requires.room;
-      safe = call_takes c.args.world.now c.args.word c.args.wait c.args.values.now c.from-a.result c.from-c.result c.in-ForCall.is (c.from-a.ensures ∙ c.a.ensures) (c.from-c.ensures ∙ c.c.ensures) c.requires.safe;
-    }
+    record { order = c.requires.solid.order; at = c.requires.at; room = c.requires.room; safe = call_takes c.args.world.now c.args.word c.args.wait c.args.values.now c.from-a.result c.from-c.result c.in-ForCall.is (c.from-a.ensures ∙ c.a.ensures) (c.from-c.ensures ∙ c.c.ensures) c.requires.safe }
 
 pub take_results-requires-in-ForIterator : goal.take_results-requires-in-ForIterator
 take_results-requires-in-ForIterator c =
-    record {
-      order = c.requires.solid.order;
-      at = c.requires.at;
-      room = c.requires.room;
-      safe = iterator_takes c.args.world.now c.args.word c.args.wait c.args.values.now c.from-a.result c.from-c.result c.in-ForIterator.is (c.from-a.ensures ∙ c.a.ensures) (c.from-c.ensures ∙ c.c.ensures) c.requires.safe;
-    }
+    record { order = c.requires.solid.order; at = c.requires.at; room = c.requires.room; safe = iterator_takes c.args.world.now c.args.word c.args.wait c.args.values.now c.from-a.result c.from-c.result c.in-ForIterator.is (c.from-a.ensures ∙ c.a.ensures) (c.from-c.ensures ∙ c.c.ensures) c.requires.safe }
 
 pub go_on_closing-requires-clause-safe : goal.go_on_closing-requires-clause-safe
 go_on_closing-requires-clause-safe c = close_may c.args.world.now c.args.word c.args.wait c.args.values.now c.from.result c.in-ForClose.is (c.from.ensures ∙ c.a-in-ForClose.ensures) c.requires.safe

@@ -32,10 +32,10 @@ trees-preserved c =
     let trees : List Tree = c.args.self.now.trees.items in
     let codes : List Prototype = map (λ (t : Tree). t.code) trees in
     let size : vec_len c.args.self.now.trees ≡ length trees = search rules in
-    let n : length codes ≡ length trees = length-map trees (λ (t : Tree). t.code) in
     let here : slice_get trees c.trees.at ≡ Some c.index.result.now = slice_get_read trees (vec_len c.args.self.now.trees) c.trees.at c.index.result.now size c.trees.invariant.within c.index.ensures in
     let e : slice_get codes c.trees.at ≡ Some c.proto.result.now = get_map (λ (t : Tree). t.code) trees c.trees.at c.index.result.now here ∙ ap (λ p. Some p) (sym c.proto.ensures.same) in
     let on : slice_get (preorder (prototypes (drop (c.trees.at + 1) codes))) c.in-Err.rest ≡ slice_get (functions c.args.self.now) c.args.id.0 =
     passed codes c.trees.at c.proto.result.now c.trees.left c.in-Err.rest e c.in-Err.ensures.left ∙ c.trees.invariant.same in
+    let n : length codes ≡ length trees = length-map trees (λ (t : Tree). t.code) in
     let l : c.trees.at + 1 < length codes = walk_within codes (c.trees.at + 1) c.in-Err.rest (functions c.args.self.now) c.args.id.0 c.requires on in
     record { same = on; within = omega (arith, l, n, size) }
