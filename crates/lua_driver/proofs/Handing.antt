@@ -9,11 +9,7 @@ use Rattle.machine_core.specs.Text.{results}
 use Rattle.machine_core.specs.InstructionRows.{returns}
 use Rattle.machine_core.specs.FrameRows.{expand, handed, leave_row}
 use Rattle.machine_core.specs.Moves.{Made, made, TopShape, runs_main, see_top, top_now, top_shape, go, stop, Row}
-use Rattle.machine_core.specs.MachineStep.{woken}
-use Rattle.machine_sound.specs.Sound.{Settled, Solid, on_top, sizes, Valid}
-use Rattle.machine_sound.proofs.Calls.{fuel_top}
-use Rattle.machine_sound.proofs.Lists.{each_none, some_is}
-use Rattle.machine_sound.proofs.Waits.{moving_solid}
+use Rattle.machine_sound.proofs.Lists.{some_is}
 use Rattle.table_core.specs.declared.value.Value.{Value as Kept}
 use Rattle.lua_stack.specs.declared.frame.Top.{Top}
 use Rattle.lua_stack.specs.declared.frame.Top.TheVariants.{Lua}
@@ -34,15 +30,15 @@ use Rattle.machine_calls.specs.Tails.{Drops}
 use Rattle.machine_calls.proofs.Left.{left_is}
 use Rattle.machine_returns.specs.Waking.{HasWait, IsSolid, WaitsSo, Wakes}
 use Rattle.machine_returns.proofs.Closed.{not_spent, return_text, steps_first}
-use Rattle.machine_returns.proofs.Woken.{moved, wakes_so, woken_solid}
+use Rattle.machine_returns.proofs.Woken.{moved}
 use Rattle.step_laws.specs.Steps.{Does, IsReady}
 use Rattle.step_laws.proofs.Stepping.{instruction_is_step}
 use Rattle.step_laws.proofs.Ready.{go_has_frame, ready_is_sound, steps_stay_ready}
 use Rattle.running_frame.specs.declared.place.Here.{Here}
-use Rattle.running_frame.specs.Here.{IsAtWord, IsHere, RunsIf}
+use Rattle.running_frame.specs.Here.{IsHere}
 use Rattle.machine_step.specs.Places.{GoesOnSo, IsAwake, WaitsHere}
+use Rattle.machine_step.proofs.Again.{ready_without, solid_with, waits_with, wakes_with}
 use Rattle.machine_step.proofs.Awake.{awake, goes_on}
-use Rattle.machine_step.proofs.Steps.{waits_here}
 use Rattle.lua_driver.specs.Returning.{Returns}
 use Rattle.lua_driver.specs.Turns.{GoesFurther}
 use Rattle.lua_driver.proofs.Ahead.{at_once}
@@ -145,17 +141,7 @@ module _ (W gone : Memory) (values : List Kept) (r : Returns W values) (ready : 
 
     -- the Lua frame below could go on without them too
     pub ready_gone : IsReady (length all_entries) go gone
-    ready_gone =
-        let n = length all_entries in
-        let V = plain M 0 in
-        let solid = ready_moving.after.sound.solid in
-        let k = ready_moving.after.ready in
-        let none = each_none (Valid (sizes n V)) in
-        let settled : Settled n (plain gone 0) = subst (Settled n) (nothing 0) (record { top = k.top; is_top = fuel_top n k.top V [] 0 solid k.is_top none; fits = k.fits }) in
-        record {
-          after = record { sound = record { solid = subst (Solid n) (nothing 0) (moving_solid n V [] 0 solid none); rests = on_top settled }; ready = settled };
-          order = order_gone;
-        }
+    ready_gone = ready_without gone M.moving nothing ready_moving order_gone
 
     gone_has_frame : HasFrame gone
     gone_has_frame = go_has_frame (length all_entries) gone ready_gone
@@ -166,34 +152,13 @@ module _ (W gone : Memory) (values : List Kept) (r : Returns W values) (ready : 
     -- it is woken with the values
     module _ (again : Memory) (here : Here) (wait : KeptWait) (at : IsHere gone here) (waits : here.runs ≡ false) (waited : HasWait gone wait) (set : WaitsSo gone again Running) (kept : again ≡ record gone { coros = again.coros }) (listed_on : CellsAreListed again) where
       waits_at : WaitsHere M here.pc here.word
-      waits_at =
-          let a = at.word in
-          let word : IsAtWord M here.pc here.word = record { place = a.place; is = a.is; at_pc = a.at_pc; there = a.there; near = a.near } in
-          let runs : RunsIf M here.runs = record { is = at.wait.is } in
-          waits_here sound_moving word runs waits
-
-      abbrev frame : HasFrame gone
-      frame = gone_has_frame
-
-      woken_is : (fuel : ℕ) → plain again fuel ≡ woken (plain M fuel) frame.place.stack frame.place.top
-      woken_is = wakes_so M gone again wait values frame.place frame.is nothing set
+      waits_at = waits_with gone M.moving here sound_moving at waits
 
       wakes : Wakes M again wait values
-      wakes = record {
-        place = frame.place;
-        is = frame.is;
-        waited = waited.is frame.place frame.is;
-        came = refl;
-        woken_is = woken_is;
-        rest = kept ∙ ap (λ moving. record gone { coros = again.coros; moving = moving }) (sym (ap (λ (W : Memory). W.moving) kept));
-      }
+      wakes = let f = gone_has_frame in wakes_with gone M.moving nothing again wait f.place f.is (waited.is f.place f.is) set kept
 
       pub solid_woken : IsSolid again
-      solid_woken = record {
-        primitives = length all_entries;
-        solid = subst (Solid (length all_entries)) (sym (woken_is 0)) (woken_solid (length all_entries) (plain M 0) frame.place ready_moving.after.sound frame.is);
-        order = order_after order_gone (ap (λ (W : Memory). W.strings) kept) (ap (λ (W : Memory). W.codes) kept) listed_on;
-      }
+      solid_woken = solid_with gone M.moving nothing ready_moving order_gone wakes kept listed_on
 
       pub awake_with : IsAwake again here.pc here.word wait values
       awake_with = awake waits_at wakes sound_moving solid_woken.order

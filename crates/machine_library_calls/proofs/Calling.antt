@@ -11,9 +11,8 @@ use Rattle.library_rows.specs.Look.{Look, looked}
 use Rattle.machine_core.specs.World.{Place, place_of}
 use Rattle.machine_core.specs.Text.{Arg, args_of}
 use Rattle.machine_core.specs.Moves.{Ending, go, calls_primitive, raised, give, give_with, is_given, made, Row, ends}
-use Rattle.machine_core.specs.MachineStep.{after_look, and_then, look_row, steps, woken}
+use Rattle.machine_core.specs.MachineStep.{after_look, and_then, look_row, steps}
 use Rattle.machine_sound.specs.Laws.{PrimitivesSafe}
-use Rattle.machine_sound.specs.Sound.{Solid}
 use Rattle.machine_sound.proofs.Lists.{some_is}
 use Rattle.table_core.specs.declared.value.Value.{Value as Kept}
 use Rattle.lua_stack.specs.declared.frame.Wait.{Wait as KeptWait}
@@ -27,7 +26,7 @@ use Rattle.lib_base.specs.declared.answer.Answer.TheVariants.{Raises}
 use Rattle.lib_base.specs.Answers.{Changes, OnlyStrings, Stands, told}
 use Rattle.lib_base.specs.Raw.{heap_of}
 use Rattle.move_laws.specs.Memory.{HasFrame, InOrder, IsSound, Leads, Makes, ReadsSame}
-use Rattle.move_laws.proofs.Order.{order_after, steps_of}
+use Rattle.move_laws.proofs.Order.{steps_of}
 use Rattle.machine_moves.specs.Ending.{ending_of}
 use Rattle.machine_moves.specs.declared.ending.Ending.{Ending as KeptEnding}
 use Rattle.instruction_forms.specs.declared.form.Form.TheVariants.{Call}
@@ -35,7 +34,7 @@ use Rattle.machine_call_rows.specs.Primitives.{CallsPrimitive}
 use Rattle.machine_call_rows.specs.Rows.{IsWaitOfCall}
 use Rattle.machine_primitives.proofs.Reading.{nothing, nothing_built}
 use Rattle.machine_returns.specs.Waking.{IsSolid, WaitsSo, Wakes}
-use Rattle.machine_returns.proofs.Woken.{moved, wakes_so, woken_solid}
+use Rattle.machine_returns.proofs.Woken.{moved}
 use Rattle.machine_library.specs.Answers.{Tells, shape_told, values_told}
 use Rattle.machine_library.proofs.Consulting.{gives_on, raises_on, tells_row}
 use Rattle.machine_library.proofs.Moving.{Taken, moves_again, stands}
@@ -45,6 +44,7 @@ use Rattle.step_laws.proofs.Stepping.{primitive_is_step}
 use Rattle.running_frame.specs.declared.place.Here.{Here}
 use Rattle.running_frame.specs.Here.{IsHere, IsAtWord, RunsIf, is_none}
 use Rattle.machine_step.specs.Places.{RunsForm, GoesOnSo, IsAwake, WaitsHere}
+use Rattle.machine_step.proofs.Again.{solid_with, wakes_with}
 use Rattle.machine_step.proofs.Awake.{awake, goes_on}
 use Rattle.machine_step.proofs.ByForm.{does}
 use Rattle.machine_step.proofs.Steps.{waits_here}
@@ -246,25 +246,11 @@ module _ {b : Begun} {R : Memory} {here : Here} {iterates : Bool} {number : ℕ}
           nothing_N : (fuel : ℕ) → moved (plain N fuel) [] ≡ plain X fuel
           nothing_N fuel = ap (λ vs. moved (plain X fuel) (map (value X.strings) vs)) (sym (ap (λ (W : Memory). W.moving.items) changes.rest ∙ none_move))
 
-          woken_is : (fuel : ℕ) → plain again fuel ≡ woken (plain N fuel) Q.stack Q.top
-          woken_is = wakes_so N X again wait results.items Q place_X nothing_N set
-
           wakes : Wakes N again wait results.items
-          wakes = record {
-            place = Q;
-            is = place_X;
-            waited = same_wait (value N.strings) (value W.strings) iterates wait k.calls.wait w k.calls.waits;
-            came = refl;
-            woken_is = woken_is;
-            rest = kept ∙ ap (λ moving. record X { coros = again.coros; moving = moving }) (sym (ap (λ (W : Memory). W.moving) kept));
-          }
+          wakes = wakes_with X results nothing_N again wait Q place_X (same_wait (value N.strings) (value W.strings) iterates wait k.calls.wait w k.calls.waits) set kept
 
           pub woken_solid_so : IsSolid again
-          woken_solid_so = record {
-            primitives = length all_entries;
-            solid = subst (Solid (length all_entries)) (sym (woken_is 0)) (woken_solid (length all_entries) (plain N 0) Q ready_N.after.sound place_X);
-            order = order_after answered_order (ap (λ (W : Memory). W.strings) kept) (ap (λ (W : Memory). W.codes) kept) listed_on;
-          }
+          woken_solid_so = solid_with X results nothing_N ready_N answered_order wakes kept listed_on
 
           pub woken_with : IsAwake again here.pc here.word wait results.items
           woken_with = awake waits_at wakes sound_N woken_solid_so.order

@@ -13,12 +13,9 @@ use Rattle.machine_core.specs.World.{Frame, closing, World, Stack, stack_of}
 use Rattle.machine_core.specs.Text.{Arg, args_of}
 use Rattle.machine_core.specs.FrameRows.{hand_over, handed}
 use Rattle.machine_core.specs.Moves.{Made, made, TopShape, lua_top, see_top, top_now, top_shape, go, calls_primitive, raised, give, give_with, is_given, Row, ends}
-use Rattle.machine_core.specs.MachineStep.{after_look, look_row, woken}
+use Rattle.machine_core.specs.MachineStep.{after_look, look_row}
 use Rattle.machine_sound.specs.Laws.{PrimitivesSafe}
-use Rattle.machine_sound.specs.Sound.{Settled, Solid, on_top, sizes, Valid}
-use Rattle.machine_sound.proofs.Calls.{fuel_top}
-use Rattle.machine_sound.proofs.Lists.{each_none, some_is}
-use Rattle.machine_sound.proofs.Waits.{moving_solid}
+use Rattle.machine_sound.proofs.Lists.{some_is}
 use Rattle.table_core.specs.declared.value.Value.{Value as Kept}
 use Rattle.lua_stack.specs.declared.frame.Wait.{Wait as KeptWait}
 use Rattle.lua_stack.specs.declared.frame.Wait.TheVariants.{Running}
@@ -31,13 +28,13 @@ use Rattle.lib_base.specs.declared.answer.Answer.TheVariants.{Raises}
 use Rattle.lib_base.specs.Answers.{Changes, OnlyStrings, Stands, told}
 use Rattle.lib_base.specs.Raw.{heap_of}
 use Rattle.move_laws.specs.Memory.{HasFrame, InOrder, IsSound, Leads, Makes, ReadsSame}
-use Rattle.move_laws.proofs.Order.{order_after, steps_of}
+use Rattle.move_laws.proofs.Order.{steps_of}
 use Rattle.move_laws.proofs.Rows.{first, ended}
 use Rattle.machine_moves.specs.Ending.{ending_of}
 use Rattle.machine_moves.specs.declared.ending.Ending.{Ending as KeptEnding}
 use Rattle.machine_primitives.proofs.Reading.{nothing, nothing_built}
 use Rattle.machine_returns.specs.Waking.{HasWait, IsSolid, WaitsSo, Wakes}
-use Rattle.machine_returns.proofs.Woken.{moved, wakes_so, woken_solid}
+use Rattle.machine_returns.proofs.Woken.{moved}
 use Rattle.machine_library.specs.Answers.{Tells, shape_told, values_told}
 use Rattle.machine_library.proofs.Consulting.{gives_on, raises_on, tells_row}
 use Rattle.machine_library.proofs.Moving.{Taken, moves_again, stands}
@@ -45,11 +42,11 @@ use Rattle.step_laws.specs.Steps.{Does, IsReady}
 use Rattle.step_laws.proofs.Ready.{go_has_frame, ready_is_sound, steps_stay_ready}
 use Rattle.step_laws.proofs.Stepping.{primitive_is_step}
 use Rattle.running_frame.specs.declared.place.Here.{Here}
-use Rattle.running_frame.specs.Here.{IsAtWord, IsHere, RunsIf}
+use Rattle.running_frame.specs.Here.{IsHere}
 use Rattle.machine_step.specs.Places.{GoesOnSo, IsAwake, WaitsHere}
+use Rattle.machine_step.proofs.Again.{ready_without, solid_with, waits_with, wakes_with}
 use Rattle.machine_step.proofs.Awake.{awake, goes_on}
 use Rattle.machine_step.proofs.ByForm.{does}
-use Rattle.machine_step.proofs.Steps.{waits_here}
 use Rattle.machine_call_rows.specs.Primitives.{TailCallsPrimitive}
 use Rattle.machine_library_calls.specs.Calls.{Begun, Comes, begins}
 use Rattle.machine_library_calls.specs.Tails.{HasLuaOnTop, IsTailAnswered, IsTailCalled, IsTailGiven, RunsTail}
@@ -241,17 +238,7 @@ module _ {b : Begun} {R : Memory} {number : ℕ} {few : List Kept} (k : IsTailCa
 
         -- the Lua frame on top could go on without them too
         pub ready_X : IsReady (length all_entries) go X
-        ready_X =
-            let n = length all_entries in
-            let V = plain N 0 in
-            let solid = ready_N.after.sound.solid in
-            let s = ready_N.after.ready in
-            let none = each_none (Valid (sizes n V)) in
-            let settled : Settled n (plain X 0) = subst (Settled n) (nothing_N 0) (record { top = s.top; is_top = fuel_top n s.top V [] 0 solid s.is_top none; fits = s.fits }) in
-            record {
-              after = record { sound = record { solid = subst (Solid n) (nothing_N 0) (moving_solid n V [] 0 solid none); rests = on_top settled }; ready = settled };
-              order = answered_order;
-            }
+        ready_X = ready_without X results nothing_N ready_N answered_order
 
         -- it is woken with them
         module _ (again : Memory) (here : Here) (wait : KeptWait) (at : IsHere X here) (waits : here.runs ≡ false) (waited : HasWait X wait) (set : WaitsSo X again Running)
@@ -260,37 +247,16 @@ module _ {b : Begun} {R : Memory} {number : ℕ} {few : List Kept} (k : IsTailCa
           sound_N = ready_is_sound (length all_entries) go N ready_N
 
           waits_at : WaitsHere N here.pc here.word
-          waits_at =
-              let a = at.word in
-              let word : IsAtWord N here.pc here.word = record { place = a.place; is = a.is; at_pc = a.at_pc; there = a.there; near = a.near } in
-              let runs : RunsIf N here.runs = record { is = at.wait.is } in
-              waits_here sound_N word runs waits
+          waits_at = waits_with X results here sound_N at waits
 
           frame_there : HasFrame X
           frame_there = go_has_frame (length all_entries) X ready_X
 
-          abbrev frame : HasFrame X
-          frame = frame_there
-
-          woken_is : (fuel : ℕ) → plain again fuel ≡ woken (plain N fuel) frame.place.stack frame.place.top
-          woken_is = wakes_so N X again wait results.items frame.place frame.is nothing_N set
-
           wakes : Wakes N again wait results.items
-          wakes = record {
-            place = frame.place;
-            is = frame.is;
-            waited = waited.is frame.place frame.is;
-            came = refl;
-            woken_is = woken_is;
-            rest = kept ∙ ap (λ moving. record X { coros = again.coros; moving = moving }) (sym (ap (λ (W : Memory). W.moving) kept));
-          }
+          wakes = let f = frame_there in wakes_with X results nothing_N again wait f.place f.is (waited.is f.place f.is) set kept
 
           pub solid_again : IsSolid again
-          solid_again = record {
-            primitives = length all_entries;
-            solid = subst (Solid (length all_entries)) (sym (woken_is 0)) (woken_solid (length all_entries) (plain N 0) frame.place ready_N.after.sound frame.is);
-            order = order_after answered_order (ap (λ (W : Memory). W.strings) kept) (ap (λ (W : Memory). W.codes) kept) listed_on;
-          }
+          solid_again = solid_with X results nothing_N ready_N answered_order wakes kept listed_on
 
           pub awake_again : IsAwake again here.pc here.word wait results.items
           awake_again = awake waits_at wakes sound_N solid_again.order

@@ -1,3 +1,4 @@
 pub mod ByForm
 pub mod Awake
 pub mod Steps
+pub mod Again
