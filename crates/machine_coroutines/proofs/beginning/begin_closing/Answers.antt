@@ -10,8 +10,8 @@ pub returns-then-not-branch-clause-makes : goal.returns-then-not-branch-clause-m
 returns-then-not-branch-clause-makes c = λ env x q.
     let W = c.args.world.now in
     let h = subst (IsLeft c.get.result.now) c.in-Values.is c.in_ok-left_by.ensures in
-    let room : c.in_ok-push_closing-in-Values.field-0 ≡ false = search rules in
     let p = subst (λ vs. PushesClosing W c.push_closing.new.world c.in-Values.error vs c.in_ok-push_closing-in-Values.field-0) c.deref.ensures.value c.in_ok-push_closing-in-Values.ensures.pushes in
+    let room : c.in_ok-push_closing-in-Values.field-0 ≡ false = search rules in
     no_room W c.args.co c.get.result.now c.get.ensures c.in-Values.error c.in-Values.values.items h c.push_closing.new.world c.in_ok-push_closing-in-Values.field-0 p env x room (c.in_ok-push_closing-in-Values.ensures.same room) q
 
 pub returns-in-Running-clause-makes : goal.returns-in-Running-clause-makes

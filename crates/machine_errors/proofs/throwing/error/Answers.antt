@@ -48,10 +48,10 @@ pub returns-in-Nowhere-clause-leads : goal.returns-in-Nowhere-clause-leads
 returns-in-Nowhere-clause-leads c =
     let W = c.args.world.now in
     let new = c.throw.new.world in
-    let message : c.first_of-message.result ≡ first_of W.moving.items = search rules in
     let second : c.first_of-level.result ≡ first_of (drop 1 W.moving.items) = search rules in
     let level : level_of (level_in (shape (value W.strings (first_of (drop 1 W.moving.items))))) ≡ Nowhere =
     ap (λ v. level_of (level_in (shape (value W.strings v)))) (sym second) ∙ sym c.level_of.ensures ∙ c.in-Nowhere.is in
+    let message : c.first_of-message.result ≡ first_of W.moving.items = search rules in
     if_ok c.throw.result c.throw.ensures.sends c.throw.ensures.raised (λ ending s r env.
     subst (λ e. Leads error_row env W new (ending_of e)) (sym r) (throws W new env level (subst (λ v. Sends W new (λ fuel. value W.strings v)) message s)))
 

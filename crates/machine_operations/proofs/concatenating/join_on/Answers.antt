@@ -66,26 +66,28 @@ returns-in_ok-text-in-Fails-clause-leads c =
     let come = came_comes W c.args.first c.args.left c.args.came.now c.first_or_nil-last.result c.first_or_nil-last.ensures V (Fails c.in-Fails.fault) j in
     IfOk-weaker c.raise.result _ _ (λ ending l. fails_leads come (c.deref.ensures.value ∙ c.in_ok-text-in-Fails.ensures V.strings) l) c.raise.ensures.leads
 
+-- after a refusal
+
 pub returns-in_err-v-clause-order : goal.returns-in_err-v-clause-order
 returns-in_err-v-clause-order c = c.join.ensures.sound.order
-
-pub returns-in_err-v-clause-err : goal.returns-in_err-v-clause-err
-returns-in_err-v-clause-err c = always _ c.from_residual.result c.join.ensures.same
 
 pub returns-in_err-operands-in-Asks-clause-order : goal.returns-in_err-operands-in-Asks-clause-order
 returns-in_err-operands-in-Asks-clause-order c = c.join.ensures.sound.order
 
-pub returns-in_err-operands-in-Asks-clause-err : goal.returns-in_err-operands-in-Asks-clause-err
-returns-in_err-operands-in-Asks-clause-err c = always _ c.from_residual-in_err-operands-in-Asks.result c.join.ensures.same
-
-pub returns-in_ok-operands-in-Asks-clause-err : goal.returns-in_ok-operands-in-Asks-clause-err
-returns-in_ok-operands-in-Asks-clause-err c = on_err c.ask_over.result c.ask_over.ensures.err (λ e. subst (λ V. ReadsSame c.args.world.now V) (sym e) c.join.ensures.same)
-
 pub returns-in_err-text-in-Fails-clause-order : goal.returns-in_err-text-in-Fails-clause-order
 returns-in_err-text-in-Fails-clause-order c = c.join.ensures.sound.order
 
+pub returns-in_err-v-clause-err : goal.returns-in_err-v-clause-err
+returns-in_err-v-clause-err c = always _ c.from_residual.result c.join.ensures.same
+
+pub returns-in_err-operands-in-Asks-clause-err : goal.returns-in_err-operands-in-Asks-clause-err
+returns-in_err-operands-in-Asks-clause-err c = always _ c.from_residual-in_err-operands-in-Asks.result c.join.ensures.same
+
 pub returns-in_err-text-in-Fails-clause-err : goal.returns-in_err-text-in-Fails-clause-err
 returns-in_err-text-in-Fails-clause-err c = always _ c.from_residual-in_err-text-in-Fails.result c.join.ensures.same
+
+pub returns-in_ok-operands-in-Asks-clause-err : goal.returns-in_ok-operands-in-Asks-clause-err
+returns-in_ok-operands-in-Asks-clause-err c = on_err c.ask_over.result c.ask_over.ensures.err (λ e. subst (λ V. ReadsSame c.args.world.now V) (sym e) c.join.ensures.same)
 
 pub returns-in_ok-text-in-Fails-clause-err : goal.returns-in_ok-text-in-Fails-clause-err
 returns-in_ok-text-in-Fails-clause-err c = on_err c.raise.result c.raise.ensures.err (λ e. subst (λ V. ReadsSame c.args.world.now V) (sym e) c.join.ensures.same)
