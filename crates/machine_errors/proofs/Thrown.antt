@@ -17,6 +17,7 @@ use Rattle.move_laws.specs.Memory.{Leads, Makes, ReadsSame}
 use Rattle.move_laws.proofs.Rows.{act_is}
 use Rattle.machine_errors.specs.Protected.{first_of}
 use Rattle.machine_errors.specs.Asking.{taken}
+use Rattle.machine_errors.specs.declared.throwing.Level.{Level}
 use Rattle.machine_errors.specs.declared.throwing.Level.TheVariants.{Of, Nowhere, Wrong}
 use Rattle.machine_errors.specs.Throwing.{level_of, Sends}
 use Rattle.machine_errors.proofs.Leaving.{with_moving, world_made}
@@ -129,3 +130,7 @@ sent_from {old} {named} {new} {v} {w} r s e = record {
       ∙ ap (λ W. with_moving W (v fuel ∷ [])) (r.is fuel)
       ∙ ap (λ x. with_moving (plain old fuel) (x ∷ [])) (e fuel);
 }
+
+-- what the level is, of the value that was read for it
+pub level_is : (texts : List (List ℕ)) {v w : Kept} {told level : Level} → v ≡ w → told ≡ level_of (level_in (shape (value texts v))) → told ≡ level → level_of (level_in (shape (value texts w))) ≡ level
+level_is texts e h l = ap (λ v. level_of (level_in (shape (value texts v)))) (sym e) ∙ sym h ∙ l

@@ -1,4 +1,4 @@
-use Rattle.std.proofs.Common.{rules, ◌≡◌, ap, sym, subst, ◌∙◌}
+use Rattle.std.proofs.Common.{rules, ◌≡◌, sym, subst}
 use Rattle.std.specs.Prelude.{codes, drop}
 use Rattle.std.proofs.lemmas.Result.{IfOk-weaker}
 use Rattle.int_core.specs.Value.{shape}
@@ -7,16 +7,15 @@ use Rattle.lua_heap.specs.Plain.{plain}
 use Rattle.lua_heap.specs.Reading.{value}
 use Rattle.lua_heap.proofs.TextsThere.{has_text}
 use Rattle.machine_core.specs.FrameRows.{blames}
-use Rattle.machine_core.specs.MachineStep.{error_row, level_in, wrong_type}
+use Rattle.machine_core.specs.MachineStep.{error_row, wrong_type}
 use Rattle.machine_core.specs.Moves.{placed}
 use Rattle.machine_sound.specs.Sound.{sizes}
 use Rattle.move_laws.specs.Memory.{Leads}
 use Rattle.machine_moves.specs.Ending.{ending_of}
 use Rattle.machine_moves.proofs.OnTop.{if_ok}
-use Rattle.machine_errors.specs.declared.throwing.Level.TheVariants.{Of, Nowhere, Wrong}
 use Rattle.machine_errors.specs.Protected.{first_of}
 use Rattle.machine_errors.specs.Throwing.{level_of, Sends}
-use Rattle.machine_errors.proofs.Thrown.{first_valid, refuses, second_valid, throws, throws_placed}
+use Rattle.machine_errors.proofs.Thrown.{first_valid, level_is, refuses, second_valid, throws, throws_placed}
 use Rattle.machine_errors.proofs.throwing.error.Goals as goal
 
 pub level_of-requires : goal.level_of-requires
@@ -39,8 +38,7 @@ returns-in-Of-clause-leads c =
     let new = c.throw_placed.new.world in
     let message : c.first_of-message.result ≡ first_of W.moving.items = search rules in
     let second : c.first_of-level.result ≡ first_of (drop 1 W.moving.items) = search rules in
-    let level : level_of (level_in (shape (value W.strings (first_of (drop 1 W.moving.items))))) ≡ Of c.in-Of.level =
-    ap (λ v. level_of (level_in (shape (value W.strings v)))) (sym second) ∙ sym c.level_of.ensures ∙ c.in-Of.is in
+    let level = level_is W.strings second c.level_of.ensures c.in-Of.is in
     if_ok c.throw_placed.result c.throw_placed.ensures.sends c.throw_placed.ensures.raised (λ ending s r env.
     subst (λ e. Leads error_row env W new (ending_of e)) (sym r) (throws_placed W new c.in-Of.level env level (subst (λ v. Sends W new (λ fuel. placed (plain W fuel) c.in-Of.level (value W.strings v))) message s)))
 
@@ -49,8 +47,7 @@ returns-in-Nowhere-clause-leads c =
     let W = c.args.world.now in
     let new = c.throw.new.world in
     let second : c.first_of-level.result ≡ first_of (drop 1 W.moving.items) = search rules in
-    let level : level_of (level_in (shape (value W.strings (first_of (drop 1 W.moving.items))))) ≡ Nowhere =
-    ap (λ v. level_of (level_in (shape (value W.strings v)))) (sym second) ∙ sym c.level_of.ensures ∙ c.in-Nowhere.is in
+    let level = level_is W.strings second c.level_of.ensures c.in-Nowhere.is in
     let message : c.first_of-message.result ≡ first_of W.moving.items = search rules in
     if_ok c.throw.result c.throw.ensures.sends c.throw.ensures.raised (λ ending s r env.
     subst (λ e. Leads error_row env W new (ending_of e)) (sym r) (throws W new env level (subst (λ v. Sends W new (λ fuel. value W.strings v)) message s)))
@@ -60,8 +57,6 @@ returns-in-Wrong-clause-leads c =
     let W = c.args.world.now in
     let new = c.refuse_level.new.world in
     let second : c.first_of-level.result ≡ first_of (drop 1 W.moving.items) = search rules in
-    let level : level_of (level_in (shape (value W.strings (first_of (drop 1 W.moving.items))))) ≡ Wrong =
-    ap (λ v. level_of (level_in (shape (value W.strings v)))) (sym second) ∙ sym c.level_of.ensures ∙ c.in-Wrong.is in
     IfOk-weaker c.refuse_level.result _ _ (λ ending b env.
-    refuses W new (ending_of ending) env level (λ env. subst (λ v. Leads (blames (wrong_type 2 (codes "error") (codes "number") (shape (value W.strings v)))) env W new (ending_of ending)) second (b env)))
+    refuses W new (ending_of ending) env (level_is W.strings second c.level_of.ensures c.in-Wrong.is) (λ env. subst (λ v. Leads (blames (wrong_type 2 (codes "error") (codes "number") (shape (value W.strings v)))) env W new (ending_of ending)) second (b env)))
     c.refuse_level.ensures.leads
