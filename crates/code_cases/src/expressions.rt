@@ -1,11 +1,8 @@
 // The words of expressions, worked out by hand from the opcodes and fields that lopcodes.h of Lua 5.4 has.
+use crate::reading::{main_of, words};
 use code_constants::Constants;
 use code_emitter::Emitter;
 use code_expr::{expression, list};
-use lua_lex::tokens;
-use lua_parse::parse;
-use lua_scope::resolve;
-use scope_core::Resolved;
 use std::alloc::{AllocError, Global};
 use std::test::Fail;
 use tree_core::{Block, Body, Exp};
@@ -180,27 +177,12 @@ static WORDS: [(&[u8], u8, &[u32]); 37] = [
 
 // The expressions behind the `return` of a source.
 fn returned(alloc: Global, source: &[u8]) -> Result<Vec<Exp>, Fail> {
-    let list = tokens(alloc, source)?;
-    let Ok(block) = parse(alloc, list) else {
-        return Err(Fail::from("no tree"));
-    };
-    let Ok(Resolved { main }) = resolve(alloc, block) else {
-        return Err(Fail::from("against the rules"));
-    };
-    let Body { block, .. } = main;
+    let Body { block, .. } = main_of(alloc, source)?;
     let Block { result, .. } = block;
     match result {
         Some(list) => Ok(list),
         None => Err(Fail::from("no return")),
     }
-}
-
-fn words(emitter: &Emitter, alloc: Global) -> Result<Vec<u32>, AllocError> {
-    let mut words = Vec::new(alloc);
-    for step in emitter.steps().iter() {
-        words.push(step.instruction.0)?;
-    }
-    Ok(words)
 }
 
 fn expression_words(alloc: Global, exp: &Exp, target: usize) -> Result<Vec<u32>, AllocError> {

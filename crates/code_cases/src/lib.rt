@@ -7,6 +7,8 @@ mod expressions;
 #[cfg(test)]
 mod parts;
 #[cfg(test)]
+mod reading;
+#[cfg(test)]
 mod statements;
 #[cfg(test)]
 mod whole;

@@ -1,4 +1,5 @@
 // The parts of prototypes that are not their code, worked out by hand.
+use crate::reading::main_of;
 use code_constants::Constants;
 use code_core::{AbsLine, Const, Instruction, UpDesc};
 use code_emitter::{Emitter, Step};
@@ -7,10 +8,6 @@ use code_parts::{
     prototype, put_opening, room, up_names, upvalues,
 };
 use int_core::{Bytes, write_integer};
-use lua_lex::tokens;
-use lua_parse::parse;
-use lua_scope::resolve;
-use scope_core::Resolved;
 use std::alloc::{AllocError, Global};
 use std::test::Fail;
 use tree_core::Body;
@@ -53,17 +50,6 @@ static ROOMS: [(&[u32], u8, u8); 7] = [
     (&[0x0001_0246], 1, 1),
     (&[0x7f], 2, 2),
 ];
-
-fn main_of(alloc: Global, source: &[u8]) -> Result<Body, Fail> {
-    let list = tokens(alloc, source)?;
-    let Ok(block) = parse(alloc, list) else {
-        return Err(Fail::from("no tree"));
-    };
-    let Ok(Resolved { main }) = resolve(alloc, block) else {
-        return Err(Fail::from("against the rules"));
-    };
-    Ok(main)
-}
 
 fn written(alloc: Global, constants: &[Const]) -> Result<Vec<u8>, AllocError> {
     let mut text = Vec::new(alloc);

@@ -1,12 +1,8 @@
 // The words of whole sources, worked out by hand from the opcodes and fields that lopcodes.h of Lua 5.4 has.
+use crate::reading::{main_of, words};
 use code_constants::Constants;
-use code_emitter::Emitter;
 use code_stat::{Written, write_body};
-use lua_lex::tokens;
-use lua_parse::parse;
-use lua_scope::resolve;
-use scope_core::Resolved;
-use std::alloc::{AllocError, Global};
+use std::alloc::Global;
 use std::test::Fail;
 
 // Sources without constants, and the words of their code.
@@ -210,22 +206,8 @@ static VARIABLES: [(&[u8], &[u32]); 7] = [
     ),
 ];
 
-fn words(emitter: &Emitter, alloc: Global) -> Result<Vec<u32>, AllocError> {
-    let mut words = Vec::new(alloc);
-    for step in emitter.steps().iter() {
-        words.push(step.instruction.0)?;
-    }
-    Ok(words)
-}
-
 fn source_code(alloc: Global, source: &[u8]) -> Result<Written, Fail> {
-    let list = tokens(alloc, source)?;
-    let Ok(block) = parse(alloc, list) else {
-        return Err(Fail::from("no tree"));
-    };
-    let Ok(Resolved { main }) = resolve(alloc, block) else {
-        return Err(Fail::from("against the rules"));
-    };
+    let main = main_of(alloc, source)?;
     Ok(write_body(alloc, Constants::new(alloc), &main)?)
 }
 
