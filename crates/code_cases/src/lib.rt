@@ -3,12 +3,4 @@
 #![tactic(auto)]
 
 #[cfg(test)]
-mod expressions;
-#[cfg(test)]
-mod parts;
-#[cfg(test)]
-mod reading;
-#[cfg(test)]
-mod statements;
-#[cfg(test)]
-mod whole;
+mod cases;

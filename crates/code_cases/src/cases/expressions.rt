@@ -1,5 +1,5 @@
 // The words of expressions, worked out by hand from the opcodes and fields that lopcodes.h of Lua 5.4 has.
-use crate::reading::{main_of, words};
+use crate::cases::reading::{main_of, words};
 use code_constants::Constants;
 use code_emitter::Emitter;
 use code_expr::{expression, list};

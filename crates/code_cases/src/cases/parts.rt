@@ -1,5 +1,5 @@
 // The parts of prototypes that are not their code, worked out by hand.
-use crate::reading::main_of;
+use crate::cases::reading::main_of;
 use code_constants::Constants;
 use code_core::{AbsLine, Const, Instruction, UpDesc};
 use code_emitter::{Emitter, Step};

@@ -1,0 +1,6 @@
+// Cases, by what they are of.
+mod expressions;
+mod parts;
+mod reading;
+mod statements;
+mod whole;
