@@ -20,17 +20,17 @@ use Rattle.program.specs.declared.session.SessionState.{SessionState}
 use Rattle.program.specs.declared.session.SessionState.TheVariants.{Suspended, Ended}
 use Rattle.program.specs.Devices.{Device, RoseIn}
 
-abbrev pub status_of_close : Close → ℕ
-status_of_close has_returned = 0
-status_of_close has_failed = 1
-status_of_close is_suspended = 3
-status_of_close has_spent = 4
-
 abbrev pub state_of : Close → SessionState
 state_of has_returned = Ended
 state_of has_failed = Ended
 state_of is_suspended = Suspended
 state_of has_spent = Ended
+
+abbrev pub status_of_close : Close → ℕ
+status_of_close has_returned = 0
+status_of_close has_failed = 1
+status_of_close is_suspended = 3
+status_of_close has_spent = 4
 
 -- the session that ran, as the run left it: its world is the last one of the run, but for what is left of a budget
 pub record IsSessionOf (run : Run) (session : Session) : Type 0 where
