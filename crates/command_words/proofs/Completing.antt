@@ -114,6 +114,10 @@ module _ (words files' budgets saves : List (List ℕ)) (strips : ℕ) (files : 
           let r = further true (record { all_files = e; few = few; has_budget = b; has_save = v; has_strip = strip_stays }) in
           record { next = r.next; reached = r.reached }
 
+-- what follows an option is reached from its word
+reached_by : {from : Arguments} {words all : List (List ℕ)} {budget : Option ℕ} {save : Option (List ℕ)} {strip : Bool} → (last : Next) × (after from words ≡ Some (state all budget save strip last)) → Reaches from words all budget save strip
+reached_by r = record { next = r.0; reached = r.1 }
+
 pub read_to_end : {words files' budgets saves : List (List ℕ)} {strips : ℕ} → Names words files' budgets saves strips → (files : List (List ℕ)) (budget : Option ℕ) (save : Option (List ℕ)) (strip : Bool) (all : List (List ℕ)) (budget' : Option ℕ) (save' : Option (List ℕ)) (strip' : Bool)
     → Comes files budget save strip files' budgets saves strips all budget' save' strip' → Reaches (state files budget save strip Any) words all budget' save' strip'
 read_to_end nothing files budget save strip all budget' save' strip' c = end files all budget budget' save save' strip strip' c.all_files c.has_budget c.has_save c.has_strip
@@ -134,16 +138,12 @@ read_to_end (a_file word {words = words} {files = more} plain n) files budget sa
       reached = ap (option_and_then (λ b. after b words)) (plain_any word (state files budget save strip Any) plain) ∙ rw (fewer files more all word c.all_files c.few) r.reached;
     }
 read_to_end (a_budget digits {words = words} {files = more} {budgets = budgets} {saves = saves} {strips = strips} n) files budget save strip all budget' save' strip' c =
-    let r = budget_read words more budgets saves strips files budget save strip all budget' save' strip' digits Budget (λ set d. read_to_end n files set save strip all budget' save' strip' d) c in
-    record { next = r.0; reached = r.1 }
+    reached_by (budget_read words more budgets saves strips files budget save strip all budget' save' strip' digits Budget (λ set d. read_to_end n files set save strip all budget' save' strip' d) c)
 read_to_end (joined_budget digits {words = words} {files = more} {budgets = budgets} {saves = saves} {strips = strips} n) files budget save strip all budget' save' strip' c =
-    let r = budget_read words more budgets saves strips files budget save strip all budget' save' strip' digits Any (λ set d. read_to_end n files set save strip all budget' save' strip' d) c in
-    record { next = r.0; reached = r.1 }
+    reached_by (budget_read words more budgets saves strips files budget save strip all budget' save' strip' digits Any (λ set d. read_to_end n files set save strip all budget' save' strip' d) c)
 read_to_end (a_save image {words = words} {files = more} {budgets = budgets} {saves = saves} {strips = strips} n) files budget save strip all budget' save' strip' c =
-    let r = save_read words more budgets saves strips files budget save strip all budget' save' strip' image Save (λ set d. read_to_end n files budget set strip all budget' save' strip' d) c in
-    record { next = r.0; reached = r.1 }
+    reached_by (save_read words more budgets saves strips files budget save strip all budget' save' strip' image Save (λ set d. read_to_end n files budget set strip all budget' save' strip' d) c)
 read_to_end (joined_save image {words = words} {files = more} {budgets = budgets} {saves = saves} {strips = strips} n) files budget save strip all budget' save' strip' c =
-    let r = save_read words more budgets saves strips files budget save strip all budget' save' strip' image Any (λ set d. read_to_end n files budget set strip all budget' save' strip' d) c in
-    record { next = r.0; reached = r.1 }
+    reached_by (save_read words more budgets saves strips files budget save strip all budget' save' strip' image Any (λ set d. read_to_end n files budget set strip all budget' save' strip' d) c)
 read_to_end (a_strip {words = words} {files = more} {budgets = budgets} {saves = saves} {strips = strips} n) files budget save strip all budget' save' strip' c =
     strip_read words more budgets saves strips files budget save strip all budget' save' strip' (λ set d. read_to_end n files budget save set all budget' save' strip' d) c
