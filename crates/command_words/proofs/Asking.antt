@@ -1,13 +1,13 @@
 -- Which command words ask for.
 use Rattle.std.proofs.Common.{◌≡◌, ℕ, zero, length, true, false, Bool, List, [], ◌∷◌, Option, Some, None, cond, refl, sym, ◌∙◌, ap, subst, arith, codes, ◌&&◌}
-use Rattle.std.specs.Prelude.{◌<◌, nat_le, nat_lt, option_and_then, option_map, unwrap_or, IfSome}
+use Rattle.std.specs.Prelude.{◌<◌, not, nat_le, nat_lt, option_and_then, option_map, unwrap_or, IfSome}
 use Rattle.std.specs.Str.{bytes_eq}
 use Rattle.std.proofs.lemmas.Bool.{leb-true, le-leb}
 use Rattle.std.proofs.lemmas.Slice.Eq.{bytes_eq-Decides}
 use Rattle.command_words.specs.declared.arguments.Next.{Next}
 use Rattle.command_words.specs.declared.arguments.Next.TheVariants.{Any}
 use Rattle.command_words.specs.Words.{Command, run, resume, check, compile, work, Names, BudgetOf, default_budget, named_budget, SaveOf, unsaved, saved, StripOf, kept, stripped, IsShortName, IsCommand, runs, resumes, checks, compiles, works, IsNumber, AreShort, AreWrong, IsAsked}
-use Rattle.command_words.specs.Reading.{Arguments, after, command_of, command_with, is_short, may_be_saved, no_arguments, number_in, count_in, up_to, to_feed, to_run, to_resume, to_check, to_compile, to_work}
+use Rattle.command_words.specs.Reading.{Arguments, after, checking, command_of, command_with, is_short, may_be_saved, no_arguments, number_in, count_in, unset, up_to, to_feed, to_run, to_resume, to_check, to_compile, to_work, working}
 use Rattle.command_words.proofs.Numbers.{number_is, is_number}
 use Rattle.command_words.proofs.Completing.{state, BudgetStep, budget_stays, budget_set, SaveStep, save_stays, save_set, StripStep, strip_stays, strip_set, read_to_end}
 use Rattle.command_words.proofs.Naming.{Named, named}
@@ -71,22 +71,6 @@ module _ (words budgets saves : List (List ℕ)) (strips : ℕ) (next : Next) (c
     feed_asked (file ∷ []) budget save false n b v s e = feed_short (is_short file) (may_be_saved save) file budget save refl refl n b v (no_strip s) e
     feed_asked (file ∷ other ∷ files) budget save false n b v s e = absurd (cc)
 
-  check_short : (t : Bool) (file : List ℕ) → is_short file ≡ t → Names words (file ∷ []) budgets saves strips → budgets ≡ [] → saves ≡ [] → strips ≡ zero → cond t (Some (check file)) None ≡ Some command → IsCommand (codes "check" ∷ words) command
-  check_short true file t n b v s e =
-      let is : check file ≡ command = cc in
-      subst (IsCommand (codes "check" ∷ words)) is
-      (checks words file (subst (λ vs. Names words (file ∷ []) [] vs zero) v (subst (λ bs. Names words (file ∷ []) bs saves zero) b (subst (Names words (file ∷ []) budgets saves) s n))) (short file t))
-  check_short false file t n b v s e = absurd (cc)
-
-  check_asked : (files : List (List ℕ)) (budget : Option ℕ) (save : Option (List ℕ)) (strip : Bool) → Names words files budgets saves strips → BudgetStep None budgets budget → SaveStep None saves save → StripStep false strips strip
-      → to_check (state files budget save strip next) ≡ Some command → IsCommand (codes "check" ∷ words) command
-  check_asked files budget save true n b v s e = absurd (cc)
-  check_asked files (Some budget) save false n b v s e = absurd (cc)
-  check_asked files None (Some save) false n b v s e = absurd (cc)
-  check_asked [] None None false n b v s e = absurd (cc)
-  check_asked (file ∷ []) None None false n b v s e = check_short (is_short file) file refl n (no_budget b) (no_save v) (no_strip s) e
-  check_asked (file ∷ other ∷ files) None None false n b v s e = absurd (cc)
-
   compile_short : (t u : Bool) (script chunk : List ℕ) (strip : Bool) → is_short script ≡ t → is_short chunk ≡ u → Names words (script ∷ chunk ∷ []) budgets saves strips → budgets ≡ [] → saves ≡ [] → StripStep false strips strip
       → cond (t && u) (Some (compile script chunk strip)) None ≡ Some command → IsCommand (codes "compile" ∷ words) command
   compile_short true true script chunk strip t u n b v s e =
@@ -105,27 +89,34 @@ module _ (words budgets saves : List (List ℕ)) (strips : ℕ) (next : Next) (c
   compile_asked (script ∷ chunk ∷ []) None None strip n b v s e = compile_short (is_short script) (is_short chunk) script chunk strip refl refl n (no_budget b) (no_save v) s e
   compile_asked (script ∷ chunk ∷ other ∷ files) None None strip n b v s e = absurd (cc)
 
-  work_within : (t : Bool) (digits : List ℕ) (number : ℕ) → nat_le number 10000 ≡ t → IsNumber digits number → Names words (digits ∷ []) budgets saves strips → budgets ≡ [] → saves ≡ [] → strips ≡ zero
-      → option_map work (cond t (Some number) None) ≡ Some command → IsCommand (codes "work" ∷ words) command
-  work_within true digits number t d n b v s e =
-      let is : work number ≡ command = cc in
-      subst (IsCommand (codes "work" ∷ words)) is
-      (works words digits number (subst (λ vs. Names words (digits ∷ []) [] vs zero) v (subst (λ bs. Names words (digits ∷ []) bs saves zero) b (subst (Names words (digits ∷ []) budgets saves) s n))) d (leb-true number 10000 t))
-  work_within false digits number t d n b v s e = absurd (cc)
+-- of `check` and `work`, which name one word and no option
+module _ (words budgets saves : List (List ℕ)) (strips : ℕ) (command : Command) (name : List ℕ) (asking : List (List ℕ) → Option Command)
+    (is_asked : (word : List ℕ) → Names words (word ∷ []) [] [] zero → asking (word ∷ []) ≡ Some command → IsCommand (name ∷ words) command)
+    (none : asking [] ≡ None) (many : (one other : List ℕ) (files : List (List ℕ)) → asking (one ∷ other ∷ files) ≡ None) where
+  lone_names : (word : List ℕ) → Names words (word ∷ []) budgets saves strips → budgets ≡ [] → saves ≡ [] → strips ≡ zero → Names words (word ∷ []) [] [] zero
+  lone_names word n b v s = subst (λ vs. Names words (word ∷ []) [] vs zero) v (subst (λ bs. Names words (word ∷ []) bs saves zero) b (subst (Names words (word ∷ []) budgets saves) s n))
 
-  work_number : (number : Option ℕ) (digits : List ℕ) → number_in digits ≡ number → Names words (digits ∷ []) budgets saves strips → budgets ≡ [] → saves ≡ [] → strips ≡ zero
-      → option_map work (up_to 10000 number) ≡ Some command → IsCommand (codes "work" ∷ words) command
-  work_number (Some number) digits is n b v s e = work_within (nat_le number 10000) digits number refl (is_number digits number is) n b v s e
-  work_number None digits is n b v s e = absurd (cc)
+  lone_asked : (files : List (List ℕ)) (budget : Option ℕ) (save : Option (List ℕ)) (strip : Bool) → Names words files budgets saves strips → BudgetStep None budgets budget → SaveStep None saves save → StripStep false strips strip
+      → cond (not strip && unset budget save) (asking files) None ≡ Some command → IsCommand (name ∷ words) command
+  lone_asked files budget save true n b v s e = absurd (cc)
+  lone_asked files (Some budget) save false n b v s e = absurd (cc)
+  lone_asked files None (Some save) false n b v s e = absurd (cc)
+  lone_asked [] None None false n b v s e = let bad : None ≡ Some command = sym none ∙ e in absurd (cc)
+  lone_asked (word ∷ []) None None false n b v s e = is_asked word (lone_names word n (no_budget b) (no_save v) (no_strip s)) e
+  lone_asked (word ∷ other ∷ files) None None false n b v s e = let bad : None ≡ Some command = sym (many word other files) ∙ e in absurd (cc)
 
-  work_asked : (files : List (List ℕ)) (budget : Option ℕ) (save : Option (List ℕ)) (strip : Bool) → Names words files budgets saves strips → BudgetStep None budgets budget → SaveStep None saves save → StripStep false strips strip
-      → to_work (state files budget save strip next) ≡ Some command → IsCommand (codes "work" ∷ words) command
-  work_asked files budget save true n b v s e = absurd (cc)
-  work_asked files (Some budget) save false n b v s e = absurd (cc)
-  work_asked files None (Some save) false n b v s e = absurd (cc)
-  work_asked [] None None false n b v s e = absurd (cc)
-  work_asked (digits ∷ []) None None false n b v s e = work_number (number_in digits) digits refl n (no_budget b) (no_save v) (no_strip s) e
-  work_asked (digits ∷ other ∷ files) None None false n b v s e = absurd (cc)
+module _ (words : List (List ℕ)) (command : Command) where
+  check_short : (t : Bool) (file : List ℕ) → is_short file ≡ t → Names words (file ∷ []) [] [] zero → cond t (Some (check file)) None ≡ Some command → IsCommand (codes "check" ∷ words) command
+  check_short true file t n e = let is : check file ≡ command = cc in subst (IsCommand (codes "check" ∷ words)) is (checks words file n (short file t))
+  check_short false file t n e = absurd (cc)
+
+  work_within : (t : Bool) (digits : List ℕ) (number : ℕ) → nat_le number 10000 ≡ t → IsNumber digits number → Names words (digits ∷ []) [] [] zero → option_map work (cond t (Some number) None) ≡ Some command → IsCommand (codes "work" ∷ words) command
+  work_within true digits number t d n e = let is : work number ≡ command = cc in subst (IsCommand (codes "work" ∷ words)) is (works words digits number n d (leb-true number 10000 t))
+  work_within false digits number t d n e = absurd (cc)
+
+  work_number : (number : Option ℕ) (digits : List ℕ) → number_in digits ≡ number → Names words (digits ∷ []) [] [] zero → option_map work (up_to 10000 number) ≡ Some command → IsCommand (codes "work" ∷ words) command
+  work_number (Some number) digits is n e = work_within (nat_le number 10000) digits number refl (is_number digits number is) n e
+  work_number None digits is n e = absurd (cc)
 
 module _ (words : List (List ℕ)) (command : Command) (end : Arguments) (n : Named [] None None false words end) where
   all_named : Names words end.files n.budgets n.saves n.strips
@@ -142,13 +133,17 @@ module _ (words : List (List ℕ)) (command : Command) (end : Arguments) (n : Na
       end.files end.budget end.save end.strip all_named n.comes.has_budget n.comes.has_save n.comes.has_strip e
 
   asked_check : to_check end ≡ Some command → IsCommand (codes "check" ∷ words) command
-  asked_check e = check_asked words n.budgets n.saves n.strips end.next command end.files end.budget end.save end.strip all_named n.comes.has_budget n.comes.has_save n.comes.has_strip e
+  asked_check e =
+      lone_asked words n.budgets n.saves n.strips command (codes "check") checking (λ file k found. check_short words command (is_short file) file refl k found) refl (λ one other files. refl)
+      end.files end.budget end.save end.strip all_named n.comes.has_budget n.comes.has_save n.comes.has_strip e
 
   asked_compile : to_compile end ≡ Some command → IsCommand (codes "compile" ∷ words) command
   asked_compile e = compile_asked words n.budgets n.saves n.strips end.next command end.files end.budget end.save end.strip all_named n.comes.has_budget n.comes.has_save n.comes.has_strip e
 
   asked_work : to_work end ≡ Some command → IsCommand (codes "work" ∷ words) command
-  asked_work e = work_asked words n.budgets n.saves n.strips end.next command end.files end.budget end.save end.strip all_named n.comes.has_budget n.comes.has_save n.comes.has_strip e
+  asked_work e =
+      lone_asked words n.budgets n.saves n.strips command (codes "work") working (λ digits k found. work_number words command (number_in digits) digits refl k found) refl (λ one other files. refl)
+      end.files end.budget end.save end.strip all_named n.comes.has_budget n.comes.has_save n.comes.has_strip e
 
 module _ (name : List ℕ) (words : List (List ℕ)) (command : Command) where
   named_so : (text : List ℕ) → bytes_eq name text ≡ true → IsCommand (text ∷ words) command → IsCommand (name ∷ words) command
@@ -191,23 +186,34 @@ saves_to : {saves : List (List ℕ)} {save : Option (List ℕ)} → SaveOf saves
 saves_to unsaved = record { step = save_stays; fits = refl }
 saves_to (saved image h k) = record { step = save_set; fits = rw (is_short' image h) (not_empty' image k) }
 
+-- the words of `run` and `resume` are read to their end
+record Fed (words : List (List ℕ)) (file : List ℕ) (n : ℕ) (save : Option (List ℕ)) : Type 0 where
+  pub budget : Option ℕ
+  pub next : Next
+  pub reached : after no_arguments words ≡ Some (state (file ∷ []) budget save false next)
+  pub is : unwrap_or budget 10000000 ≡ n
+  pub fits : may_be_saved save ≡ true
+
+fed : {words budgets saves : List (List ℕ)} {file : List ℕ} {n : ℕ} {save : Option (List ℕ)} → Names words (file ∷ []) budgets saves zero → BudgetOf budgets n → SaveOf saves save → Fed words file n save
+fed {file = file} {save = save} names b v =
+    let c = budgeted b in
+    let d = saves_to v in
+    let r = read_to_end names [] None None false (file ∷ []) c.budget save false (record { all_files = refl; few = omega arith; has_budget = c.step; has_save = d.step; has_strip = strip_stays }) in
+    record { budget = c.budget; next = r.next; reached = r.reached; is = c.is; fits = d.fits }
+
 strip_step : {strips : ℕ} {strip : Bool} → StripOf strips strip → StripStep false strips strip
 strip_step kept = strip_stays
 strip_step stripped = strip_set
 
 pub asks : {words : List (List ℕ)} {command : Command} → IsCommand words command → command_of words ≡ Some command
 asks (runs words budgets saves file n save names fits b v) =
-    let c = budgeted b in
-    let d = saves_to v in
-    let fits_too = d.fits in
-    let r = read_to_end names [] None None false (file ∷ []) c.budget save false (record { all_files = refl; few = omega arith; has_budget = c.step; has_save = d.step; has_strip = strip_stays }) in
-    ap (option_and_then (command_with (codes "run"))) r.reached ∙ rw (is_short' file fits, fits_too) (ap (λ k. Some (run file k save)) c.is)
+    let f = fed names b v in
+    let fits_too = f.fits in
+    ap (option_and_then (command_with (codes "run"))) f.reached ∙ rw (is_short' file fits, fits_too) (ap (λ k. Some (run file k save)) f.is)
 asks (resumes words budgets saves image n save names fits b v) =
-    let c = budgeted b in
-    let d = saves_to v in
-    let fits_too = d.fits in
-    let r = read_to_end names [] None None false (image ∷ []) c.budget save false (record { all_files = refl; few = omega arith; has_budget = c.step; has_save = d.step; has_strip = strip_stays }) in
-    ap (option_and_then (command_with (codes "resume"))) r.reached ∙ rw (is_short' image fits, fits_too) (ap (λ k. Some (resume image k save)) c.is)
+    let f = fed names b v in
+    let fits_too = f.fits in
+    ap (option_and_then (command_with (codes "resume"))) f.reached ∙ rw (is_short' image fits, fits_too) (ap (λ k. Some (resume image k save)) f.is)
 asks (checks words file names fits) =
     let r = read_to_end names [] None None false (file ∷ []) None None false (record { all_files = refl; few = omega arith; has_budget = budget_stays; has_save = save_stays; has_strip = strip_stays }) in
     ap (option_and_then (command_with (codes "check"))) r.reached ∙ rw (is_short' file fits) refl
