@@ -61,18 +61,7 @@ module _ (W : Memory) (fuel : ℕ) where
       ap (λ p. by_parts p ts fs cs os) a ∙ ap (λ t. by_parts qs t fs cs os) b ∙ ap (λ f. by_parts qs us f cs os) c ∙ ap (λ k. by_parts qs us gs k os) d ∙ ap (by_parts qs us gs ds) e
 
 pub as_before_same : (old new : Memory) → new ≡ old → InOrder old → IsAsBefore old new
-as_before_same old new e order = subst (IsAsBefore old) (sym e) (record {
-  strings = refl;
-  trees = refl;
-  list = refl;
-  tables = refl;
-  funcs = refl;
-  cells = refl;
-  coros = refl;
-  rest = refl;
-  plain = λ fuel. refl;
-  order = order;
-})
+as_before_same old new e order = subst (IsAsBefore old) (sym e) (record { strings = refl; trees = refl; list = refl; tables = refl; funcs = refl; cells = refl; coros = refl; rest = refl; plain = λ fuel. refl; order = order })
 
 module _ (old now new : Memory) (c : CanComeBack old now) (r : Releases now new (mark_of old)) (order : InOrder old) where
   strings_back : new.strings ≡ old.strings

@@ -511,14 +511,7 @@ module _ (base : Pairs) (W V : World) (T : Target) (name : Value → Option Item
   loaded_alike : LoadedAlike base W V T name roots q
   loaded_alike = record {
     more = more;
-    objects = record {
-      one_to_one = one_to_one;
-      tables = tables_same;
-      functions = functions_same;
-      coroutines = coroutines_same;
-      cells = cells_same;
-      one_each = (can.base_same.one_each.0, one_open);
-    };
+    objects = record { one_to_one = one_to_one; tables = tables_same; functions = functions_same; coroutines = coroutines_same; cells = cells_same; one_each = (can.base_same.one_each.0, one_open) };
     roots_same = roots_copied;
   }
 

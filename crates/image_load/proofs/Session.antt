@@ -24,16 +24,7 @@ module _ (q : Pairs) (W Y : World) (objects : SameObjects q (objects_of W) (obje
           → Agree q W (record Y { main = Some co; globals = g; heap = record Y.heap { string_metatable = t }; special_key = W.special_key; max_depth = W.max_depth })
       agreed co g m n t h = record {
         objects = objects;
-        roots = record {
-          globals = n;
-          string_metatable = h;
-          prelude_environment = env;
-          prelude_functions = functions;
-          special_key = refl;
-          max_depth = refl;
-          main = rw is m;
-          chain = rw (idle, other) tt;
-        };
+        roots = record { globals = n; string_metatable = h; prelude_environment = env; prelude_functions = functions; special_key = refl; max_depth = refl; main = rw is m; chain = rw (idle, other) tt };
         moving = rw idle (λ r. absurd r);
       }
 
