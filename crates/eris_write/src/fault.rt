@@ -1,5 +1,6 @@
 // Why no image was written.
 ghost use Rattle.std.specs.Prelude.{◌≡◌};
+ghost use Rattle.eris_write.specs.declared.fault.PersistFault.TheVariants.{Memory};
 ghost use Rattle.eris_write.specs.Refusals.{kind_of};
 
 use std::alloc::AllocError;
@@ -19,19 +20,6 @@ pub enum Refusal {
     EqualKeys,
 }
 
-impl Refusal {
-    /// The kind of the refusal as a number.
-    pub fn kind(self) -> u8
-        ensures { result ≡ kind_of self }
-    {
-        match self {
-            Refusal::LibraryFunction => 1,
-            Refusal::ActiveCoroutine => 2,
-            Refusal::EqualKeys => 5,
-        }
-    }
-}
-
 /// Why no image was written.
 #[derive(Debug, Clone, Copy, PartialEq, Eq, Error)]
 pub enum PersistFault {
@@ -46,9 +34,20 @@ pub enum PersistFault {
     Memory,
 }
 
-impl From<AllocError> for PersistFault {
-    ghost use Rattle.eris_write.specs.declared.fault.PersistFault.TheVariants.{Memory};
+impl Refusal {
+    /// The kind of the refusal as a number.
+    pub fn kind(self) -> u8
+        ensures { result ≡ kind_of self }
+    {
+        match self {
+            Refusal::LibraryFunction => 1,
+            Refusal::ActiveCoroutine => 2,
+            Refusal::EqualKeys => 5,
+        }
+    }
+}
 
+impl From<AllocError> for PersistFault {
     ghost from_gives = { λ _ fault. fault ≡ Memory };
 
     fn from(_: AllocError) -> PersistFault {

@@ -1,5 +1,6 @@
 // Why a session is not saved.
 ghost use Rattle.std.specs.Prelude.{◌≡◌};
+ghost use Rattle.lua_saving.specs.declared.fault.SaveFault.TheVariants.{Memory};
 
 use std::alloc::AllocError;
 use thiserror::Error;
@@ -19,8 +20,6 @@ pub enum SaveFault {
 }
 
 impl From<AllocError> for SaveFault {
-    ghost use Rattle.lua_saving.specs.declared.fault.SaveFault.TheVariants.{Memory};
-
     ghost from_gives = { λ _ made. made ≡ Memory };
 
     fn from(_: AllocError) -> SaveFault {

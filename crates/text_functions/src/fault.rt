@@ -1,5 +1,6 @@
 // Why a text is not made.
 ghost use Rattle.std.specs.Prelude.{◌≡◌};
+ghost use Rattle.text_functions.specs.declared.fault.StringFault.TheVariants.{Memory};
 
 use std::alloc::AllocError;
 use thiserror::Error;
@@ -16,8 +17,6 @@ pub enum StringFault {
 }
 
 impl From<AllocError> for StringFault {
-    ghost use Rattle.text_functions.specs.declared.fault.StringFault.TheVariants.{Memory};
-
     ghost from_gives = { λ _ made. made ≡ Memory };
 
     fn from(_: AllocError) -> StringFault {
