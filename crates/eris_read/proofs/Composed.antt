@@ -33,7 +33,8 @@ use Rattle.lua_heap.specs.Reading.{value}
 use Rattle.move_laws.specs.Memory.{InOrder}
 use Rattle.eris_read.specs.Known.{IsNamed}
 use Rattle.eris_read.specs.Loaded.{LoadsBy, LoadsImage}
-use Rattle.eris_read.specs.Unpersist.{CanRead, target}
+use Rattle.image_saved.specs.Permanents.{target}
+use Rattle.eris_read.specs.Unpersist.{CanRead}
 use Rattle.image_placed.proofs.ObjectsPlaced.{length_mapped}
 
 -- counts

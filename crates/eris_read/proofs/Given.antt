@@ -24,7 +24,7 @@ use Rattle.image_sound.proofs.Given.{read_images_right, numbers_name_records}
 use Rattle.image_sound.specs.SoundImage.{Host, IsSoundImage, IsTarget}
 use Rattle.image_sound.proofs.Deciding.{accepted_is_sound}
 use Rattle.image_sound.proofs.Loads.{loaded_sound}
-use Rattle.image_saved.specs.Permanents.{same_key, object_named}
+use Rattle.image_saved.specs.Permanents.{same_key, object_named, target}
 use Rattle.image_records.specs.Names.{sort_of_object, perms_of, code_of as code_kept}
 use Rattle.image_records.specs.declared.known.Known.{Known}
 use Rattle.image_records.specs.declared.record.Image.{Image as KeptImage}
@@ -36,7 +36,7 @@ use Rattle.image_sound.proofs.Fitted.{fitted}
 use Rattle.lua_heap.specs.declared.world.World.{World as Memory}
 use Rattle.lua_heap.specs.Plain.{plain as shown}
 use Rattle.eris_read.specs.Known.{IsKnown}
-use Rattle.eris_read.specs.Unpersist.{target, code_of, code_named, reads_for, AreThere, Reads}
+use Rattle.eris_read.specs.Unpersist.{code_of, code_named, reads_for, AreThere, Reads}
 
 -- the reader of what is known is that of the permanents
 

@@ -15,7 +15,8 @@ use Rattle.lua_heap.specs.Plain.{plain}
 use Rattle.lua_heap.specs.Reading.{value}
 use Rattle.move_laws.specs.Memory.{InOrder}
 use Rattle.eris_read.specs.Loaded.{CanComeBack, LoadsImage}
-use Rattle.eris_read.specs.Unpersist.{CanRead, Loads, Reads, IsAsBefore, target}
+use Rattle.image_saved.specs.Permanents.{target}
+use Rattle.eris_read.specs.Unpersist.{CanRead, Loads, Reads, IsAsBefore}
 use Rattle.eris_read.proofs.CameBack.{is_mark, as_before}
 use Rattle.eris_read.proofs.Given.{solid_loaded, roots_loaded}
 

@@ -18,7 +18,8 @@ use Rattle.image_records.specs.declared.known.Known.{Known}
 use Rattle.image_made.specs.declared.place.Place.{Place}
 use Rattle.image_made.specs.Places.{ArePlaces, Starts}
 use Rattle.eris_read.specs.Known.{IsNamed}
-use Rattle.eris_read.specs.Unpersist.{CanRead, target}
+use Rattle.image_saved.specs.Permanents.{target}
+use Rattle.eris_read.specs.Unpersist.{CanRead}
 
 -- what a world is brought back from by its mark
 pub record CanComeBack (old new : Memory) : Type 0 where

@@ -1,6 +1,6 @@
 -- What reading an image into a world in memory does (Eris's manual, `eris.unpersist`): all that was written is made anew, and permanent values are put in by
 -- their keys; where it is refused, the world is as before.
-use Rattle.std.specs.Prelude.{ℕ, ◌≡◌, ◌≤◌, ◌^◌, List, [], map, Option, None, Result, Ok, Err, length, slice_get}
+use Rattle.std.specs.Prelude.{ℕ, ◌≡◌, ◌≤◌, ◌^◌, List, [], map, Option, None, Result, Ok, Err, slice_get}
 use Rattle.std.specs.Option.{option_map}
 use Rattle.code_core.specs.Prototype.{Prototype}
 use Rattle.int_core.specs.Value.{a_function, Value, object}
@@ -12,27 +12,16 @@ use Rattle.lua_heap.specs.Reading.{value}
 use Rattle.lua_heap.specs.Plain.{plain}
 use Rattle.move_laws.specs.Memory.{InOrder}
 use Rattle.image_core.specs.Image.{PermKey, Perm, Image}
-use Rattle.image_core.specs.Loading.{Target, value_made, loaded}
+use Rattle.image_core.specs.Loading.{value_made, loaded}
 use Rattle.image_bytes.specs.Format.{Got, read, refused}
 use Rattle.image_sound.specs.Fitting.{reads}
-use Rattle.image_saved.specs.Permanents.{object_named}
+use Rattle.image_saved.specs.Permanents.{object_named, target}
 use Rattle.image_records.specs.declared.record.Image.{Image as KeptImage}
 use Rattle.image_reading.specs.declared.fault.ReadFault.{ReadFault}
 use Rattle.image_reading.specs.declared.fault.ReadFault.TheVariants.{Refused, Memory as NoMemory}
 use Rattle.image_reading.specs.Reader.{reader}
 use Rattle.image_records.specs.Views.{image_read}
 use Rattle.image_reading.specs.Faults.{fault}
-
--- a world as an image is loaded into it
-abbrev pub target : World → List Perm → Target
-target V perms = record {
-  tables = length V.heap.tables;
-  functions = length V.functions;
-  coroutines = length V.coroutines;
-  cells = length V.cells;
-  named = λ kind key. object_named perms key;
-  environment = V.prelude_environment;
-}
 
 -- the code of a permanent that is a Lua function
 abbrev pub code_of : World → Value → Option Prototype

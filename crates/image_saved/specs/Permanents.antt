@@ -1,6 +1,7 @@
 -- Permanents on both sides of an image: the keys by which objects are written, and what the keys stand for where it is read (Eris's manual, permanent values).
-use Rattle.std.specs.Prelude.{ℕ, ◌≡◌, Bool, false, cond, List, [], ◌∷◌, Some, slice_get, bytes_eq}
+use Rattle.std.specs.Prelude.{ℕ, ◌≡◌, Bool, false, cond, List, [], ◌∷◌, length, Some, slice_get, bytes_eq}
 use Rattle.int_core.specs.Value.{nil, Kind, a_table, Value, known, same_integer}
+use Rattle.machine_core.specs.World.{World}
 use Rattle.machine_alike.specs.Agree.{Pairs, SameNumber, SameValue}
 use Rattle.image_core.specs.Image.{PermKey, number_key, text_key, Perm, Item, Record}
 use Rattle.image_core.specs.Records.{named}
@@ -15,6 +16,17 @@ same_key _ _ = false
 abbrev pub object_named : List Perm → PermKey → Value
 object_named [] key = known nil
 object_named (p ∷ ps) key = cond (same_key p.key key) p.object (object_named ps key)
+
+-- a world as an image is loaded into it, with these permanents
+abbrev pub target : World → List Perm → Target
+target V perms = record {
+  tables = length V.heap.tables;
+  functions = length V.functions;
+  coroutines = length V.coroutines;
+  cells = length V.cells;
+  named = λ kind key. object_named perms key;
+  environment = V.prelude_environment;
+}
 
 -- the permanents of the writer and those of the reader have the same keys, no key stands twice among the writer's, and the objects of one key are paired
 pub record AreInverse (pairs : Pairs) (forth back : List Perm) : Type 0 where

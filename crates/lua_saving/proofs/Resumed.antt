@@ -27,7 +27,8 @@ use Rattle.image_reading.specs.Reader.{reader}
 use Rattle.image_reading.specs.declared.fault.ReadFault.{ReadFault}
 use Rattle.image_reading.specs.declared.fault.ReadFault.TheVariants.{Refused, Memory as NoMemory}
 use Rattle.image_reading.specs.declared.fault.Refusal.TheVariants.{OutOfPlace}
-use Rattle.eris_read.specs.Unpersist.{target, reads_for, CanRead, AreThere as PermanentsAreThere, Loads, IsCause}
+use Rattle.image_saved.specs.Permanents.{target}
+use Rattle.eris_read.specs.Unpersist.{reads_for, CanRead, AreThere as PermanentsAreThere, Loads, IsCause}
 use Rattle.session_images.specs.Permanents.{by_keys, primitive_value, function_value, base_permanents}
 use Rattle.session_images.specs.Saved.{session_of}
 use Rattle.session_images.specs.Stored.{root_count}

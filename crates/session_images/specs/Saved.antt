@@ -1,5 +1,5 @@
 -- The image of a session, and the world in which it goes on.
-use Rattle.std.specs.Prelude.{ℕ, ◌≡◌, false, cond, nat_eq, nat_lt, List, length, Option, Some, None, slice_get}
+use Rattle.std.specs.Prelude.{ℕ, ◌≡◌, false, cond, nat_eq, nat_lt, List, Option, Some, None, slice_get}
 use Rattle.int_core.specs.Value.{a_table, a_function, a_coroutine, Value}
 use Rattle.code_core.specs.Prototype.{Prototype}
 use Rattle.library_rows.specs.Library.{Entry}
@@ -12,7 +12,7 @@ use Rattle.image_core.specs.Image.{Item, Image}
 use Rattle.image_core.specs.Records.{named, visited, parts_in_order, image_of}
 use Rattle.image_core.specs.Loading.{Target}
 use Rattle.image_load.specs.Session.{session_roots, session_loaded}
-use Rattle.image_saved.specs.Permanents.{object_named}
+use Rattle.image_saved.specs.Permanents.{target}
 use Rattle.session_images.specs.Permanents.{base_permanents}
 use Rattle.session_images.specs.Prelude.{environment_cell}
 
@@ -25,14 +25,7 @@ session_image W = image_of W (session_roots W) base_permanents
 
 -- a world without a script is what a session is loaded into
 abbrev pub session_target : World → Target
-session_target V = record {
-  tables = length V.heap.tables;
-  functions = length V.functions;
-  coroutines = length V.coroutines;
-  cells = length V.cells;
-  named = λ kind key. object_named base_permanents key;
-  environment = V.prelude_environment;
-}
+session_target V = target V base_permanents
 
 -- the session of an image in a new world of the libraries; none where its roots are no session's
 abbrev pub session_of : (prelude : List (Entry Prototype)) → Image → Option World
