@@ -16,6 +16,9 @@ pub enum StringFault {
     Memory,
 }
 
+/// What is made within the limit on strings, or why it is not.
+pub type Bounded<T> = Result<T, StringFault>;
+
 impl From<AllocError> for StringFault {
     ghost from_gives = { λ _ made. made ≡ Memory };
 

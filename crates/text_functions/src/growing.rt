@@ -1,7 +1,7 @@
 // A text that grows, within the limit on strings.
 ghost use Rattle.std.specs.Prelude.{◌≡◌};
 
-use crate::fault::StringFault;
+use crate::fault::{Bounded, StringFault};
 use std::alloc::Global;
 use std::marker::Model;
 
@@ -43,7 +43,7 @@ impl Builder {
     /// # Errors
     ///
     /// `TooLarge` where there is no room for all of it, else `Memory`; then the text stays as it was.
-    pub fn push(&mut self, piece: &[u8]) -> Result<(), StringFault>
+    pub fn push(&mut self, piece: &[u8]) -> Bounded<()>
         ensures joined { OnOk result (self.new ≡ self.old ++ piece.now) }
         ensures fits { OnOk result (length self.old + length piece.now ≤ greatest_string) }
         ensures refused { OnErr result (IsFaultOf (length self.old + length piece.now) result) }

@@ -3,7 +3,7 @@ ghost use Rattle.std.specs.Prelude.{◌≡◌, map};
 ghost use Rattle.library_rows.specs.Base.{joined};
 ghost use Rattle.text_functions.specs.Made.{IsMade, text_shape};
 
-use crate::fault::StringFault;
+use crate::fault::Bounded;
 use crate::growing::Builder;
 use std::alloc::Global;
 
@@ -12,7 +12,7 @@ use std::alloc::Global;
 /// # Errors
 ///
 /// `TooLarge` where they have more than 16,777,216 bytes.
-pub fn join(alloc: Global, pieces: &[&[u8]]) -> Result<Vec<u8>, StringFault>
+pub fn join(alloc: Global, pieces: &[&[u8]]) -> Bounded<Vec<u8>>
     ensures { IsMade result (joined (map (λ piece. text_shape piece.now) pieces.now)) }
 {
     let mut text = Builder::new(alloc);

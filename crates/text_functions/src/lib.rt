@@ -10,7 +10,7 @@ mod places;
 mod repeat;
 
 pub use bytes::{byte_of, lowered, reversed, uppered};
-pub use fault::StringFault;
+pub use fault::{Bounded, StringFault};
 pub use growing::{Builder, MAX_TEXT};
 pub use joining::join;
 pub use places::{end_place, part, start_place};

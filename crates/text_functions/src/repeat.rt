@@ -5,7 +5,7 @@ ghost use Rattle.int_core.specs.Value.{greatest_string};
 ghost use Rattle.library_rows.specs.Strings.{copies};
 ghost use Rattle.text_functions.specs.Made.{IsMade};
 
-use crate::fault::StringFault;
+use crate::fault::{Bounded, StringFault};
 use crate::growing::MAX_TEXT;
 use std::alloc::{AllocError, Global};
 
@@ -14,12 +14,7 @@ use std::alloc::{AllocError, Global};
 /// # Errors
 ///
 /// `TooLarge` where they would have more than 16,777,216 bytes, which is looked at before memory is taken.
-pub fn repeated(
-    alloc: Global,
-    text: &[u8],
-    between: &[u8],
-    count: i64,
-) -> Result<Vec<u8>, StringFault>
+pub fn repeated(alloc: Global, text: &[u8], between: &[u8], count: i64) -> Bounded<Vec<u8>>
     ensures { IsMade result (copies text.now between.now count) }
 {
     if count <= 0 {

@@ -3,14 +3,14 @@ ghost use Rattle.std.specs.Prelude.{◌≡◌, ◌++◌, ◌+◌, ◌<◌, ◌�
 ghost use Rattle.library_rows.specs.Codepoints.{encode};
 ghost use Rattle.text_functions.specs.Made.{IsFaultOf};
 
-use text_functions::{Builder, StringFault};
+use text_functions::{Bounded, Builder};
 
 /// Puts the bytes of a number at the end of a text: one to six.
 ///
 /// # Errors
 ///
 /// `TooLarge` where the text has no room for them, else `Memory`; then the text stays as it was.
-pub fn push_code(text: &mut Builder, code: u32) -> Result<(), StringFault>
+pub fn push_code(text: &mut Builder, code: u32) -> Bounded<()>
     requires { code < 2147483648 }
     ensures joined { OnOk result (text.new ≡ text.old ++ encode code) }
     ensures refused { OnErr result (IsFaultOf (length text.old + length (encode code)) result) }
@@ -29,7 +29,7 @@ pub fn push_code(text: &mut Builder, code: u32) -> Result<(), StringFault>
 }
 
 /// A number of at least four bytes.
-fn push_long(text: &mut Builder, code: u32) -> Result<(), StringFault>
+fn push_long(text: &mut Builder, code: u32) -> Bounded<()>
     requires small { code < 2147483648 }
     requires long { 65536 ≤ code }
     ensures joined { OnOk result (text.new ≡ text.old ++ encode code) }
