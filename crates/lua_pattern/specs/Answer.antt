@@ -5,18 +5,17 @@ use Rattle.lua_pattern.specs.declared.answer.Match.{Match}
 use Rattle.lua_pattern.specs.declared.answer.PatternFault.{PatternFault}
 use Rattle.lua_pattern.specs.declared.answer.PatternFault.TheVariants.{Malformed, TooComplex, Memory}
 use Rattle.lua_pattern.specs.declared.item.Item.{Item}
-use Rattle.lua_pattern.specs.declared.item.Item.TheVariants.{Plain, Repeated, Open, Close, Place}
+use Rattle.lua_pattern.specs.declared.item.Item.TheVariants.{Repeated, Open, Place}
 use Rattle.lua_pattern.specs.Ends.{ends}
 use Rattle.lua_pattern.specs.Reading.{items_of}
 use Rattle.lua_pattern.specs.Ways.{Found}
 
 -- captures and quantifiers count towards the limit of 200
 abbrev pub is_counted : Item → Bool
-is_counted (Plain plain) = false
 is_counted (Repeated class repeat) = true
 is_counted Open = true
-is_counted (Close number) = false
 is_counted Place = true
+is_counted _ = false
 
 -- the first of all the matches of some items at a place
 abbrev pub first_found : List ℕ → List Item → ℕ → Option Found

@@ -14,11 +14,10 @@ use Rattle.lua_pattern.specs.Ways.{is_class_at}
 
 -- a capture begins or ends, which takes no byte
 abbrev pub is_capture : Item → Bool
-is_capture (Plain plain) = false
-is_capture (Repeated class repeat) = false
 is_capture Open = true
 is_capture (Close number) = true
 is_capture Place = true
+is_capture _ = false
 
 -- the class of the byte that an item takes in any case
 
