@@ -49,8 +49,8 @@ fn begin_function(world: &mut World, co: CoroId, function: FuncId) -> Result<End
     requires running { HasStack world.old }
     requires first { FirstIs world.old (object a_coroutine co.0) }
     requires fresh { slice_get world.old.coros.objects co.0 ≡ Some (Fresh (Func function)) }
-    requires few { length world.old.chain.items ≤ greatest_resumes }
     requires function { HasFunction world.old function.0 }
+    requires few { length world.old.chain.items ≤ greatest_resumes }
     ensures leads { IfOk result (λ ending. Leads resume_row [] world.old world.new (ending_of ending)) }
     ensures order { InOrder world.new }
     ensures err { OnErr result (ReadsSame world.old world.new) }
