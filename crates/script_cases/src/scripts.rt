@@ -42,13 +42,7 @@ fn run_case(rt: &impl Abort, alloc: Global, case: &Case) -> Result<(), Fail> {
     let words = words(alloc, case.options)?;
     let mut last = None;
     let status = luaris(
-        alloc,
-        words.as_slice(),
-        &mut files,
-        &mut input,
-        &mut out,
-        &mut err,
-        &mut last,
+        alloc, &words, &mut files, &mut input, &mut out, &mut err, &mut last,
     );
     assert_eq!(rt; status, case.status);
     assert!(rt; out.written() == case.out.as_bytes());
