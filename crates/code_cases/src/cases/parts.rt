@@ -9,8 +9,9 @@ use code_parts::{
 };
 use int_core::{Bytes, write_integer};
 use std::alloc::{AllocError, Global};
+use std::process::Abort;
 use std::test::Fail;
-use tree_core::Body;
+use tree_core::{Block, Body};
 
 // Sources and the constants of their main functions, with a blank behind each.
 static CONSTANTS: [(&[u8], &[u8]); 9] = [
@@ -50,6 +51,15 @@ static ROOMS: [(&[u32], u8, u8); 7] = [
     (&[0x0001_0246], 1, 1),
     (&[0x7f], 2, 2),
 ];
+
+// The first function that is made in a block.
+fn first_function(alloc: Global, block: &Block) -> Result<&Body, Fail> {
+    let bodies = inner_bodies(alloc, block)?;
+    match bodies.first() {
+        Some(body) => Ok(*body),
+        None => Err(Fail::from("no function")),
+    }
+}
 
 fn written(alloc: Global, constants: &[Const]) -> Result<Vec<u8>, AllocError> {
     let mut text = Vec::new(alloc);
@@ -111,6 +121,12 @@ fn frames_have_room_for_all_registers(rt: HostRuntime) -> Result<(), Fail> {
     Ok(())
 }
 
+// Looks at the lines that are given in full, of a function that begins on line 1.
+fn check_far(rt: &impl Abort, alloc: Global, steps: &[Step], far: &[AbsLine]) -> Result<(), Fail> {
+    assert_eq!(rt; far_lines(alloc, 1, steps)?.as_slice(), far);
+    Ok(())
+}
+
 // distances of 127 and -127 are kept, and 197 and -128 are too far
 #[test]
 fn lines_are_kept_by_their_distances(rt: HostRuntime) -> Result<(), Fail> {
@@ -121,8 +137,7 @@ fn lines_are_kept_by_their_distances(rt: HostRuntime) -> Result<(), Fail> {
         [0, 2, -128, -1, -127, 127, -128].as_slice()
     );
     let far = [AbsLine { pc: 2, line: 200 }, AbsLine { pc: 6, line: 71 }];
-    assert_eq!(rt; far_lines(alloc, 1, &steps)?.as_slice(), far.as_slice());
-    Ok(())
+    check_far(&rt, alloc, &steps, &far)
 }
 
 // the 128th and the 256th of 300 instructions on line 1
@@ -131,8 +146,7 @@ fn each_128th_line_is_kept_in_full(rt: HostRuntime) -> Result<(), Fail> {
     let alloc = rt.alloc();
     let steps = steps(alloc, &[0; 300], &[1; 300])?;
     let far = [AbsLine { pc: 127, line: 1 }, AbsLine { pc: 255, line: 1 }];
-    assert_eq!(rt; far_lines(alloc, 1, &steps)?.as_slice(), far.as_slice());
-    Ok(())
+    check_far(&rt, alloc, &steps, &far)
 }
 
 // a local of the function around, and an upvalue of it
@@ -140,10 +154,7 @@ fn each_128th_line_is_kept_in_full(rt: HostRuntime) -> Result<(), Fail> {
 fn upvalues_are_found_around(rt: HostRuntime) -> Result<(), Fail> {
     let alloc = rt.alloc();
     let Body { block, .. } = main_of(alloc, b"local a return function() return a, b end")?;
-    let bodies = inner_bodies(alloc, &block)?;
-    let Some(inner) = bodies.first() else {
-        return Err(Fail::from("no function"));
-    };
+    let inner = first_function(alloc, &block)?;
     let expected = [
         UpDesc {
             in_stack: true,
@@ -217,10 +228,7 @@ fn functions_with_more_arguments_begin_by_varargprep(rt: HostRuntime) -> Result<
 fn scopes_end_from_the_inside(rt: HostRuntime) -> Result<(), Fail> {
     let alloc = rt.alloc();
     let Body { block, .. } = main_of(alloc, b"return function(x, y) end")?;
-    let bodies = inner_bodies(alloc, &block)?;
-    let Some(inner) = bodies.first() else {
-        return Err(Fail::from("no function"));
-    };
+    let inner = first_function(alloc, &block)?;
     let mut variables = Variables::new(alloc);
     variables.declare_names(alloc, &inner.params, 0)?;
     let first = variables.count();
@@ -250,10 +258,7 @@ fn prototypes_have_their_parts(rt: HostRuntime) -> Result<(), Fail> {
 return function(x, y)
 z = y end",
     )?;
-    let bodies = inner_bodies(alloc, &block)?;
-    let Some(inner) = bodies.first() else {
-        return Err(Fail::from("no function"));
-    };
+    let inner = first_function(alloc, &block)?;
     let steps = steps(alloc, &[0x0001_0100, 0x0002_0146], &[3, 3])?;
     let source = Some(Bytes::of(b"s".to_vec(alloc)?));
     let made = prototype(
