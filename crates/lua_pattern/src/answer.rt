@@ -33,18 +33,18 @@ pub enum PatternFault {
     Memory,
 }
 
-impl From<AllocError> for PatternFault {
-    ghost from_gives = { λ _ fault. fault ≡ Memory };
-
-    fn from(_: AllocError) -> PatternFault {
-        PatternFault::Memory
-    }
-}
-
 impl<T: Drop> From<AllocFailed<T>> for PatternFault {
     ghost from_gives = { λ _ fault. fault ≡ Memory };
 
     fn from(_: AllocFailed<T>) -> PatternFault {
+        PatternFault::Memory
+    }
+}
+
+impl From<AllocError> for PatternFault {
+    ghost from_gives = { λ _ fault. fault ≡ Memory };
+
+    fn from(_: AllocError) -> PatternFault {
         PatternFault::Memory
     }
 }
