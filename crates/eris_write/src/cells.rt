@@ -43,14 +43,11 @@ impl Writer<'_> {
                 coro,
                 frame,
                 register,
-            } => {
-                let place = OpenPlace {
-                    coro,
-                    frame,
-                    register,
-                };
-                self.if_inside(place)
-            }
+            } => self.if_inside(OpenPlace {
+                coro,
+                frame,
+                register,
+            }),
         }
     }
 
