@@ -2,61 +2,53 @@
 use crate::calling::{Streams, check_call, files_with};
 use std::test::Fail;
 
-/// Words that are no command, and files that are not there.
-static CALLS: [(&str, u8, &str); 30] = [
-    ("", 2, "luaris: wrong words\n"),
-    ("run", 2, "luaris: wrong words\n"),
-    ("walk s.lua", 2, "luaris: wrong words\n"),
-    ("run -s.lua", 2, "luaris: wrong words\n"),
-    ("run s.lua more", 2, "luaris: wrong words\n"),
-    ("run s.lua --strip", 2, "luaris: wrong words\n"),
-    ("run s.lua --budget", 2, "luaris: wrong words\n"),
-    ("run s.lua --budget 0", 2, "luaris: wrong words\n"),
-    ("run s.lua --budget=", 2, "luaris: wrong words\n"),
-    ("run s.lua --budget +5", 2, "luaris: wrong words\n"),
-    ("run s.lua --budget 0x5", 2, "luaris: wrong words\n"),
-    (
-        "run s.lua --budget 1000000000000000",
-        2,
-        "luaris: wrong words\n",
-    ),
-    (
-        "run s.lua --budget 5 --budget 5",
-        2,
-        "luaris: wrong words\n",
-    ),
-    ("run --budget -- s.lua", 2, "luaris: wrong words\n"),
-    ("run -- s.lua --budget 5", 2, "luaris: wrong words\n"),
-    ("check s.lua --budget 5", 2, "luaris: wrong words\n"),
-    (
-        "compile s.lua c.luac --budget 5",
-        2,
-        "luaris: wrong words\n",
-    ),
-    ("--budget 5 run s.lua", 2, "luaris: wrong words\n"),
-    ("work", 2, "luaris: wrong words\n"),
-    ("work 0", 2, "luaris: wrong words\n"),
-    ("work 10001", 2, "luaris: wrong words\n"),
-    ("work +3", 2, "luaris: wrong words\n"),
-    ("work 0000000000000003", 2, "luaris: wrong words\n"),
-    ("work 3 4", 2, "luaris: wrong words\n"),
-    ("work 3 --strip", 2, "luaris: wrong words\n"),
-    ("work --budget 5 3", 2, "luaris: wrong words\n"),
-    ("run gone.lua", 11, "luaris: no such file\n"),
-    ("run --budget=5 gone.lua", 11, "luaris: no such file\n"),
-    (
-        "run gone.lua --budget 999999999999999",
-        11,
-        "luaris: no such file\n",
-    ),
-    ("run -- -s.lua", 11, "luaris: no such file\n"),
+/// Words that are no command.
+static NO_COMMANDS: [&str; 26] = [
+    "",
+    "run",
+    "walk s.lua",
+    "run -s.lua",
+    "run s.lua more",
+    "run s.lua --strip",
+    "run s.lua --budget",
+    "run s.lua --budget 0",
+    "run s.lua --budget=",
+    "run s.lua --budget +5",
+    "run s.lua --budget 0x5",
+    "run s.lua --budget 1000000000000000",
+    "run s.lua --budget 5 --budget 5",
+    "run --budget -- s.lua",
+    "run -- s.lua --budget 5",
+    "check s.lua --budget 5",
+    "compile s.lua c.luac --budget 5",
+    "--budget 5 run s.lua",
+    "work",
+    "work 0",
+    "work 10001",
+    "work +3",
+    "work 0000000000000003",
+    "work 3 4",
+    "work 3 --strip",
+    "work --budget 5 3",
+];
+
+/// Commands over files that are not there.
+static ABSENT: [&str; 4] = [
+    "run gone.lua",
+    "run --budget=5 gone.lua",
+    "run gone.lua --budget 999999999999999",
+    "run -- -s.lua",
 ];
 
 #[test]
 fn words_and_files_decide_before_the_source(rt: HostRuntime) -> Result<(), Fail> {
     let mut files = files_with(rt.alloc(), "s.lua", b"print(1)", &[])?;
-    for (line, status, told) in CALLS.iter().copied() {
-        let wanted = (status, b"".as_slice(), told);
+    for line in NO_COMMANDS.iter().copied() {
+        let wanted = (2, b"".as_slice(), "luaris: wrong words\n");
+        check_call(&rt, rt.alloc(), line, &mut files, &Streams::of(b""), wanted)?;
+    }
+    for line in ABSENT.iter().copied() {
+        let wanted = (11, b"".as_slice(), "luaris: no such file\n");
         check_call(&rt, rt.alloc(), line, &mut files, &Streams::of(b""), wanted)?;
     }
     Ok(())

@@ -5,36 +5,18 @@ use std::test::Fail;
 /// Yields the length of each line.
 const LENGTHS: &str = "local s=0 while true do local l=coroutine.yield(s) s=#l end";
 
+/// What is told of a device that fails.
+const TOLD: &str = "luaris: device fault\n";
+
 /// Words, the text of `s.lua`, the calls of the files, the input, the output and standard error that fail, the status, and what is written. The first call of
 /// the files puts the script.
 static FAULTS: [(&str, &str, [u64; 4], u8, &str, &str); 11] = [
     ("run s.lua", "print(1)", [9, 0, 9, 9], 0, "1\nreturn\n", ""),
-    (
-        "run s.lua",
-        "print(1)",
-        [1, 0, 9, 9],
-        6,
-        "",
-        "luaris: device fault\n",
-    ),
-    (
-        "run s.lua",
-        "print(1)",
-        [9, 0, 0, 9],
-        6,
-        "",
-        "luaris: device fault\n",
-    ),
+    ("run s.lua", "print(1)", [1, 0, 9, 9], 6, "", TOLD),
+    ("run s.lua", "print(1)", [9, 0, 0, 9], 6, "", TOLD),
     ("run s.lua", "print(1)", [1, 0, 9, 0], 6, "", ""),
-    ("work 3", "", [9, 9, 0, 9], 6, "", "luaris: device fault\n"),
-    (
-        "work 3",
-        "",
-        [9, 9, 1, 9],
-        6,
-        "6\nreturn\n",
-        "luaris: device fault\n",
-    ),
+    ("work 3", "", [9, 9, 0, 9], 6, "", TOLD),
+    ("work 3", "", [9, 9, 1, 9], 6, "6\nreturn\n", TOLD),
     (
         "run s.lua",
         "x",
@@ -51,30 +33,9 @@ static FAULTS: [(&str, &str, [u64; 4], u8, &str, &str); 11] = [
         "",
         "luaris: source refused at line 1",
     ),
-    (
-        "run s.lua",
-        LENGTHS,
-        [9, 0, 9, 9],
-        6,
-        "yield\t0\n",
-        "luaris: device fault\n",
-    ),
-    (
-        "run s.lua",
-        LENGTHS,
-        [9, 9, 0, 9],
-        6,
-        "",
-        "luaris: device fault\n",
-    ),
-    (
-        "run s.lua",
-        LENGTHS,
-        [9, 9, 1, 9],
-        6,
-        "yield\t0\n",
-        "luaris: device fault\n",
-    ),
+    ("run s.lua", LENGTHS, [9, 0, 9, 9], 6, "yield\t0\n", TOLD),
+    ("run s.lua", LENGTHS, [9, 9, 0, 9], 6, "", TOLD),
+    ("run s.lua", LENGTHS, [9, 9, 1, 9], 6, "yield\t0\n", TOLD),
 ];
 
 #[test]

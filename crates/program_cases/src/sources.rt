@@ -80,51 +80,44 @@ fn source_of(alloc: Global, shape: Shape) -> Result<Vec<u8>, AllocError> {
     }
 }
 
-/// Sources, the status of each, and what is printed or told.
-static LIMITS: [(Shape, u8, &str, &str); 10] = [
-    (Shape::Blanks(1_048_576), 0, "return\n", ""),
+/// Sources within a limit, and what each prints.
+static WITHIN: [(Shape, &str); 5] = [
+    (Shape::Blanks(1_048_576), "return\n"),
+    (Shape::Brackets(399), "1\nreturn\n"),
+    (Shape::Nested(0, 199), "200\nreturn\n"),
+    (Shape::Nested(49, 199), "200\nreturn\n"),
+    (Shape::Nested(200, 48), "49\nreturn\n"),
+];
+
+/// Sources past a limit, and what is told of each.
+static PAST: [(Shape, &str); 5] = [
     (
         Shape::Blanks(1_048_577),
-        5,
-        "",
         "luaris: source refused by rule 13 at line 1\n",
     ),
-    (Shape::Brackets(399), 0, "1\nreturn\n", ""),
-    (
-        Shape::Brackets(400),
-        5,
-        "",
-        "luaris: source refused at line 1\n",
-    ),
-    (Shape::Nested(0, 199), 0, "200\nreturn\n", ""),
-    (
-        Shape::Nested(0, 200),
-        5,
-        "",
-        "luaris: source refused at line 1\n",
-    ),
-    (Shape::Nested(49, 199), 0, "200\nreturn\n", ""),
+    (Shape::Brackets(400), "luaris: source refused at line 1\n"),
+    (Shape::Nested(0, 200), "luaris: source refused at line 1\n"),
     (
         Shape::Nested(50, 199),
-        5,
-        "",
         "luaris: source refused by rule 11 at line 51\n",
     ),
-    (Shape::Nested(200, 48), 0, "49\nreturn\n", ""),
     (
         Shape::Nested(201, 0),
-        5,
-        "",
         "luaris: source refused by rule 9 at line 201\n",
     ),
 ];
 
 #[test]
 fn limits_are_where_they_are_said_to_be(rt: HostRuntime) -> Result<(), Fail> {
-    for (shape, status, printed, told) in LIMITS.iter().copied() {
-        let source = source_of(rt.alloc(), shape)?;
-        let wanted = (status, printed.as_bytes(), told);
-        check_run(&rt, rt.alloc(), source.as_slice(), b"", wanted)?;
+    let alloc = rt.alloc();
+    for (shape, printed) in WITHIN.iter().copied() {
+        let source = source_of(alloc, shape)?;
+        let wanted = (0, printed.as_bytes(), "");
+        check_run(&rt, alloc, source.as_slice(), b"", wanted)?;
+    }
+    for (shape, told) in PAST.iter().copied() {
+        let source = source_of(alloc, shape)?;
+        check_run(&rt, alloc, source.as_slice(), b"", (5, b"", told))?;
     }
     Ok(())
 }
