@@ -130,6 +130,10 @@ unread_check name f f' k held held' written Memory cause absent lacking kept fai
 pub with_files_kept : (name : List ℕ) (f f' : ℕ) (held held' : Option FileMap) (out : Device (List ℕ)) (status status' : ℕ) → f' ≡ f → held' ≡ held → status ≡ status' → IsCheck name (record { faults = f; faults' = f; content = held; content' = held }) out status' → IsCheck name (record { faults = f; faults' = f'; content = held; content' = held' }) out status
 with_files_kept name f f' held held' out status status' faults kept same work = rw (faults, kept, same) work
 
+-- the bytes that were refused are those of the file
+pub refused_file : {bytes content : List ℕ} {reason : Fault} → bytes ≡ content → IsNoChunkFor bytes reason ⊎ (reason ≡ fault.Memory) → IsNoChunkFor content reason ⊎ (reason ≡ fault.Memory)
+refused_file {reason = reason} same refused = subst (λ s. IsNoChunkFor s reason ⊎ (reason ≡ fault.Memory)) same refused
+
 -- what a refusal tells of the bytes that the files hold
 pub refusal_tells : (name content content' : List ℕ) (held : Option FileMap) (reason : Fault) → IfSome held (λ files. files name ≡ Some content) → Holds held name content' → IsNoChunkFor content reason ⊎ (reason ≡ fault.Memory) → ChunkFits content' reason
 refusal_tells name content content' held reason found has (inl refusal) = subst (λ c. ChunkFits c reason) (sym (same_content name content content' held found has)) refusal.fits
