@@ -3,20 +3,4 @@
 #![tactic(auto)]
 
 #[cfg(test)]
-mod calling;
-#[cfg(test)]
-mod chains;
-#[cfg(test)]
-mod chunks;
-#[cfg(test)]
-mod commands;
-#[cfg(test)]
-mod faults;
-#[cfg(test)]
-mod images;
-#[cfg(test)]
-mod lines;
-#[cfg(test)]
-mod prelude;
-#[cfg(test)]
-mod sources;
+mod cases;

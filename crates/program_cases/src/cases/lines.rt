@@ -1,5 +1,5 @@
 // Runs on lines of input. Expected values are worked out by hand from the manual, and the limits on lines.
-use crate::calling::check_run;
+use crate::cases::calling::check_run;
 use std::test::Fail;
 
 /// A script in `s.lua`, the bytes of the input, and what the call gives.

@@ -1,5 +1,5 @@
 // Images that are saved, and images that are altered. Expected values are worked out by hand from the format of images.
-use crate::calling::{Streams, call, check_call, copied, files_with};
+use crate::cases::calling::{Streams, call, check_call, copied, files_with};
 use io_edge::Files;
 use program::SessionState;
 use std::alloc::Global;

@@ -1,5 +1,5 @@
 // Sources that are refused, and the limits on sources. Expected lines are those of the statuses.
-use crate::calling::check_run;
+use crate::cases::calling::check_run;
 use std::alloc::{AllocError, Global};
 use std::test::Fail;
 

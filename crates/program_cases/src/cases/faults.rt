@@ -1,5 +1,5 @@
 // Devices that fail: what is told of it, and what was written before.
-use crate::calling::{Streams, check_call, files_with};
+use crate::cases::calling::{Streams, check_call, files_with};
 use std::test::Fail;
 
 /// Yields the length of each line.

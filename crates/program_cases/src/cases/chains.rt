@@ -1,5 +1,5 @@
 // Scripts that are cut into sessions. Expected values are worked out by hand from the manual: those of the script that is not cut.
-use crate::calling::{Streams, call, files_with};
+use crate::cases::calling::{Streams, call, files_with};
 use std::alloc::Global;
 use std::process::Abort;
 use std::test::Fail;

@@ -1,5 +1,5 @@
 // Words that are no command, files that are not there, and work. Expected lines are those of the statuses.
-use crate::calling::{Streams, check_call, files_with};
+use crate::cases::calling::{Streams, check_call, files_with};
 use std::test::Fail;
 
 /// Words that are no command.

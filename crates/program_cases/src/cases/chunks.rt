@@ -1,5 +1,5 @@
 // Chunks that are checked, made and run. The expected chunk is that of stock luac.
-use crate::calling::{Streams, check_call, check_over, copied, files_with};
+use crate::cases::calling::{Streams, check_call, check_over, copied, files_with};
 use io_edge::Files;
 use std::alloc::{AllocError, Global};
 use std::process::Abort;
