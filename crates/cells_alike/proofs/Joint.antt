@@ -82,67 +82,54 @@ asker_one w = record { function = w.function; line = w.line; shared = w.shared; 
 abbrev pub asker_two : Waiting → Asker State
 asker_two w = record { function = w.function; line = w.line; shared = w.also; goes = w.goes_too }
 
+abbrev pub frame_of : (asker : Waiting → Asker State) → (side : State → State → State) → Layer → Frame State
+frame_of asker side (is_talking f s t) = talking f (side s t)
+frame_of asker side (is_waiting w) = waiting (asker w)
+frame_of asker side (is_raising w) = raising (asker w)
+frame_of asker side is_protected = protected
+frame_of asker side (is_handled h) = handled_by h
+frame_of asker side is_handling = handling
+frame_of asker side (is_closing e vs) = closing e vs
+
 abbrev pub frame_one : Layer → Frame State
-frame_one (is_talking f s t) = talking f s
-frame_one (is_waiting w) = waiting (asker_one w)
-frame_one (is_raising w) = raising (asker_one w)
-frame_one is_protected = protected
-frame_one (is_handled h) = handled_by h
-frame_one is_handling = handling
-frame_one (is_closing e vs) = closing e vs
+frame_one f = frame_of asker_one (λ s t. s) f
 
 abbrev pub frame_two : Layer → Frame State
-frame_two (is_talking f s t) = talking f t
-frame_two (is_waiting w) = waiting (asker_two w)
-frame_two (is_raising w) = raising (asker_two w)
-frame_two is_protected = protected
-frame_two (is_handled h) = handled_by h
-frame_two is_handling = handling
-frame_two (is_closing e vs) = closing e vs
+frame_two f = frame_of asker_two (λ s t. t) f
+
+abbrev pub coroutine_of : (Layer → Frame State) → Thread → Coroutine State
+coroutine_of frame (is_fresh body) = fresh body
+coroutine_of frame (is_suspended frames) = suspended (map frame frames)
+coroutine_of frame is_running = running
+coroutine_of frame (is_normal frames) = normal (map frame frames)
+coroutine_of frame is_dead = dead
+coroutine_of frame (has_failed e pending) = failed e pending
 
 abbrev pub coroutine_one : Thread → Coroutine State
-coroutine_one (is_fresh body) = fresh body
-coroutine_one (is_suspended frames) = suspended (map frame_one frames)
-coroutine_one is_running = running
-coroutine_one (is_normal frames) = normal (map frame_one frames)
-coroutine_one is_dead = dead
-coroutine_one (has_failed e pending) = failed e pending
+coroutine_one c = coroutine_of frame_one c
 
 abbrev pub coroutine_two : Thread → Coroutine State
-coroutine_two (is_fresh body) = fresh body
-coroutine_two (is_suspended frames) = suspended (map frame_two frames)
-coroutine_two is_running = running
-coroutine_two (is_normal frames) = normal (map frame_two frames)
-coroutine_two is_dead = dead
-coroutine_two (has_failed e pending) = failed e pending
+coroutine_two c = coroutine_of frame_two c
+
+abbrev pub world_of : (Made → Function Body) → (cells : List Value) → (Layer → Frame State) → Joint → World Body State
+world_of made cells frame J = record {
+  heap = J.heap;
+  functions = map made J.functions;
+  cells = cells;
+  coroutines = map (coroutine_of frame) J.coroutines;
+  globals = J.globals;
+  printed = J.printed;
+  fuel = J.fuel;
+  chain = J.chain;
+  frames = map frame J.frames;
+  now = J.now;
+}
 
 abbrev pub one : Joint → World Body State
-one J = record {
-  heap = J.heap;
-  functions = map function_one J.functions;
-  cells = J.store.cells;
-  coroutines = map coroutine_one J.coroutines;
-  globals = J.globals;
-  printed = J.printed;
-  fuel = J.fuel;
-  chain = J.chain;
-  frames = map frame_one J.frames;
-  now = J.now;
-}
+one J = world_of function_one J.store.cells frame_one J
 
 abbrev pub two : Joint → World Body State
-two J = record {
-  heap = J.heap;
-  functions = map function_two J.functions;
-  cells = J.store.cells_too;
-  coroutines = map coroutine_two J.coroutines;
-  globals = J.globals;
-  printed = J.printed;
-  fuel = J.fuel;
-  chain = J.chain;
-  frames = map frame_two J.frames;
-  now = J.now;
-}
+two J = world_of function_two J.store.cells_too frame_two J
 
 -- how the two sides are alike
 
