@@ -17,7 +17,7 @@ use Rattle.machine_means.specs.Joined.{TalkFrame, HoldsOf, HoldsIn, Holds}
 use Rattle.machine_means.proofs.Held.{holds_less}
 use Rattle.machine_means.proofs.FrameWrites.{below_length, below_values}
 use Rattle.machine_means.proofs.Sharing.{gone_on, gone_off, shared_length}
-use Rattle.means_steps.proofs.Middle.{MiddleOf, others_values, others_held, own_holds, once, top_range, not_below, not_apart, not_shut}
+use Rattle.means_steps.proofs.Middle.{MiddleOf, others_values, own_holds, once, top_range, not_below, not_apart, not_shut, with_held}
 use Rattle.machine_sound.proofs.Lists.{get_map, map_get}
 
 length_map : {A B : Type 0} (f : A → B) (xs : List A) → length (map f xs) ≡ length xs
@@ -131,30 +131,12 @@ module _ (chain : List ℕ) (fs : List Function) (ws : List Cell) (cs : List Cor
       k.cells.one c d i f r (m.1 ∙ ap Some (was_open co top a regs m.0 i f r m.2).0) (n.1 ∙ ap Some (was_open co top a regs n.0 i f r n.2).0)
 
   closed_top : MiddleOf chain fs ws1 cs gs ds vs1 co n g g' w own (held_below a h) below ts
-  closed_top = record {
-    functions = k.functions;
-    there = k.there;
-    talks_there = k.talks_there;
-    in_range = λ u d e. (let i = k.in_range u d e in let l = length_map (closed_cell co top a regs) ws in omega (arith, i, l));
-    not_own = λ r d u m e. k.not_own r d u (below_was a h r d m).0 e;
-    last = k.last;
-    runs = k.runs;
-    talks = k.talks;
-    held = held1;
-    more = k.more;
-    holds = own_held;
-    cells = record {
-      size = length_map (closed_cell co top a regs) ws ∙ k.cells.size ∙ sym (shared_length (gone_from a h xs) vs);
-      shut = close_shut;
-      opened = close_opened;
-      held_open = close_held;
-      one = close_one;
-    };
-    waits = below_values false fs vs vs1 below ts k.more (λ f r c m. gone_off a xs vs h c (λ q n. absurd (not_below ws vs k.held k.cells co h k.more k.holds f r c m q n))) k.waits;
-    depth = k.depth;
-    others = others_held fs vs1 co cs ds k.held (held_below a h ∷ k.more)
-        (others_values fs vs vs1 co cs ds k.held (λ j f r c n m. gone_off a xs vs h c (λ q o. absurd (not_apart ws vs k.held k.cells co h k.more k.holds j f r c n m q o))) k.others);
-  }
+  closed_top = with_held k ws1 vs1 (held_below a h)
+      (λ u d e. (let i = k.in_range u d e in let l = length_map (closed_cell co top a regs) ws in omega (arith, i, l)))
+      (λ r d u m e. k.not_own r d u (below_was a h r d m).0 e)
+      (record { size = length_map (closed_cell co top a regs) ws ∙ k.cells.size ∙ sym (shared_length (gone_from a h xs) vs); shut = close_shut; opened = close_opened; held_open = close_held; one = close_one })
+      (below_values false fs vs vs1 below ts k.more (λ f r c m. gone_off a xs vs h c (λ q n. absurd (not_below ws vs k.held k.cells co h k.more k.holds f r c m q n))) k.waits)
+      (others_values fs vs vs1 co cs ds k.held (λ j f r c n m. gone_off a xs vs h c (λ q o. absurd (not_apart ws vs k.held k.cells co h k.more k.holds j f r c n m q o))) k.others)
 
   pub closes_from : MiddleOf chain fs (close_from co (length below) a own.registers ws) cs gs ds (shared_in (gone_from a h xs) vs) co n g g' w own (held_below a h) below ts
   closes_from =

@@ -184,22 +184,29 @@ module _ {chain : List ℕ} {fs : List Function} {ws : List Cell} {cs : List Cor
   pub still_middle : (ws' : List Cell) (cs' : List Coroutine) (vs' : List Value) (w' : Wait Value) (own' : Activation) (below' : List Frame) → ((u d : ℕ) → slice_get g.cells u ≡ Some d → d < length ws')
       → slice_get cs' co ≡ Some (in_progress (upward (lua (frame n w' own') ∷ below'))) → CellsPair ws' vs' k.held → Below false fs vs' below' ts k.more → length below' < greatest_depth
       → ((j : ℕ) → co ≢ j → AllThree (CoroutinePair fs vs' Never) (slice_get cs' j) (slice_get ds j) (slice_get k.held j)) → MiddleOf chain fs ws' cs' gs ds vs' co n g g' w' own' h below' ts
-  still_middle ws' cs' vs' w' own' below' in_range runs cells waits depth others = record {
+  still_middle ws' cs' vs' w' own' below' in_range runs cells waits depth others =
+      record { functions = k.functions; there = k.there; talks_there = k.talks_there; in_range = in_range; not_own = k.not_own; last = k.last; runs = runs; talks = k.talks; held = k.held; more = k.more; holds = k.holds; cells = cells; waits = waits; depth = depth; others = others }
+
+  -- it holds other cells
+  pub with_held : (ws' : List Cell) (vs' : List Value) (h' : Held) → ((u d : ℕ) → slice_get g.cells u ≡ Some d → d < length ws') → ((r d u : ℕ) → Has r d h' → slice_get g.cells u ≡ Some d → ⊥)
+      → CellsPair ws' vs' (slice_set k.held co (h' ∷ k.more)) → Below false fs vs' below ts k.more → ((j : ℕ) → co ≢ j → AllThree (CoroutinePair fs vs' Never) (slice_get cs j) (slice_get ds j) (slice_get k.held j))
+      → MiddleOf chain fs ws' cs gs ds vs' co n g g' w own h' below ts
+  with_held ws' vs' h' in_range not_own cells waits others = record {
     functions = k.functions;
     there = k.there;
     talks_there = k.talks_there;
     in_range = in_range;
-    not_own = k.not_own;
+    not_own = not_own;
     last = k.last;
-    runs = runs;
+    runs = k.runs;
     talks = k.talks;
-    held = k.held;
+    held = slice_set k.held co (h' ∷ k.more);
     more = k.more;
-    holds = k.holds;
+    holds = get_set_same k.held co (h ∷ k.more) (h' ∷ k.more) k.holds;
     cells = cells;
     waits = waits;
-    depth = depth;
-    others = others;
+    depth = k.depth;
+    others = others_held fs vs' co cs ds k.held (h' ∷ k.more) others;
   }
 
 -- the frame on top gets another wait and other registers

@@ -21,7 +21,7 @@ use Rattle.lua_meaning.specs.Asks.{cells_named}
 use Rattle.machine_means.specs.Joined.{TalkFrame, TalkWorld, RegistersPair, HoldsOf, HoldsIn, Holds, CellsPair}
 use Rattle.machine_means.proofs.Held.{holds_less}
 use Rattle.machine_means.proofs.FrameWrites.{below_values}
-use Rattle.means_steps.proofs.Middle.{MiddleOf, others_values, others_held, top_holds, own_holds, below_holds}
+use Rattle.means_steps.proofs.Middle.{MiddleOf, others_values, top_holds, own_holds, below_holds, with_held}
 
 module _ (co f r : ℕ) where
   open_found : (n : ℕ) (ws : List Cell) (c : ℕ) → find_open_from n co f r ws ≡ Some c → (i : ℕ) × (c ≡ n + i) × (slice_get ws i ≡ Some (open_at co f r))
@@ -182,23 +182,12 @@ module _ (chain : List ℕ) (fs : List Function) (ws : List Cell) (cs : List Cor
       (get_either ws (open_at co top r) c (open_at i f q) x)
 
   pub opened_top : MiddleOf chain fs (ws ++ open_at co (length k.more) r ∷ []) cs gs ds (vs ++ v ∷ []) co n g g' w own ((r, length vs) ∷ h) below ts
-  opened_top = record {
-    functions = k.functions;
-    there = k.there;
-    talks_there = k.talks_there;
-    in_range = λ u d x. (let i = k.in_range u d x in let l = length_more ws (open_at co top r) in omega (arith, i, l));
-    not_own = λ q d u m x. ⊎_elim (λ o. let i = k.in_range u d x in let s = k.cells.size in let z = o.1 in omega (arith, i, s, z)) (λ o. k.not_own q d u o x) m;
-    last = k.last;
-    runs = k.runs;
-    talks = k.talks;
-    held = held1;
-    more = k.more;
-    holds = own_held;
-    cells = record { size = length_more ws (open_at co top r) ∙ ap suc k.cells.size ∙ sym (length_more vs v); shut = new_shut; opened = new_opened; held_open = new_held; one = new_one };
-    waits = below_values false fs vs vs1 below ts k.more (λ f q c m. old_value c (open_at co f q) (k.cells.held_open c co f q (below_holds ws vs k.held k.cells co h k.more k.holds f q c m))) k.waits;
-    depth = k.depth;
-    others = others_held fs vs1 co cs ds k.held (h1 ∷ k.more) (others_values fs vs vs1 co cs ds k.held (λ j f q c d m. old_value c (open_at j f q) (k.cells.held_open c j f q m)) k.others);
-  }
+  opened_top = with_held k ws1 vs1 h1
+      (λ u d x. (let i = k.in_range u d x in let l = length_more ws (open_at co top r) in omega (arith, i, l)))
+      (λ q d u m x. ⊎_elim (λ o. let i = k.in_range u d x in let s = k.cells.size in let z = o.1 in omega (arith, i, s, z)) (λ o. k.not_own q d u o x) m)
+      (record { size = length_more ws (open_at co top r) ∙ ap suc k.cells.size ∙ sym (length_more vs v); shut = new_shut; opened = new_opened; held_open = new_held; one = new_one })
+      (below_values false fs vs vs1 below ts k.more (λ f q c m. old_value c (open_at co f q) (k.cells.held_open c co f q (below_holds ws vs k.held k.cells co h k.more k.holds f q c m))) k.waits)
+      (others_values fs vs vs1 co cs ds k.held (λ j f q c d m. old_value c (open_at j f q) (k.cells.held_open c j f q m)) k.others)
 
   pub opened_registers : (known : List Value) → RegistersPair vs h known own.registers → RegistersPair (vs ++ v ∷ []) h known own.registers
   opened_registers known p = record { size = p.size; off = p.off; on = λ q c m. old_value c (open_at co top q) (k.cells.held_open c co top q (top_holds ws vs k.held k.cells co h k.more k.holds q c m)) ∙ p.on q c m }
