@@ -167,6 +167,7 @@ loop_good p pc w len (is_object kind) v = λ m s n l. refl
 
 row_good : (p : Prototype) (pc : ℕ) (op : Opcode) (w : Instruction) → ((wait : Wait Arg) → rest wait p pc op w ≡ rest_at wait p pc) → (len : ℕ) → Good p pc running len (row_of p pc op w)
 row_good p pc Move w E len = λ _ _ _ _ _ _. refl
+row_good p pc LoadF w E len = tt
 row_good p pc LoadK w E len = λ _ _ _ _ _ _. refl
 row_good p pc LoadKx w E len = extra_good p pc LoadKx w E len _ (λ ax _ _ _ _ _ _. refl) (extra_at p pc)
 row_good p pc GetUpval w E len = λ _ _ _ _. refl
@@ -202,6 +203,10 @@ row_good p pc BOr w E len = register_good p pc BOr w E len of_bor
 row_good p pc BXor w E len = register_good p pc BXor w E len of_bxor
 row_good p pc Shl w E len = register_good p pc Shl w E len of_shl
 row_good p pc Shr w E len = register_good p pc Shr w E len of_shr
+row_good p pc PowK w E len = tt
+row_good p pc DivK w E len = tt
+row_good p pc Pow w E len = tt
+row_good p pc Div w E len = tt
 row_good p pc MmBin w E len = λ _ m1 _ _ m2 _. handled_good p pc MmBin w E (len + m1 + m2) (event_numbered (c_of w)) _ refl
 row_good p pc MmBinI w E len = λ _ m _. handled_good p pc MmBinI w E (len + m) (event_numbered (c_of w)) _ refl
 row_good p pc MmBinK w E len = λ _ m1 _ _ m2 _. handled_good p pc MmBinK w E (len + m1 + m2) (event_numbered (c_of w)) _ refl
@@ -237,11 +242,6 @@ row_good p pc SetList w E len = by_cond p pc SetList w E len (k_of w) _ _ (extra
 row_good p pc Closure w E len = opens_good p pc Closure w E len (upvalues_of_inner p (bx_of w)) _ (λ _ _ _ _. refl)
 row_good p pc VarArg w E len = λ _ m _. write_good p pc VarArg w E (len + m) (a_of w) (c_of w) len
 row_good p pc VarArgPrep w E len = refl
-row_good p pc LoadF w E len = tt
-row_good p pc PowK w E len = tt
-row_good p pc DivK w E len = tt
-row_good p pc Pow w E len = tt
-row_good p pc Div w E len = tt
 row_good p pc ExtraArg w E len = tt
 row_good p pc _ w E len = λ _ _ _. refl
 
