@@ -1,5 +1,6 @@
 -- Calls of the functions of the libraries that are Lua text. What is expected is what `lua5.4` gives; texts of errors and their places are this project's.
-use Rattle.std.proofs.Common.{◌≡◌, [], ◌∷◌, refl}
+use Rattle.std.proofs.Common.{◌≡◌, ℕ, List, [], ◌∷◌, Option, refl}
+use Prim.Native.String.{String}
 use Rattle.std.specs.Int.{int_wrap}
 use Rattle.std.specs.Fmt.{digits}
 use Rattle.int_core.specs.Heap.{raw_set}
@@ -9,10 +10,14 @@ use Rattle.lua_meaning.specs.Step.{row}
 use Rattle.tree_core.specs.declared.name.Place.TheVariants.{Local as LocalPlace}
 use Rattle.tree_core.specs.declared.operator.BinOp.TheVariants.{Add, Mul, Concat, Lt}
 use Rattle.tree_core.specs.declared.operator.UnOp.TheVariants.{Neg, Len}
-use Rattle.tree_core.specs.Tree.{Nil, True, Unary, Table, If, GenFor, Keyed, Item, exps, fields, arms}
+use Rattle.tree_core.specs.Tree.{Exp, Nil, True, Unary, Table, If, GenFor, Keyed, Item, exps, fields, arms}
 use Rattle.tree_terms.proofs.Forms.{name, declared, loc, global, int, str, bin, call, field, function, block, returning, locals, loc_is, assign, does, fun}
 use Rattle.lua_meaning.proofs.Scripts.{env, chunk, usual}
 use Rattle.meaning_examples.proofs.Scripts.{run, ran}
+
+-- setmetatable({},{key=value})
+abbrev with_meta : (key : String) → Exp → Exp
+with_meta key value = call (global "setmetatable") (Table 1 (fields []) ∷ Table 1 (fields (Keyed 1 (str key) value ∷ [])) ∷ [])
 
 -- return table.concat({1,2,3},"-",2,3),table.concat({}),table.concat({"a"},",")
 joins_a_part : run 6000 (
@@ -73,39 +78,36 @@ texts_of_values = refl
 -- local v=setmetatable({},{__tostring=function() return {} end}) return pcall(tostring,v)
 text_by_handler : run 6000 (
     chunk (returning (
-    loc_is "v" 0 (call (global "setmetatable") (Table 1 (fields [])
-    ∷ Table 1 (fields (Keyed 1 (str "__tostring") (function (fun [] [] (returning [] (Table 1 (fields []) ∷ [])))) ∷ [])) ∷ [])) ∷ []) (call (global "pcall") (global "tostring" ∷ loc "v" 0 ∷ []) ∷ []))) [] usual
+    loc_is "v" 0 (with_meta "__tostring" (function (fun [] [] (returning [] (Table 1 (fields []) ∷ []))))) ∷ []) (call (global "pcall") (global "tostring" ∷ loc "v" 0 ∷ []) ∷ []))) [] usual
     ≡ ran "return\tfalse\t'__tostring' must return a string\n" 0
 unfolding int_wrap digits raw_set put_metatable row primitive_values constant_values library_table environment
 text_by_handler = refl
 
--- local s="" for k,v in pairs(setmetatable({},{__pairs=function(t) return function(t,k) if k<3 then return k+1,k end end,t,0 end})) do s=s..k..v end return s
-walks_by_handler : run 6000 (
+-- local s="" for first,second in values do s=s..added end return s
+abbrev gathers : (first second : String) → Exp → (added : Exp) → Option (List ℕ × ℕ)
+gathers first second values added = run 6000 (
     chunk (returning (
     loc_is "s" 0 (str "")
-    ∷ GenFor 1 (name "k" (LocalPlace 5) ∷ name "v" (LocalPlace 6) ∷ []) (exps (call (global "pairs") (call (global "setmetatable") (Table 1 (fields [])
-    ∷ Table 1 (fields (Keyed 1 (str "__pairs") (function (fun ("t" ∷ []) [] (returning [] (function (fun ("t"
-    ∷ "k" ∷ []) [] (block (If 1 (arms ((bin Lt (loc "k" 1) (int 3), returning [] (bin Add (loc "k" 1) (int 1) ∷ loc "k" 1 ∷ [])) ∷ [])) ∷ []))) ∷ loc "t" 0
-    ∷ int 0 ∷ [])))) ∷ [])) ∷ []) ∷ []) ∷ [])) (block (assign (loc "s" 0) (bin Concat (loc "s" 0) (bin Concat (loc "k" 5) (loc "v" 6))) ∷ [])) ∷ []) (loc "s" 0 ∷ []))) [] usual
+    ∷ GenFor 1 (name first (LocalPlace 5) ∷ name second (LocalPlace 6) ∷ []) (exps (values ∷ [])) (block (assign (loc "s" 0) (bin Concat (loc "s" 0) added) ∷ [])) ∷ []) (loc "s" 0 ∷ []))) [] usual
+
+-- local s="" for k,v in pairs(setmetatable({},{__pairs=function(t) return function(t,k) if k<3 then return k+1,k end end,t,0 end})) do s=s..k..v end return s
+walks_by_handler : gathers "k" "v" (call (global "pairs") (with_meta "__pairs" (function (fun ("t" ∷ []) [] (returning [] (
+    function (fun ("t" ∷ "k" ∷ []) [] (block (If 1 (arms ((bin Lt (loc "k" 1) (int 3), returning [] (bin Add (loc "k" 1) (int 1) ∷ loc "k" 1 ∷ [])) ∷ [])) ∷ [])))
+    ∷ loc "t" 0 ∷ int 0 ∷ [])))) ∷ [])) (bin Concat (loc "k" 5) (loc "v" 6))
     ≡ ran "return\t102132\n" 0
 unfolding int_wrap digits raw_set put_metatable row primitive_values constant_values library_table environment
 walks_by_handler = refl
 
 -- local s="" for i,v in ipairs(setmetatable({},{__index=function(t,i) if i<3 then return i*10 end end})) do s=s..v.."," end return s
-walks_past_rows : run 6000 (
-    chunk (returning (
-    loc_is "s" 0 (str "")
-    ∷ GenFor 1 (name "i" (LocalPlace 5) ∷ name "v" (LocalPlace 6) ∷ []) (exps (call (global "ipairs") (call (global "setmetatable") (Table 1 (fields [])
-    ∷ Table 1 (fields (Keyed 1 (str "__index") (function (fun ("t"
-    ∷ "i" ∷ []) [] (block (If 1 (arms ((bin Lt (loc "i" 1) (int 3), returning [] (bin Mul (loc "i" 1) (int 10) ∷ [])) ∷ [])) ∷ [])))) ∷ [])) ∷ []) ∷ []) ∷ [])) (block (assign (loc "s" 0) (bin Concat (loc "s" 0) (bin Concat (loc "v" 6) (str ","))) ∷ [])) ∷ []) (loc "s" 0 ∷ []))) [] usual
+walks_past_rows : gathers "i" "v" (call (global "ipairs") (with_meta "__index" (function (fun ("t" ∷ "i" ∷ []) [] (block (
+    If 1 (arms ((bin Lt (loc "i" 1) (int 3), returning [] (bin Mul (loc "i" 1) (int 10) ∷ [])) ∷ [])) ∷ [])))) ∷ [])) (bin Concat (loc "v" 6) (str ","))
     ≡ ran "return\t10,20,\n" 0
 unfolding int_wrap digits raw_set put_metatable row primitive_values constant_values library_table environment
 walks_past_rows = refl
 
 -- return string.format("%q %s %s","a\n1",setmetatable({},{__tostring=function() return "T" end}),nil)
 formats_quoted : run 6000 (
-    chunk (returning [] (call (field (global "string") "format") (str "%q %s %s" ∷ str "a\n1" ∷ call (global "setmetatable") (Table 1 (fields [])
-    ∷ Table 1 (fields (Keyed 1 (str "__tostring") (function (fun [] [] (returning [] (str "T" ∷ [])))) ∷ [])) ∷ []) ∷ Nil 1 ∷ []) ∷ []))) [] usual
+    chunk (returning [] (call (field (global "string") "format") (str "%q %s %s" ∷ str "a\n1" ∷ with_meta "__tostring" (function (fun [] [] (returning [] (str "T" ∷ [])))) ∷ Nil 1 ∷ []) ∷ []))) [] usual
     ≡ ran "return\t\"a\\\n1\" T nil\n" 0
 unfolding int_wrap digits raw_set put_metatable row primitive_values constant_values library_table environment
 formats_quoted = refl

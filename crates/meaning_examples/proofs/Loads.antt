@@ -1,5 +1,6 @@
 -- Scripts that load sources, where it is known what these are built to. Texts of refusals are this project's; what a loaded function does is what `lua5.4` does.
-use Rattle.std.proofs.Common.{◌≡◌, [], ◌∷◌, Some, None, refl}
+use Rattle.std.proofs.Common.{◌≡◌, ℕ, List, [], ◌∷◌, Option, Some, None, refl}
+use Prim.Native.String.{String}
 use Rattle.std.specs.Prelude.{codes, bytes_eq, cond}
 use Rattle.std.specs.Int.{int_wrap}
 use Rattle.std.specs.Fmt.{digits}
@@ -25,24 +26,22 @@ builds name source =
     chunk (returning (assign (global "x") dots ∷ []) (bin Add (global "x") (int 1) ∷ global "x" ∷ []))))
     (refused_at 1 None))))
 
+-- print(load(source))
+abbrev prints_load : (source : String) → Option (List ℕ × ℕ)
+prints_load source = run_with builds 6000 (chunk (block (prints (call (global "load") (str source ∷ []) ∷ []) ∷ []))) [] usual
+
 -- print(load("x ="))
-refused_at_its_end : run_with builds 6000 (
-    chunk (block (prints (call (global "load") (str "x =" ∷ []) ∷ []) ∷ []))) [] usual
-    ≡ ran "nil\t[string]:1: source refused\nreturn\n" 0
+refused_at_its_end : prints_load "x =" ≡ ran "nil\t[string]:1: source refused\nreturn\n" 0
 unfolding int_wrap digits raw_set put_metatable row primitive_values constant_values library_table environment
 refused_at_its_end = refl
 
 -- print(load("x = 1\ny = = 2"))
-refused_in_line_two : run_with builds 6000 (
-    chunk (block (prints (call (global "load") (str "x = 1\ny = = 2" ∷ []) ∷ []) ∷ []))) [] usual
-    ≡ ran "nil\t[string]:2: source refused\nreturn\n" 0
+refused_in_line_two : prints_load "x = 1\ny = = 2" ≡ ran "nil\t[string]:2: source refused\nreturn\n" 0
 unfolding int_wrap digits raw_set put_metatable row primitive_values constant_values library_table environment
 refused_in_line_two = refl
 
 -- print(load("local a <foo> = 1"))
-breaks_a_rule : run_with builds 6000 (
-    chunk (block (prints (call (global "load") (str "local a <foo> = 1" ∷ []) ∷ []) ∷ []))) [] usual
-    ≡ ran "nil\t[string]:1: source refused by rule 7\nreturn\n" 0
+breaks_a_rule : prints_load "local a <foo> = 1" ≡ ran "nil\t[string]:1: source refused by rule 7\nreturn\n" 0
 unfolding int_wrap digits raw_set put_metatable row primitive_values constant_values library_table environment
 breaks_a_rule = refl
 
