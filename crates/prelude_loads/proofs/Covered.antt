@@ -8,7 +8,7 @@ use Rattle.machine_core.specs.World.{Function, Coroutine, World}
 use Rattle.machine_alike.specs.Agree.{Pairs, SameNumber}
 use Rattle.image_core.specs.Visit.{place, IsMet, greatest_count}
 use Rattle.image_core.specs.Image.{Item, Record, closed_record}
-use Rattle.image_core.specs.Records.{Part, an_object, a_cell, same_part, of_value, field_parts, parts, is_reached, parts_in_order, Naming, record_of, naming, image_by}
+use Rattle.image_core.specs.Records.{Part, an_object, a_cell, same_part, of_value, field_parts, parts, is_reached, parts_in_order, record_of, naming, image_by}
 use Rattle.image_core.specs.Loading.{is_kind, is_of, is_cell, rank, Target, count_in, new_number, table_made, function_made, coroutine_made, chosen, or_number, loading}
 use Rattle.image_core.proofs.Lists.{get_split, map_some, chosen_from, place_met, place_get, get_met, order_once}
 use Rattle.image_core.proofs.Making.{table_yes, table_no, function_yes, function_no, coroutine_yes, coroutine_no}
@@ -24,26 +24,24 @@ module _ (base : Pairs) (W V : World) (T : Target) (name : Value → Option Item
   abbrev os : List Part
   os = parts_in_order W name roots
 
-  abbrev N : Naming
-  N = naming W name roots
-
   abbrev records : List Record
   records = (image_by W name roots).records
 
   abbrev q : Pairs
   q = loading base T os records
 
-  abbrev root_parts : List Part
-  root_parts = flat_map (λ v. field_parts name (of_value v)) roots
+  -- the record that a part has in the image
+  abbrev record_in : Part → Record
+  record_in o = record_of (naming W name roots) W o
 
   -- what has a record of an object's sort is an object of that sort
-  part_of : (kind : Kind) (o : Part) → IsWritten W name roots o → is_of kind (record_of N W o) ≡ true → (i : ℕ) × (o ≡ an_object kind i)
+  part_of : (kind : Kind) (o : Part) → IsWritten W name roots o → is_of kind (record_in o) ≡ true → (i : ℕ) × (o ≡ an_object kind i)
   part_of kind (an_object k i) w h = let e : k ≡ kind = kind_is k kind (sym (ap (is_kind kind) w) ∙ h) in (i, ap (λ k. an_object k i) e)
-  part_of kind (a_cell i) w h = absurd (no_both kind (record_of N W (a_cell i)) w h)
+  part_of kind (a_cell i) w h = absurd (no_both kind (record_in (a_cell i)) w h)
 
   paired : (kind : Kind) (n : ℕ) (r : Record) → slice_get records n ≡ Some r → is_of kind r ≡ true → (i : ℕ) × SameNumber q kind i (new_number T records kind n)
   paired kind n r e is =
-      let o = map_some (record_of N W) (slice_get os n) r (sym (slice_get-map (record_of N W) os n) ∙ e) in
+      let o = map_some record_in (slice_get os n) r (sym (slice_get-map record_in os n) ∙ e) in
       let m : IsMet same_part os o.0 = get_met same_part part_tells part_self os o.0 n o.1 in
       let k = part_of kind o.0 (can.written o.0 m) (ap (is_of kind) o.2 ∙ is) in
       let part : Part = an_object kind k.0 in
@@ -51,7 +49,7 @@ module _ (base : Pairs) (W V : World) (T : Target) (name : Value → Option Item
       let met : IsMet same_part os part = subst (IsMet same_part os) k.1 m in
       let l = place_met same_part part_tells os part met in
       let there : slice_get os l.0 ≡ Some part = place_get same_part part_tells os part l.0 l.1 in
-      let same : l.0 ≡ n = order_once same_part part_tells part_self (parts W name (is_reached W name roots)) greatest_count root_parts l.0 n part there at in
+      let same : l.0 ≡ n = order_once same_part part_tells part_self (parts W name (is_reached W name roots)) greatest_count (flat_map (λ v. field_parts name (of_value v)) roots) l.0 n part there at in
       let number : ℕ → ℕ = new_number T records kind in
       (k.0, ap (λ (b : Option ℕ). or_number b (option_map number (place same_part os part))) (can.new_objects kind k.0 met) ∙ ap (option_map number) (l.1 ∙ ap Some same))
 
