@@ -13,6 +13,7 @@ use Rattle.machine_sound.specs.Safe.{waiting, WaitsUnder}
 use Rattle.machine_sound.proofs.Lists.{each_none, each_one, each_push, each_on, bind_at, get_front, get_push_old, get_within}
 use Rattle.machine_sound.proofs.Values.{arg_valid}
 use Rattle.machine_sound.proofs.Grow.{Grows, grows_self, valid_on, values_on, table_on, function_on, coroutine_on, each_waits_on, roots_on}
+use Rattle.machine_sound.proofs.Budgets.{solid_budget}
 use Rattle.machine_sound.proofs.Chains.{chain_beside}
 use Rattle.machine_sound.proofs.Moves.{made_so}
 use Rattle.machine_sound.proofs.WaitingMoves.{WaitingGood, stays}
@@ -125,23 +126,7 @@ printed_is x env W = refl
 pub print_waits : (n : ℕ) (x : Arg) → WaitingGood n (print x)
 print_waits n x s env W i r =
     let X : World = record W { printed = W.printed ++ bytes_in (arg env x) } in
-    let solid : Solid n X = record {
-      tables = i.solid.tables;
-      functions = i.solid.functions;
-      cells = i.solid.cells;
-      one_each = i.solid.one_each;
-      coroutines = i.solid.coroutines;
-      chain = i.solid.chain;
-      moving = i.solid.moving;
-      roots = record {
-        string_metatable = i.solid.roots.string_metatable;
-        globals = i.solid.roots.globals;
-        prelude_environment = i.solid.roots.prelude_environment;
-        prelude_functions = i.solid.roots.prelude_functions;
-        special_key = i.solid.roots.special_key;
-        main = i.solid.roots.main;
-      };
-    } in
+    let solid : Solid n X = solid_budget n W (W.printed ++ bytes_in (arg env x)) W.fuel i.solid in
     let h = i.phase.all in
     record {
       event = tt;
