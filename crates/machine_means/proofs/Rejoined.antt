@@ -13,14 +13,5 @@ pub rejoined : (lax after : Bool) (M : machine.World) (T : TalkWorld) (k : Joine
     (values : List Value) (talks : List (talk.Coroutine State)) (links : List ℕ) (frames : List TalkFrame) (now : Now) (left : ℕ) (held : List (List Held))
     → fuel ≡ left → chain ≡ reverse links → CellsPair cells values held → CoroutinesPair M.functions values (λ fs hs. Stacks after M.functions values fs frames hs) coroutines talks held
     → Joined after (record M { cells = cells; coroutines = coroutines; chain = chain; moving = moving; fuel = fuel }) (record T { cells = values; coroutines = talks; chain = links; frames = frames; now = now; fuel = left })
-rejoined lax after M T k cells coroutines chain moving fuel values talks links frames now left held paid linked by_cells by_coroutines = record {
-  heap = k.heap;
-  globals = k.globals;
-  printed = k.printed;
-  fuel = paid;
-  chain = linked;
-  functions = k.functions;
-  held = held;
-  cells = by_cells;
-  coroutines = by_coroutines;
-}
+rejoined lax after M T k cells coroutines chain moving fuel values talks links frames now left held paid linked by_cells by_coroutines =
+    record { heap = k.heap; globals = k.globals; printed = k.printed; fuel = paid; chain = linked; functions = k.functions; held = held; cells = by_cells; coroutines = by_coroutines }

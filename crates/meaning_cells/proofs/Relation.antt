@@ -45,18 +45,7 @@ pub record Held (ps : Cells) (size : ℕ) (hd : List (ℕ × ℕ)) (gd : List (�
   pub settled : (c d : ℕ) → Has c d ps.pairs → ((n : ℕ) → Has n c hd → ⊥) → nth (shared_in gd ps.stored) c ≡ nth (shared_in gc ps.stored_too) d
 
 pub held_more : (ps : Cells) (a b : ℕ) (hd : List (ℕ × ℕ)) (gd : List (ℕ × Value)) (hc : List (ℕ × ℕ)) (gc : List (ℕ × Value)) → Held ps a hd gd hc gc → ((n c : ℕ) → Has n c hd → n < b) → Held ps b hd gd hc gc
-held_more ps a b hd gd hc gc h l = record {
-  cells = h.cells;
-  one_d = h.one_d;
-  one_c = h.one_c;
-  once = h.once;
-  scope = l;
-  both = h.both;
-  each = h.each;
-  mine = h.mine;
-  gone = h.gone;
-  settled = h.settled;
-}
+held_more ps a b hd gd hc gc h l = record { cells = h.cells; one_d = h.one_d; one_c = h.one_c; once = h.once; scope = l; both = h.both; each = h.each; mine = h.mine; gone = h.gone; settled = h.settled }
 
 -- in the second form too a cell is held for one local
 once_too : (ps : Cells) (a : ℕ) (hd : List (ℕ × ℕ)) (gd : List (ℕ × Value)) (hc : List (ℕ × ℕ)) (gc : List (ℕ × Value)) → Held ps a hd gd hc gc → (n m d : ℕ) → Has n d hc → Has m d hc → n ≡ m

@@ -54,16 +54,7 @@ module _ (y : Home) (H : Heap) (h : HeapOk y H) where
   raw_length_ok _ a = tt
 
   settles : Settles (Apart y.table) (HeapOk y) (Unit {0}) H
-  settles = record {
-    right = h;
-    nils = tt;
-    truths = λ b. tt;
-    numbers = λ i. tt;
-    texts = λ s fits. tt;
-    reads = λ m t e. (h.tables m t e).rows;
-    writes = set_raw_ok;
-    measures = raw_length_ok;
-  }
+  settles = record { right = h; nils = tt; truths = λ b. tt; numbers = λ i. tt; texts = λ s fits. tt; reads = λ m t e. (h.tables m t e).rows; writes = set_raw_ok; measures = raw_length_ok }
 
   pub raw_get_ok : (o key : Value) → OptionOk (Apart y.table) (raw_get H o key)
   raw_get_ok o key = get_by (Apart y.table) (HeapOk y) (Unit {0}) H settles o key

@@ -99,18 +99,7 @@ module _ {A B S T : Type 0} (Sa : System A S) (Sb : System B T) (R : Bool → A 
     left_begun = begun Sa pa W (script a name lines) budget
 
     abbrev whole : Heap → List (Function B) → List Value → List (Coroutine T) → ℕ → List ℕ → ℕ → World B T
-    whole heap functions cells coroutines globals chain count = record {
-      heap = heap;
-      functions = functions;
-      cells = cells;
-      coroutines = coroutines;
-      globals = globals;
-      printed = [];
-      fuel = budget;
-      chain = chain;
-      frames = talking count (Sb.starts b []) ∷ [];
-      now = talks;
-    }
+    whole heap functions cells coroutines globals chain count = record { heap = heap; functions = functions; cells = cells; coroutines = coroutines; globals = globals; printed = []; fuel = budget; chain = chain; frames = talking count (Sb.starts b []) ∷ []; now = talks }
 
     all_functions : dress_functions (W.functions ++ main_of_left ∷ []) bs_there ≡ V.functions ++ function_of b name lines (length V.cells ∷ []) ∷ []
     all_functions =
