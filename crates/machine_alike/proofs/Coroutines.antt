@@ -27,16 +27,7 @@ put_coroutine_same p W X co co' c d a h s = coroutine_agrees p W X co co' c d a 
 pub chain_agrees : (p : Pairs) (W X : World) (cs ds : List ℕ) → AgreeInTurn p W X → AllZip (SameNumber p a_coroutine) cs ds → AgreeInTurn p (record W { chain = cs }) (record X { chain = ds })
 chain_agrees p W X cs ds a h = record {
   objects = a.objects;
-  roots = record {
-    globals = a.roots.globals;
-    string_metatable = a.roots.string_metatable;
-    prelude_environment = a.roots.prelude_environment;
-    prelude_functions = a.roots.prelude_functions;
-    special_key = a.roots.special_key;
-    max_depth = a.roots.max_depth;
-    main = a.roots.main;
-    chain = h;
-  };
+  roots = record { globals = a.roots.globals; string_metatable = a.roots.string_metatable; prelude_environment = a.roots.prelude_environment; prelude_functions = a.roots.prelude_functions; special_key = a.roots.special_key; max_depth = a.roots.max_depth; main = a.roots.main; chain = h };
   moving = a.moving;
   printed = a.printed;
   fuel = a.fuel;

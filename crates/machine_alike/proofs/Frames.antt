@@ -44,16 +44,7 @@ heap_of p W X a = record { one_to_one = a.objects.one_to_one; tables = a.objects
 pub heap_agrees : (p : Pairs) (W X : World) (H I : Heap) → AgreeInTurn p W X → SameHeap p H I → AgreeInTurn p (record W { heap = H }) (record X { heap = I })
 heap_agrees p W X H I a h = record {
   objects = record { one_to_one = a.objects.one_to_one; tables = h.tables; functions = a.objects.functions; coroutines = a.objects.coroutines; cells = a.objects.cells; one_each = a.objects.one_each };
-  roots = record {
-    globals = a.roots.globals;
-    string_metatable = h.string_metatable;
-    prelude_environment = a.roots.prelude_environment;
-    prelude_functions = a.roots.prelude_functions;
-    special_key = a.roots.special_key;
-    max_depth = a.roots.max_depth;
-    main = a.roots.main;
-    chain = a.roots.chain;
-  };
+  roots = record { globals = a.roots.globals; string_metatable = h.string_metatable; prelude_environment = a.roots.prelude_environment; prelude_functions = a.roots.prelude_functions; special_key = a.roots.special_key; max_depth = a.roots.max_depth; main = a.roots.main; chain = a.roots.chain };
   moving = a.moving;
   printed = a.printed;
   fuel = a.fuel;

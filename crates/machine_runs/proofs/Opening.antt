@@ -288,15 +288,7 @@ module _ (n : ℕ) (W : World) (main : Prototype) (s : Solid n W) (still : W.cha
 
   chain_new : ChainOk (Some (length W.coroutines)) (map standing V.coroutines) W.chain
   chain_new = subst (λ st. ChainOk (Some (length W.coroutines)) st W.chain) (sym (map-append standing W.coroutines (fresh (object a_function (length W.functions)) ∷ [])))
-      (chain_beside (Some (length W.coroutines)) (map standing W.coroutines) W.chain (record {
-        first = λ co e. absurd (no_item 0 co (subst (λ ch. slice_get ch 0 ≡ Some co) still e));
-        last_runs = s.chain.last_runs;
-        before = s.chain.before;
-        running_in = s.chain.running_in;
-        normal_in = s.chain.normal_in;
-        once = s.chain.once;
-        bound = s.chain.bound;
-      }))
+      (chain_beside (Some (length W.coroutines)) (map standing W.coroutines) W.chain (record { first = λ co e. absurd (no_item 0 co (subst (λ ch. slice_get ch 0 ≡ Some co) still e)); last_runs = s.chain.last_runs; before = s.chain.before; running_in = s.chain.running_in; normal_in = s.chain.normal_in; once = s.chain.once; bound = s.chain.bound }))
 
   solid_new : Solid n V
   solid_new =
