@@ -117,6 +117,28 @@ module _ (p : Pairs) (A B : Objects) (a : SameObjects p A B) where
   pub extends_table : Extends p table_pair
   extends_table = extends_object p a_table (length A.tables) (length B.tables) (fresh_left (SameTable p) (p.objects a_table) A.tables B.tables a.tables)
 
+  abbrev pub function_pair : Pairs
+  function_pair = with_object p a_function (length A.functions) (length B.functions)
+
+  pub extends_function : Extends p function_pair
+  extends_function = extends_object p a_function (length A.functions) (length B.functions) (fresh_left (SameFunction p) (p.objects a_function) A.functions B.functions a.functions)
+
+  abbrev pub coroutine_pair : Pairs
+  coroutine_pair = with_object p a_coroutine (length A.coroutines) (length B.coroutines)
+
+  pub extends_coroutine : Extends p coroutine_pair
+  extends_coroutine = extends_object p a_coroutine (length A.coroutines) (length B.coroutines) (fresh_left (SameCoroutine p) (p.objects a_coroutine) A.coroutines B.coroutines a.coroutines)
+
+  -- objects of another kind than the one that gets a pair
+  tables_kept : (k : Kind) (i j : ℕ) → (a_table ≡ k → ⊥) → Extends p (with_object p k i j) → (n m : ℕ) → SameNumber (with_object p k i j) a_table n m → Both (SameTable (with_object p k i j)) (slice_get A.tables n) (slice_get B.tables m)
+  tables_kept k i j ne e n m h = both_on (SameTable p) (SameTable (with_object p k i j)) (table_on p (with_object p k i j) e) (slice_get A.tables n) (slice_get B.tables m) (a.tables n m (other_kind p k i j a_table n m ne h))
+
+  functions_kept : (k : Kind) (i j : ℕ) → (a_function ≡ k → ⊥) → Extends p (with_object p k i j) → (n m : ℕ) → SameNumber (with_object p k i j) a_function n m → Both (SameFunction (with_object p k i j)) (slice_get A.functions n) (slice_get B.functions m)
+  functions_kept k i j ne e n m h = both_on (SameFunction p) (SameFunction (with_object p k i j)) (function_on p (with_object p k i j) e) (slice_get A.functions n) (slice_get B.functions m) (a.functions n m (other_kind p k i j a_function n m ne h))
+
+  coroutines_kept : (k : Kind) (i j : ℕ) → (a_coroutine ≡ k → ⊥) → Extends p (with_object p k i j) → (n m : ℕ) → SameNumber (with_object p k i j) a_coroutine n m → Both (SameCoroutine (with_object p k i j)) (slice_get A.coroutines n) (slice_get B.coroutines m)
+  coroutines_kept k i j ne e n m h = both_on (SameCoroutine p) (SameCoroutine (with_object p k i j)) (coroutine_on p (with_object p k i j) e) (slice_get A.coroutines n) (slice_get B.coroutines m) (a.coroutines n m (other_kind p k i j a_coroutine n m ne h))
+
   pub add_table_same : (t u : Table) → SameTable p t u → SameObjects table_pair (record A { tables = A.tables ++ t ∷ [] }) (record B { tables = B.tables ++ u ∷ [] })
   add_table_same t u s =
       let q = table_pair in
@@ -124,17 +146,11 @@ module _ (p : Pairs) (A B : Objects) (a : SameObjects p A B) where
       record {
         one_to_one = one_object p a_table (length A.tables) (length B.tables) a.one_to_one (fresh_right (SameTable p) (p.objects a_table) A.tables B.tables a.tables);
         tables = both_grown (SameTable p) (SameTable q) (table_on p q e) p a_table A.tables B.tables t u (table_on p q e t u s) a.tables;
-        functions = λ i j h. both_on (SameFunction p) (SameFunction q) (function_on p q e) (slice_get A.functions i) (slice_get B.functions j) (a.functions i j (other_kind p a_table (length A.tables) (length B.tables) a_function i j (λ x. cc) h));
-        coroutines = λ i j h. both_on (SameCoroutine p) (SameCoroutine q) (coroutine_on p q e) (slice_get A.coroutines i) (slice_get B.coroutines j) (a.coroutines i j (other_kind p a_table (length A.tables) (length B.tables) a_coroutine i j (λ x. cc) h));
+        functions = functions_kept a_table (length A.tables) (length B.tables) (λ x. cc) e;
+        coroutines = coroutines_kept a_table (length A.tables) (length B.tables) (λ x. cc) e;
         cells = λ i j h. both_on (SameCell p A.coroutines B.coroutines) (SameCell q A.coroutines B.coroutines) (cells_kept p a_table (length A.tables) (length B.tables) A.coroutines B.coroutines (λ x. cc) e) (slice_get A.cells i) (slice_get B.cells j) (a.cells i j h);
         one_each = a.one_each;
       }
-
-  abbrev pub function_pair : Pairs
-  function_pair = with_object p a_function (length A.functions) (length B.functions)
-
-  pub extends_function : Extends p function_pair
-  extends_function = extends_object p a_function (length A.functions) (length B.functions) (fresh_left (SameFunction p) (p.objects a_function) A.functions B.functions a.functions)
 
   pub add_function_same : (f g : Function) → SameFunction p f g → SameObjects function_pair (record A { functions = A.functions ++ f ∷ [] }) (record B { functions = B.functions ++ g ∷ [] })
   add_function_same f g s =
@@ -142,18 +158,12 @@ module _ (p : Pairs) (A B : Objects) (a : SameObjects p A B) where
       let e = extends_function in
       record {
         one_to_one = one_object p a_function (length A.functions) (length B.functions) a.one_to_one (fresh_right (SameFunction p) (p.objects a_function) A.functions B.functions a.functions);
-        tables = λ i j h. both_on (SameTable p) (SameTable q) (table_on p q e) (slice_get A.tables i) (slice_get B.tables j) (a.tables i j (other_kind p a_function (length A.functions) (length B.functions) a_table i j (λ x. cc) h));
+        tables = tables_kept a_function (length A.functions) (length B.functions) (λ x. cc) e;
         functions = both_grown (SameFunction p) (SameFunction q) (function_on p q e) p a_function A.functions B.functions f g (function_on p q e f g s) a.functions;
-        coroutines = λ i j h. both_on (SameCoroutine p) (SameCoroutine q) (coroutine_on p q e) (slice_get A.coroutines i) (slice_get B.coroutines j) (a.coroutines i j (other_kind p a_function (length A.functions) (length B.functions) a_coroutine i j (λ x. cc) h));
+        coroutines = coroutines_kept a_function (length A.functions) (length B.functions) (λ x. cc) e;
         cells = λ i j h. both_on (SameCell p A.coroutines B.coroutines) (SameCell q A.coroutines B.coroutines) (cells_kept p a_function (length A.functions) (length B.functions) A.coroutines B.coroutines (λ x. cc) e) (slice_get A.cells i) (slice_get B.cells j) (a.cells i j h);
         one_each = a.one_each;
       }
-
-  abbrev pub coroutine_pair : Pairs
-  coroutine_pair = with_object p a_coroutine (length A.coroutines) (length B.coroutines)
-
-  pub extends_coroutine : Extends p coroutine_pair
-  extends_coroutine = extends_object p a_coroutine (length A.coroutines) (length B.coroutines) (fresh_left (SameCoroutine p) (p.objects a_coroutine) A.coroutines B.coroutines a.coroutines)
 
   -- who is paired now, and has a register, was so before
   was_first : (co frame register : ℕ) (v : Value) → register_at A.coroutines co frame register ≡ Some v → IsFirst coroutine_pair co → IsFirst p co
@@ -170,8 +180,8 @@ module _ (p : Pairs) (A B : Objects) (a : SameObjects p A B) where
       let e = extends_coroutine in
       record {
         one_to_one = one_object p a_coroutine (length A.coroutines) (length B.coroutines) a.one_to_one (fresh_right (SameCoroutine p) (p.objects a_coroutine) A.coroutines B.coroutines a.coroutines);
-        tables = λ i j h. both_on (SameTable p) (SameTable q) (table_on p q e) (slice_get A.tables i) (slice_get B.tables j) (a.tables i j (other_kind p a_coroutine (length A.coroutines) (length B.coroutines) a_table i j (λ x. cc) h));
-        functions = λ i j h. both_on (SameFunction p) (SameFunction q) (function_on p q e) (slice_get A.functions i) (slice_get B.functions j) (a.functions i j (other_kind p a_coroutine (length A.coroutines) (length B.coroutines) a_function i j (λ x. cc) h));
+        tables = tables_kept a_coroutine (length A.coroutines) (length B.coroutines) (λ x. cc) e;
+        functions = functions_kept a_coroutine (length A.coroutines) (length B.coroutines) (λ x. cc) e;
         coroutines = both_grown (SameCoroutine p) (SameCoroutine q) (coroutine_on p q e) p a_coroutine A.coroutines B.coroutines c d (coroutine_on p q e c d s) a.coroutines;
         cells = λ i j h. both_on (SameCell p A.coroutines B.coroutines) (SameCell q (A.coroutines ++ c ∷ []) (B.coroutines ++ d ∷ []))
             (cell_on p q e A.coroutines B.coroutines (A.coroutines ++ c ∷ []) (B.coroutines ++ d ∷ [])
