@@ -80,7 +80,7 @@ seen_twice ps n ks p k s g e h =
     let r = found_key ks k h in
     let m = map_get (λ (p : Perm). p.key) (take n ps) r.0 (shown k) (ap (λ l. slice_get l r.0) (sym s.keys) ∙ r.1) in
     let t = get_take ps n r.0 m.0 m.1 in
-    record { first = r.0; second = n; one = m.0; other = p; before = t.1; is_one = t.0; is_other = g; equal = m.2 ∙ e }
+    (n, record { first = r.0; one = m.0; other = p; before = t.1; is_one = t.0; is_other = g; equal = m.2 ∙ e })
 
 pub one_more_seen : (ps : List Perm) (n : ℕ) (ks : List Key) (p : Perm) (k : Key) → AreSeen ps n ks → slice_get ps n ≡ Some p → shown k ≡ p.key → list_any (key_eq k) ks ≡ false → AreSeen ps (n + 1) (ks ++ k ∷ [])
 one_more_seen ps n ks p k s g e h = record { keys = keys; once = once }

@@ -93,9 +93,10 @@ module _ (W : Memory) (roots : List Kept) (ps : Permanents) (base : permanents p
 
   pub never_equal : HaveEqualKeys (permanents ps) → ⊥
   never_equal h =
-      let same = (base_inverse (length function_keys) (omega arith)).once h.first h.second h.one h.other (subst (λ perms. slice_get perms h.first ≡ Some h.one) base h.is_one)
-      (subst (λ perms. slice_get perms h.second ≡ Some h.other) base h.is_other) h.equal in
-      let before = h.before in
+      let k = h.1 in
+      let same = (base_inverse (length function_keys) (omega arith)).once k.first h.0 k.one k.other (subst (λ perms. slice_get perms k.first ≡ Some k.one) base k.is_one)
+      (subst (λ perms. slice_get perms h.0 ≡ Some k.other) base k.is_other) k.equal in
+      let before = k.before in
       omega (arith, same, before)
 
   pub never_refused : (r : Refusal) → MayGoOn W → IsAsMade W → IsRefused W roots ps r → ⊥
