@@ -17,7 +17,7 @@ use Rattle.list_laws.specs.Held.{Held, Has}
 use Rattle.machine_means.specs.Joined.{Holds, RegistersPair}
 use Rattle.machine_means.proofs.Held.{holds_less}
 use Rattle.machine_means.proofs.FrameNumbers.{value_in, frame_top, frame_below, put_frame}
-use Rattle.machine_means.specs.Joined.{TalkFrame, Pair, under, Below, Stacks, HoldsOf, HoldsIn, CellsPair, Asleep}
+use Rattle.machine_means.specs.Joined.{TalkFrame, LuaPair, Pair, under, Below, Stacks, HoldsOf, HoldsIn, CellsPair, Asleep}
 
 -- what is held by one stack alone
 pub record Apart (hs : List Held) : Type 0 where
@@ -32,15 +32,20 @@ below_length lax fs vs [] [] [] k = refl
 below_length lax fs vs (m ∷ ms) (t ∷ ts) (h ∷ hs) k = ap suc (below_length (under m) fs vs ms ts hs k.1)
 below_length lax fs vs _ _ _ k = absurd k
 
+-- frames of two lists of functions and of cells stand for each other where those that have an activation do
+pub pair_on : (lax : Bool) (fs gs : List machine.Function) (vs ws : List Value) (m : machine.Frame) (t : TalkFrame) (h : Held)
+    → ((lo : Bool) (fr : LuaFrame) (asker : talk.Asker State) → LuaPair lo fs vs fr asker h → LuaPair lo gs ws fr asker h) → Pair lax fs vs m t h → Pair lax gs ws m t h
+pair_on lax fs gs vs ws (lua fr) (waiting asker) h on k = on false fr asker k
+pair_on true fs gs vs ws (lua fr) (raising asker) h on k = on true fr asker k
+pair_on lax fs gs vs ws pcall protected h on k = k
+pair_on lax fs gs vs ws (xpcall v) (handled_by u) h on k = k
+pair_on lax fs gs vs ws handler handling h on k = k
+pair_on lax fs gs vs ws (machine.closing e us) (talk.closing d xs) h on k = k
+pair_on lax fs gs vs ws _ _ h on k = absurd k
+
 -- cells that no frame here holds may change
 pub pair_values : (lax : Bool) (fs : List machine.Function) (vs vs' : List Value) (m : machine.Frame) (t : TalkFrame) (h : Held) → ((r c : ℕ) → Has r c h → nth vs' c ≡ nth vs c) → Pair lax fs vs m t h → Pair lax fs vs' m t h
-pair_values lax fs vs vs' (lua fr) (waiting a) h e k = let o = k.2 in (k.0, k.1, record { size = o.size; off = o.off; on = λ r c m. e r c m ∙ o.on r c m })
-pair_values true fs vs vs' (lua fr) (raising a) h e k = let o = k.2 in (k.0, k.1, record { size = o.size; off = o.off; on = λ r c m. e r c m ∙ o.on r c m })
-pair_values lax fs vs vs' pcall protected h e k = k
-pair_values lax fs vs vs' (xpcall v) (handled_by u) h e k = k
-pair_values lax fs vs vs' handler handling h e k = k
-pair_values lax fs vs vs' (machine.closing d us) (talk.closing d' ws) h e k = k
-pair_values lax fs vs vs' _ _ h e k = absurd k
+pair_values lax fs vs vs' m t h e k = pair_on lax fs fs vs vs' m t h (λ lo fr asker p. let o = p.2 in (p.0, p.1, record { size = o.size; off = o.off; on = λ r c n. e r c n ∙ o.on r c n })) k
 
 pub below_values : (lax : Bool) (fs : List machine.Function) (vs vs' : List Value) (ms : List machine.Frame) (ts : List TalkFrame) (hs : List Held) → ((f r c : ℕ) → Holds f r c hs → nth vs' c ≡ nth vs c) → Below lax fs vs ms ts hs → Below lax fs vs' ms ts hs
 below_values lax fs vs vs' [] [] [] e k = tt

@@ -11,12 +11,11 @@ use Rattle.list_laws.specs.Held.{Held, Has}
 use Rattle.list_laws.proofs.Ends.{upward}
 use Rattle.list_laws.proofs.Items.{get_set_same, get_set_other, get_old}
 use Rattle.machine_core.specs.World as machine
-use Rattle.machine_core.specs.World.{Function, Cell, closed, open_at, Wait, Activation, LuaFrame, Frame, lua, pcall, xpcall, handler, Coroutine, fresh, suspended, in_progress, normal, dead, failed}
+use Rattle.machine_core.specs.World.{Function, Cell, closed, open_at, Wait, Activation, LuaFrame, Frame, lua, Coroutine, fresh, suspended, in_progress, normal, dead, failed}
 use Rattle.machine_core.specs.Talk.{State}
 use Rattle.lua_meaning.specs.World as talk
-use Rattle.lua_meaning.specs.World.{waiting, raising, protected, handled_by, handling}
 use Rattle.machine_means.specs.Joined.{TalkFrame, TalkWorld, FunctionsPair, LuaPair, Pair, under, Below, Stacks, CoroutinePair, AllThree, CoroutinesPair, Holds, HoldsOf, HoldsIn, CellsPair}
-use Rattle.machine_means.proofs.FrameWrites.{one_owner, below_values}
+use Rattle.machine_means.proofs.FrameWrites.{one_owner, pair_on, below_values}
 use Rattle.machine_means.proofs.CellWrites.{all3_at, all3_map}
 use Rattle.machine_means.proofs.Switches.{Never, OnlyRuns, all3_apart, never_runs}
 use Rattle.machine_means.proofs.Held.{holds_less}
@@ -120,13 +119,7 @@ module _ (fs new : List Function) (vs : List Value) where
       )
 
   pair_more : (lax : Bool) (m : Frame) (t : TalkFrame) (h : Held) → Pair lax fs vs m t h → Pair lax (fs ++ new) vs m t h
-  pair_more lax (lua fr) (waiting asker) h k = asleep_more false fr asker h k
-  pair_more true (lua fr) (raising asker) h k = asleep_more true fr asker h k
-  pair_more lax pcall protected h k = k
-  pair_more lax (xpcall v) (handled_by u) h k = k
-  pair_more lax handler handling h k = k
-  pair_more lax (machine.closing e us) (talk.closing d ws) h k = k
-  pair_more lax _ _ h k = absurd k
+  pair_more lax m t h k = pair_on lax fs (fs ++ new) vs vs m t h (λ lo fr asker. asleep_more lo fr asker h) k
 
   pub below_more : (lax : Bool) (ms : List Frame) (ts : List TalkFrame) (hs : List Held) → Below lax fs vs ms ts hs → Below lax (fs ++ new) vs ms ts hs
   below_more lax [] [] [] k = tt
