@@ -6,16 +6,8 @@ use Rattle.machine_sound.proofs.Grow.{grows_self, roots_on}
 use Rattle.machine_sound.proofs.Tops.{same_top}
 
 pub solid_budget : (n : ℕ) (W : World) (printed : List ℕ) (fuel : ℕ) → Solid n W → Solid n (record W { printed = printed; fuel = fuel })
-solid_budget n W printed fuel s = record {
-  tables = s.tables;
-  functions = s.functions;
-  cells = s.cells;
-  one_each = s.one_each;
-  coroutines = s.coroutines;
-  chain = s.chain;
-  moving = s.moving;
-  roots = roots_on (sizes n W) (sizes n W) (grows_self (sizes n W)) W (record W { printed = printed; fuel = fuel }) s.roots refl refl refl refl refl refl;
-}
+solid_budget n W printed fuel s =
+    record { tables = s.tables; functions = s.functions; cells = s.cells; one_each = s.one_each; coroutines = s.coroutines; chain = s.chain; moving = s.moving; roots = roots_on (sizes n W) (sizes n W) (grows_self (sizes n W)) W (record W { printed = printed; fuel = fuel }) s.roots refl refl refl refl refl refl }
 
 rests_budget : (n : ℕ) (W : World) (printed : List ℕ) (fuel : ℕ) → Rests n W → Rests n (record W { printed = printed; fuel = fuel })
 rests_budget n W printed fuel (idle e) = idle e

@@ -91,23 +91,8 @@ module _ (z : Sizes) (old : List Cell) (p : Prototype) (co k : ℕ) (env : List 
   pub known_so : (t : Top) (own : Activation) (cells : List Cell) (h : Known t own cells) (at pc : ℕ) (runs : Bool) (size end opened n : ℕ) (vs : List Value) (qs : List ℕ) → at ≡ pc → opened ≡ end
       → length vs ≡ size → p.own.stack ≤ size → Each (Valid z) vs → ((i r : ℕ) → slice_get cells i ≡ Some (open_at co k r) → r < size) → Each (λ r. r < n) qs → Each (λ r. r < p.own.stack) qs
       → Known (record t { pc = pc; size = size; opened = end; pending = n; runs = runs }) (record own { pc = at; registers = vs; opened = opened; pending = qs }) cells
-  known_so t own cells h at pc runs size end opened n vs qs here e l s v c b q = record {
-    code = h.code;
-    pc = here;
-    size = l;
-    opened = e;
-    bound = b;
-    stack = s;
-    registers = v;
-    varargs = h.varargs;
-    pending = q;
-    cells_below = h.cells_below;
-    cells_there = c;
-    still_open = h.still_open;
-    closed_ok = h.closed_ok;
-    count = h.count;
-    captured = h.captured;
-  }
+  known_so t own cells h at pc runs size end opened n vs qs here e l s v c b q =
+      record { code = h.code; pc = here; size = l; opened = e; bound = b; stack = s; registers = v; varargs = h.varargs; pending = q; cells_below = h.cells_below; cells_there = c; still_open = h.still_open; closed_ok = h.closed_ok; count = h.count; captured = h.captured }
 
   changed : (t : Top) (own : Activation) (cells : List Cell) (h : Known t own cells) (size end opened n : ℕ) (vs : List Value) (qs : List ℕ) → opened ≡ end
       → length vs ≡ size → p.own.stack ≤ size → Each (Valid z) vs → ((i r : ℕ) → slice_get cells i ≡ Some (open_at co k r) → r < size) → Each (λ r. r < n) qs → Each (λ r. r < p.own.stack) qs
