@@ -140,30 +140,24 @@ module _ (p : Pairs) (A B : Objects) (a : SameObjects p A B) where
   coroutines_kept k i j ne e n m h = both_on (SameCoroutine p) (SameCoroutine (with_object p k i j)) (coroutine_on p (with_object p k i j) e) (slice_get A.coroutines n) (slice_get B.coroutines m) (a.coroutines n m (other_kind p k i j a_coroutine n m ne h))
 
   pub add_table_same : (t u : Table) → SameTable p t u → SameObjects table_pair (record A { tables = A.tables ++ t ∷ [] }) (record B { tables = B.tables ++ u ∷ [] })
-  add_table_same t u s =
-      let q = table_pair in
-      let e = extends_table in
-      record {
-        one_to_one = one_object p a_table (length A.tables) (length B.tables) a.one_to_one (fresh_right (SameTable p) (p.objects a_table) A.tables B.tables a.tables);
-        tables = both_grown (SameTable p) (SameTable q) (table_on p q e) p a_table A.tables B.tables t u (table_on p q e t u s) a.tables;
-        functions = functions_kept a_table (length A.tables) (length B.tables) (λ x. cc) e;
-        coroutines = coroutines_kept a_table (length A.tables) (length B.tables) (λ x. cc) e;
-        cells = λ i j h. both_on (SameCell p A.coroutines B.coroutines) (SameCell q A.coroutines B.coroutines) (cells_kept p a_table (length A.tables) (length B.tables) A.coroutines B.coroutines (λ x. cc) e) (slice_get A.cells i) (slice_get B.cells j) (a.cells i j h);
-        one_each = a.one_each;
-      }
+  add_table_same t u s = record {
+    one_to_one = one_object p a_table (length A.tables) (length B.tables) a.one_to_one (fresh_right (SameTable p) (p.objects a_table) A.tables B.tables a.tables);
+    tables = both_grown (SameTable p) (SameTable table_pair) (table_on p table_pair extends_table) p a_table A.tables B.tables t u (table_on p table_pair extends_table t u s) a.tables;
+    functions = functions_kept a_table (length A.tables) (length B.tables) (λ x. cc) extends_table;
+    coroutines = coroutines_kept a_table (length A.tables) (length B.tables) (λ x. cc) extends_table;
+    cells = λ i j h. both_on (SameCell p A.coroutines B.coroutines) (SameCell table_pair A.coroutines B.coroutines) (cells_kept p a_table (length A.tables) (length B.tables) A.coroutines B.coroutines (λ x. cc) extends_table) (slice_get A.cells i) (slice_get B.cells j) (a.cells i j h);
+    one_each = a.one_each;
+  }
 
   pub add_function_same : (f g : Function) → SameFunction p f g → SameObjects function_pair (record A { functions = A.functions ++ f ∷ [] }) (record B { functions = B.functions ++ g ∷ [] })
-  add_function_same f g s =
-      let q = function_pair in
-      let e = extends_function in
-      record {
-        one_to_one = one_object p a_function (length A.functions) (length B.functions) a.one_to_one (fresh_right (SameFunction p) (p.objects a_function) A.functions B.functions a.functions);
-        tables = tables_kept a_function (length A.functions) (length B.functions) (λ x. cc) e;
-        functions = both_grown (SameFunction p) (SameFunction q) (function_on p q e) p a_function A.functions B.functions f g (function_on p q e f g s) a.functions;
-        coroutines = coroutines_kept a_function (length A.functions) (length B.functions) (λ x. cc) e;
-        cells = λ i j h. both_on (SameCell p A.coroutines B.coroutines) (SameCell q A.coroutines B.coroutines) (cells_kept p a_function (length A.functions) (length B.functions) A.coroutines B.coroutines (λ x. cc) e) (slice_get A.cells i) (slice_get B.cells j) (a.cells i j h);
-        one_each = a.one_each;
-      }
+  add_function_same f g s = record {
+    one_to_one = one_object p a_function (length A.functions) (length B.functions) a.one_to_one (fresh_right (SameFunction p) (p.objects a_function) A.functions B.functions a.functions);
+    tables = tables_kept a_function (length A.functions) (length B.functions) (λ x. cc) extends_function;
+    functions = both_grown (SameFunction p) (SameFunction function_pair) (function_on p function_pair extends_function) p a_function A.functions B.functions f g (function_on p function_pair extends_function f g s) a.functions;
+    coroutines = coroutines_kept a_function (length A.functions) (length B.functions) (λ x. cc) extends_function;
+    cells = λ i j h. both_on (SameCell p A.coroutines B.coroutines) (SameCell function_pair A.coroutines B.coroutines) (cells_kept p a_function (length A.functions) (length B.functions) A.coroutines B.coroutines (λ x. cc) extends_function) (slice_get A.cells i) (slice_get B.cells j) (a.cells i j h);
+    one_each = a.one_each;
+  }
 
   -- who is paired now, and has a register, was so before
   was_first : (co frame register : ℕ) (v : Value) → register_at A.coroutines co frame register ≡ Some v → IsFirst coroutine_pair co → IsFirst p co
@@ -175,18 +169,15 @@ module _ (p : Pairs) (A B : Objects) (a : SameObjects p A B) where
       ⊎_elim (λ n. absurd (not_last B.coroutines co frame register v h n.2)) (λ o. (g.0, o)) (object_cases p a_coroutine (length A.coroutines) (length B.coroutines) a_coroutine g.0 co g.1)
 
   pub add_coroutine_same : (c d : Coroutine) → SameCoroutine p c d → SameObjects coroutine_pair (record A { coroutines = A.coroutines ++ c ∷ [] }) (record B { coroutines = B.coroutines ++ d ∷ [] })
-  add_coroutine_same c d s =
-      let q = coroutine_pair in
-      let e = extends_coroutine in
-      record {
-        one_to_one = one_object p a_coroutine (length A.coroutines) (length B.coroutines) a.one_to_one (fresh_right (SameCoroutine p) (p.objects a_coroutine) A.coroutines B.coroutines a.coroutines);
-        tables = tables_kept a_coroutine (length A.coroutines) (length B.coroutines) (λ x. cc) e;
-        functions = functions_kept a_coroutine (length A.coroutines) (length B.coroutines) (λ x. cc) e;
-        coroutines = both_grown (SameCoroutine p) (SameCoroutine q) (coroutine_on p q e) p a_coroutine A.coroutines B.coroutines c d (coroutine_on p q e c d s) a.coroutines;
-        cells = λ i j h. both_on (SameCell p A.coroutines B.coroutines) (SameCell q (A.coroutines ++ c ∷ []) (B.coroutines ++ d ∷ []))
-            (cell_on p q e A.coroutines B.coroutines (A.coroutines ++ c ∷ []) (B.coroutines ++ d ∷ [])
-            (λ co f r v n at. (λ g. n (was_first co f r v at g), still_at A.coroutines c co f r v at))
-            (λ co f r v n at. (λ g. n (was_second co f r v at g), still_at B.coroutines d co f r v at)))
-            (slice_get A.cells i) (slice_get B.cells j) (a.cells i j h);
-        one_each = a.one_each;
-      }
+  add_coroutine_same c d s = record {
+    one_to_one = one_object p a_coroutine (length A.coroutines) (length B.coroutines) a.one_to_one (fresh_right (SameCoroutine p) (p.objects a_coroutine) A.coroutines B.coroutines a.coroutines);
+    tables = tables_kept a_coroutine (length A.coroutines) (length B.coroutines) (λ x. cc) extends_coroutine;
+    functions = functions_kept a_coroutine (length A.coroutines) (length B.coroutines) (λ x. cc) extends_coroutine;
+    coroutines = both_grown (SameCoroutine p) (SameCoroutine coroutine_pair) (coroutine_on p coroutine_pair extends_coroutine) p a_coroutine A.coroutines B.coroutines c d (coroutine_on p coroutine_pair extends_coroutine c d s) a.coroutines;
+    cells = λ i j h. both_on (SameCell p A.coroutines B.coroutines) (SameCell coroutine_pair (A.coroutines ++ c ∷ []) (B.coroutines ++ d ∷ []))
+        (cell_on p coroutine_pair extends_coroutine A.coroutines B.coroutines (A.coroutines ++ c ∷ []) (B.coroutines ++ d ∷ [])
+        (λ co f r v n at. (λ g. n (was_first co f r v at g), still_at A.coroutines c co f r v at))
+        (λ co f r v n at. (λ g. n (was_second co f r v at g), still_at B.coroutines d co f r v at)))
+        (slice_get A.cells i) (slice_get B.cells j) (a.cells i j h);
+    one_each = a.one_each;
+  }
