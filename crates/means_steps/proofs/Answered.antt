@@ -238,18 +238,7 @@ module _ (rows : Primitives Prototype) (shown : List ℕ) (when : When) (n : ℕ
       pair : LuaPair true M.functions vs1 (frame n (leaving v0) own1) (asker_of (leaving (known nil)) a1 c1) c1.held
       pair = (
         a1,
-        record {
-          number = refl;
-          function = g;
-          there = k.there;
-          gone = c1.gone;
-          shares = refl;
-          at_line = refl;
-          waits = tt;
-          next = λ x i. left_alike v0 g.code a1.pc (record a1 { registers = brought c1.held x.shared a1.registers }) (record { held = c1.held; gone = [] }) x.reply i;
-          own = as_one a1 own1 al1.fixed;
-          not_own = at_rest.0.not_own;
-        },
+        record { number = refl; function = g; there = k.there; gone = c1.gone; shares = refl; at_line = refl; waits = tt; next = λ x i. left_alike v0 g.code a1.pc (record a1 { registers = brought c1.held x.shared a1.registers }) (record { held = c1.held; gone = [] }) x.reply i; own = as_one a1 own1 al1.fixed; not_own = at_rest.0.not_own },
         at_rest.1,
       )
 
