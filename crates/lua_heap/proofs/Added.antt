@@ -205,16 +205,7 @@ ended texts old now new p inner ids place own made checked u all e read same is_
       added = made ∷ u.added;
       list = written ∙ ap (λ xs. set xs place made) u.list ∙ set_at old u.own u.added made place (sym e);
       codes = (
-        record {
-          checked = checked;
-          words = h.words;
-          constants = h.constants;
-          stack = h.stack;
-          params = h.params;
-          vararg = h.vararg;
-          upvalues = h.upvalues;
-          inner = ap (map (λ (id : ProtoId). id.0)) is_ids ∙ u.numbered ∙ ap (numbers (suc (length old))) (sym all);
-        },
+        record { checked = checked; words = h.words; constants = h.constants; stack = h.stack; params = h.params; vararg = h.vararg; upvalues = h.upvalues; inner = ap (map (λ (id : ProtoId). id.0)) is_ids ∙ u.numbered ∙ ap (numbers (suc (length old))) (sym all) },
         rest,
       );
     }
