@@ -12,8 +12,8 @@ use Rattle.lua_meaning.specs.Meaning.{Script, Meaning, IsMeaning}
 use Rattle.lua_meaning.specs.Opening.{primitives}
 use Rattle.lua_meaning.specs.TreeMeaning.{trees, tree_opening}
 use Rattle.code_means.specs.Means.{Means}
-use Rattle.code_means.specs.Runs.{codes_run, RunAlike}
-use Rattle.runs_alike.specs.Alike.{BuildsAlike, IsMeantBy, script, CodeEnds, TreeEnds, WorldsAlike}
+use Rattle.code_means.specs.Runs.{codes_run}
+use Rattle.runs_alike.specs.Alike.{BuildsAlike, IsMeantBy, script, EndsAs, CodeEnds, TreeEnds, WorldsAlike}
 
 abbrev pub AreThere : List ℕ → (size : ℕ) → Type 0
 AreThere [] size = Unit {0}
@@ -25,10 +25,8 @@ pub record IsReady (W : World Body State) : Type 0 where
   pub functions : (n : ℕ) (f : Function Body) → slice_get W.functions n ≡ Some f → AreThere f.cells (length W.cells)
 
 -- a run in this form prints the same and ends alike
-pub record Ends (celling : Celling) (builds : Builds Body) (W : World Body State) (s : Script Body) (input : List (List ℕ)) (budget : ℕ) (m : Meaning Body State) : Type 0 where
-  pub meaning : Meaning Body State
-  pub is_meant : IsMeaning (trees celling) (primitives builds) W s input budget meaning
-  pub alike : RunAlike m meaning
+abbrev pub Ends : Celling → Builds Body → World Body State → Script Body → (input : List (List ℕ)) → (budget : ℕ) → Meaning Body State → Type 0
+Ends celling builds W s input budget m = EndsAs (trees celling) (primitives builds) W s input budget m
 
 abbrev pub RunsDoNotShowCells : Type 0
 RunsDoNotShowCells =

@@ -6,7 +6,7 @@ use Rattle.code_core.specs.Prototype.{Prototype}
 use Rattle.machine_core.specs.Talk.{State as CodeState}
 use Rattle.load_rows.specs.Loading.{Built, built, refused_at, Builds}
 use Rattle.library_rows.specs.Library.{Entry}
-use Rattle.lua_meaning.specs.World.{Function, Coroutine, fresh, running, dead, failed, World}
+use Rattle.lua_meaning.specs.World.{System, Function, Coroutine, fresh, running, dead, failed, World}
 use Rattle.lua_meaning.specs.Step.{Primitives}
 use Rattle.lua_meaning.specs.Meaning.{Script, Meaning, IsMeaning}
 use Rattle.lua_meaning.specs.Opening.{primitives}
@@ -69,11 +69,15 @@ IsMeantBy lines b p = Means lines p b
 abbrev pub script : {F : Type 0} → (main : F) → (name : List ℕ) → (has_lines : Bool) → Script F
 script main name has_lines = record { main = main; name = name; has_lines = has_lines }
 
--- what the tree means, the code means as well
-pub record CodeEnds (code_built : Builds Prototype) (W : World Prototype CodeState) (s : Script Prototype) (input : List (List ℕ)) (budget : ℕ) (m : Meaning Body TreeState) : Type 0 where
-  pub meaning : Meaning Prototype CodeState
-  pub is_meant : IsMeaning codes_run (primitives code_built) W s input budget meaning
+-- a run of a script that prints the same as another run, and ends alike
+pub record EndsAs {F S G T : Type 0} (system : System F S) (known : Primitives F) (W : World F S) (s : Script F) (input : List (List ℕ)) (budget : ℕ) (m : Meaning G T) : Type 0 where
+  pub meaning : Meaning F S
+  pub is_meant : IsMeaning system known W s input budget meaning
   pub alike : RunAlike m meaning
+
+-- what the tree means, the code means as well
+abbrev pub CodeEnds : Builds Prototype → World Prototype CodeState → Script Prototype → (input : List (List ℕ)) → (budget : ℕ) → Meaning Body TreeState → Type 0
+CodeEnds code_built W s input budget m = EndsAs codes_run (primitives code_built) W s input budget m
 
 -- and the other way round, of a tree whose locals get their cells in this form
 pub record TreeEnds (celling : Celling) (trees_built : Builds Body) (W : World Body TreeState) (s : Script Body) (input : List (List ℕ)) (budget : ℕ) (m : Meaning Prototype CodeState) : Type 0 where
