@@ -96,34 +96,42 @@ UnwindingIsSafe = (primitives : ℕ) (W : Memory) (top : TopShape) → IsReady p
 abbrev pub UnwindingIsStep : Type 0
 UnwindingIsStep = (rows : ℕ → Row) (old new : Memory) (fuel : ℕ) (to : Ending) (top : TopShape) → Makes old old see_top [] [] top → Leads (unwound top) [] old new to → Does rows unwinding old fuel new fuel to
 
--- so it is with the whole rows, which look at what is on top first
-abbrev pub ResultsAreSafe : Type 0
-ResultsAreSafe = (primitives : ℕ) (W : Memory) → IsReady primitives returned W → IsSafe results_row [] W
+-- a row does not trap where it comes next, and what it does is the machine's step
+abbrev pub RowIsSafe : Ending → Row → Type 0
+RowIsSafe next row = (primitives : ℕ) (W : Memory) → IsReady primitives next W → IsSafe row [] W
 
-abbrev pub ResultsAreStep : Type 0
-ResultsAreStep = (rows : ℕ → Row) (old new : Memory) (fuel : ℕ) (to : Ending) → Leads results_row [] old new to → Does rows returned old fuel new fuel to
+abbrev pub RowIsStep : Ending → Row → Type 0
+RowIsStep next row = (rows : ℕ → Row) (old new : Memory) (fuel : ℕ) (to : Ending) → Leads row [] old new to → Does rows next old fuel new fuel to
+
+-- so it is with the whole rows of results and of errors, which look at what is on top first; where it is found who catches an error, where what was
+-- asked for is called, and where a primitive does its row
+
+abbrev pub ResultsAreSafe : Type 0
+ResultsAreSafe = RowIsSafe returned results_row
 
 abbrev pub ErrorIsSafe : Type 0
-ErrorIsSafe = (primitives : ℕ) (W : Memory) → IsReady primitives unwinding W → IsSafe unwinding_row [] W
+ErrorIsSafe = RowIsSafe unwinding unwinding_row
 
-abbrev pub ErrorIsStep : Type 0
-ErrorIsStep = (rows : ℕ → Row) (old new : Memory) (fuel : ℕ) (to : Ending) → Leads unwinding_row [] old new to → Does rows unwinding old fuel new fuel to
-
--- it is found who catches an error, what was asked for is called, and a primitive does its row
 abbrev pub RaisedIsSafe : Type 0
-RaisedIsSafe = (primitives : ℕ) (W : Memory) → IsReady primitives raised W → IsSafe raised_row [] W
-
-abbrev pub RaisedIsStep : Type 0
-RaisedIsStep = (rows : ℕ → Row) (old new : Memory) (fuel : ℕ) (to : Ending) → Leads raised_row [] old new to → Does rows raised old fuel new fuel to
+RaisedIsSafe = RowIsSafe raised raised_row
 
 abbrev pub AskedIsSafe : Type 0
-AskedIsSafe = (primitives : ℕ) (W : Memory) → IsReady primitives asks W → IsSafe asked_row [] W
+AskedIsSafe = RowIsSafe asks asked_row
+
+abbrev pub PrimitiveIsSafe : Type 0
+PrimitiveIsSafe = (primitives n : ℕ) (rows : ℕ → Row) (W : Memory) → PrimitivesSafe primitives rows → IsReady primitives (calls_primitive n) W → IsSafe (rows n) [] W
+
+abbrev pub ResultsAreStep : Type 0
+ResultsAreStep = RowIsStep returned results_row
+
+abbrev pub ErrorIsStep : Type 0
+ErrorIsStep = RowIsStep unwinding unwinding_row
 
 abbrev pub AskedIsStep : Type 0
 AskedIsStep = (rows : ℕ → Row) (old new : Memory) (fuel left : ℕ) (to : Ending) → Steps asked_row [] old fuel new left to → Does rows asks old fuel new left to
 
-abbrev pub PrimitiveIsSafe : Type 0
-PrimitiveIsSafe = (primitives n : ℕ) (rows : ℕ → Row) (W : Memory) → PrimitivesSafe primitives rows → IsReady primitives (calls_primitive n) W → IsSafe (rows n) [] W
+abbrev pub RaisedIsStep : Type 0
+RaisedIsStep = RowIsStep raised raised_row
 
 abbrev pub PrimitiveIsStep : Type 0
 PrimitiveIsStep = (rows : ℕ → Row) (n : ℕ) (old new : Memory) (fuel left : ℕ) (to : Ending) → Steps (rows n) [] old fuel new left to → Does rows (calls_primitive n) old fuel new left to
