@@ -23,8 +23,7 @@ use tree_making::{Found, is_call, is_target};
 pub fn function_stat(alloc: Global, cursor: &mut Cursor, room: u32) -> Parsed<Stat>
     requires { room ≤ 400 }
     ensures reads { Answers given_stat function_stat room cursor.old result cursor.new }
-    ensures low { IfOk result (λ found. found.height ≤ room) }
-    ensures taken { IfOk result (λ _. length cursor.new < length cursor.old) }
+    ensures bound { IfOk result (λ found. (found.height ≤ room) × (length cursor.new < length cursor.old)) }
 {
     let line = expect(cursor, FUNCTION)?;
     let target = function_name(alloc, cursor, room)?;
@@ -38,8 +37,7 @@ pub fn function_stat(alloc: Global, cursor: &mut Cursor, room: u32) -> Parsed<St
 fn function_name(alloc: Global, cursor: &mut Cursor, room: u32) -> Parsed<Target>
     requires { room ≤ 400 }
     ensures reads { Answers given_target function_name room cursor.old result cursor.new }
-    ensures low { IfOk result (λ found. found.height ≤ room) }
-    ensures taken { IfOk result (λ _. length cursor.new < length cursor.old) }
+    ensures bound { IfOk result (λ found. (found.height ≤ room) × (length cursor.new < length cursor.old)) }
 {
     let first = name(cursor)?;
     let first = tree_making::variable(alloc, first)?;
@@ -80,8 +78,7 @@ fn path(alloc: Global, cursor: &mut Cursor, first: Found<Box<Exp>>, room: u32) -
     requires room { room ≤ 400 }
     requires fits { first.height ≤ room }
     ensures reads { Answers given_exp (path (plain_boxed first.node) first.height) room cursor.old result cursor.new }
-    ensures low { IfOk result (λ found. found.height ≤ room) }
-    ensures kept { IfOk result (λ _. length cursor.new ≤ length cursor.old) }
+    ensures bound { IfOk result (λ found. (found.height ≤ room) × (length cursor.new ≤ length cursor.old)) }
 {
     let mut left = first;
     while cursor.is(DOT) {
@@ -95,8 +92,7 @@ fn path(alloc: Global, cursor: &mut Cursor, first: Found<Box<Exp>>, room: u32) -
 pub fn local_stat(alloc: Global, cursor: &mut Cursor, room: u32) -> Parsed<Stat>
     requires { room ≤ 400 }
     ensures reads { Answers given_stat local_stat room cursor.old result cursor.new }
-    ensures low { IfOk result (λ found. found.height ≤ room) }
-    ensures taken { IfOk result (λ _. length cursor.new < length cursor.old) }
+    ensures bound { IfOk result (λ found. (found.height ≤ room) × (length cursor.new < length cursor.old)) }
 {
     let line = expect(cursor, LOCAL)?;
     if cursor.is(FUNCTION) {
@@ -110,8 +106,7 @@ pub fn local_stat(alloc: Global, cursor: &mut Cursor, room: u32) -> Parsed<Stat>
 fn local_function(alloc: Global, cursor: &mut Cursor, line: u32, room: u32) -> Parsed<Stat>
     requires { room ≤ 400 }
     ensures reads { Answers given_stat (local_function line) room cursor.old result cursor.new }
-    ensures low { IfOk result (λ found. found.height ≤ room) }
-    ensures taken { IfOk result (λ _. length cursor.new < length cursor.old) }
+    ensures bound { IfOk result (λ found. (found.height ≤ room) × (length cursor.new < length cursor.old)) }
 {
     let own_line = expect(cursor, FUNCTION)?;
     let name = name(cursor)?;
@@ -124,8 +119,7 @@ fn local_function(alloc: Global, cursor: &mut Cursor, line: u32, room: u32) -> P
 fn local_names(alloc: Global, cursor: &mut Cursor, line: u32, room: u32) -> Parsed<Stat>
     requires { room ≤ 400 }
     ensures reads { Answers given_stat (local_names line) room cursor.old result cursor.new }
-    ensures low { IfOk result (λ found. found.height ≤ room) }
-    ensures taken { IfOk result (λ _. length cursor.new < length cursor.old) }
+    ensures bound { IfOk result (λ found. (found.height ≤ room) × (length cursor.new < length cursor.old)) }
 {
     let first = declared(cursor)?;
     let names = more_declared(alloc, cursor, first)?;
@@ -195,8 +189,7 @@ fn attrib(text: Bytes) -> Attrib
 fn values(alloc: Global, cursor: &mut Cursor, room: u32) -> Parsed<Vec<Exp>>
     requires { room ≤ 400 }
     ensures reads { Answers given_exps values room cursor.old result cursor.new }
-    ensures low { IfOk result (λ found. found.height ≤ room) }
-    ensures kept { IfOk result (λ _. length cursor.new ≤ length cursor.old) }
+    ensures bound { IfOk result (λ found. (found.height ≤ room) × (length cursor.new ≤ length cursor.old)) }
 {
     if !cursor.is(ASSIGN) {
         return Ok(tree_making::no_exps(alloc));
@@ -210,8 +203,7 @@ fn values(alloc: Global, cursor: &mut Cursor, room: u32) -> Parsed<Vec<Exp>>
 pub fn prefix_stat(alloc: Global, cursor: &mut Cursor, room: u32) -> Parsed<Stat>
     requires { room ≤ 400 }
     ensures reads { Answers given_stat prefix_stat room cursor.old result cursor.new }
-    ensures low { IfOk result (λ found. found.height ≤ room) }
-    ensures taken { IfOk result (λ _. length cursor.new < length cursor.old) }
+    ensures bound { IfOk result (λ found. (found.height ≤ room) × (length cursor.new < length cursor.old)) }
 {
     let line = cursor.line();
     let first = prefix(alloc, cursor, room)?;
@@ -236,8 +228,7 @@ fn assignment(
     requires room { room ≤ 400 }
     requires fits { first.height ≤ room }
     ensures reads { Answers given_stat (assignment line (plain_boxed first.node) first.height) room cursor.old result cursor.new }
-    ensures low { IfOk result (λ found. found.height ≤ room) }
-    ensures taken { IfOk result (λ _. length cursor.new < length cursor.old) }
+    ensures bound { IfOk result (λ found. (found.height ≤ room) × (length cursor.new < length cursor.old)) }
 {
     let targets = targets(alloc, cursor, first, room)?;
     expect(cursor, ASSIGN)?;
@@ -256,8 +247,7 @@ fn targets(
     requires room { room ≤ 400 }
     requires fits { first.height ≤ room }
     ensures reads { Answers given_exps (more_targets (plain_boxed first.node ∷ []) first.height) room cursor.old result cursor.new }
-    ensures low { IfOk result (λ found. found.height ≤ room) }
-    ensures kept { IfOk result (λ _. length cursor.new ≤ length cursor.old) }
+    ensures bound { IfOk result (λ found. (found.height ≤ room) × (length cursor.new ≤ length cursor.old)) }
 {
     let mut items = tree_making::one_exp(alloc, first)?;
     while cursor.is(COMMA) {

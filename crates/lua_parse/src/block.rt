@@ -19,8 +19,7 @@ use tree_making::Items;
 pub fn block(alloc: Global, cursor: &mut Cursor, room: u32) -> Parsed<Block>
     requires { room ≤ 400 }
     ensures reads { Answers given_block block room cursor.old result cursor.new }
-    ensures low { IfOk result (λ found. found.height ≤ room) }
-    ensures kept { IfOk result (λ _. length cursor.new ≤ length cursor.old) }
+    ensures bound { IfOk result (λ found. (found.height ≤ room) × (length cursor.new ≤ length cursor.old)) }
 {
     let before = cursor.left();
     let items = items(alloc, cursor, room)?;
@@ -32,8 +31,7 @@ pub fn block(alloc: Global, cursor: &mut Cursor, room: u32) -> Parsed<Block>
 fn items(alloc: Global, cursor: &mut Cursor, room: u32) -> Parsed<Items>
     requires { room ≤ 400 }
     ensures reads { Answers given_items (items [] 0) room cursor.old result cursor.new }
-    ensures low { IfOk result (λ found. found.height ≤ room) }
-    ensures kept { IfOk result (λ _. length cursor.new ≤ length cursor.old) }
+    ensures bound { IfOk result (λ found. (found.height ≤ room) × (length cursor.new ≤ length cursor.old)) }
 {
     let mut stats = tree_making::no_stats(alloc);
     while !ends_stats(cursor.peek()) {
@@ -54,8 +52,7 @@ fn items(alloc: Global, cursor: &mut Cursor, room: u32) -> Parsed<Items>
 fn returned(alloc: Global, cursor: &mut Cursor, room: u32) -> Parsed<Vec<Exp>>
     requires { room ≤ 400 }
     ensures reads { Answers given_exps returned room cursor.old result cursor.new }
-    ensures low { IfOk result (λ found. found.height ≤ room) }
-    ensures kept { IfOk result (λ _. length cursor.new ≤ length cursor.old) }
+    ensures bound { IfOk result (λ found. (found.height ≤ room) × (length cursor.new ≤ length cursor.old)) }
 {
     if ends_block(cursor.peek()) {
         return Ok(tree_making::no_exps(alloc));
@@ -77,8 +74,7 @@ fn returned(alloc: Global, cursor: &mut Cursor, room: u32) -> Parsed<Vec<Exp>>
 pub fn do_block(alloc: Global, cursor: &mut Cursor, room: u32) -> Parsed<Block>
     requires { room ≤ 400 }
     ensures reads { Answers given_block do_block room cursor.old result cursor.new }
-    ensures low { IfOk result (λ found. found.height ≤ room) }
-    ensures taken { IfOk result (λ _. length cursor.new < length cursor.old) }
+    ensures bound { IfOk result (λ found. (found.height ≤ room) × (length cursor.new < length cursor.old)) }
 {
     open(cursor, DO, 0, room)?;
     let inner = block(alloc, cursor, room - 1)?;

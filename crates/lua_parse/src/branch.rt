@@ -18,8 +18,7 @@ use tree_making::Found;
 pub fn if_stat(alloc: Global, cursor: &mut Cursor, room: u32) -> Parsed<Stat>
     requires { room ≤ 400 }
     ensures reads { Answers given_stat if_stat room cursor.old result cursor.new }
-    ensures low { IfOk result (λ found. found.height ≤ room) }
-    ensures taken { IfOk result (λ _. length cursor.new < length cursor.old) }
+    ensures bound { IfOk result (λ found. (found.height ≤ room) × (length cursor.new < length cursor.old)) }
 {
     let line = expect(cursor, IF)?;
     let arms = arms(alloc, cursor, room)?;
@@ -33,8 +32,7 @@ pub fn if_stat(alloc: Global, cursor: &mut Cursor, room: u32) -> Parsed<Stat>
 fn arms(alloc: Global, cursor: &mut Cursor, room: u32) -> Parsed<Vec<Arm>>
     requires { room ≤ 400 }
     ensures reads { Answers given_arms arms room cursor.old result cursor.new }
-    ensures low { IfOk result (λ found. found.height ≤ room) }
-    ensures taken { IfOk result (λ _. length cursor.new < length cursor.old) }
+    ensures bound { IfOk result (λ found. (found.height ≤ room) × (length cursor.new < length cursor.old)) }
 {
     let first = arm(alloc, cursor, room)?;
     let mut items = tree_making::one_arm(alloc, first)?;
@@ -51,8 +49,7 @@ fn arms(alloc: Global, cursor: &mut Cursor, room: u32) -> Parsed<Vec<Arm>>
 fn arm(alloc: Global, cursor: &mut Cursor, room: u32) -> Parsed<Arm>
     requires { room ≤ 400 }
     ensures reads { Answers given_arm arm room cursor.old result cursor.new }
-    ensures low { IfOk result (λ found. found.height ≤ room) }
-    ensures taken { IfOk result (λ _. length cursor.new < length cursor.old) }
+    ensures bound { IfOk result (λ found. (found.height ≤ room) × (length cursor.new < length cursor.old)) }
 {
     let test = expression(alloc, cursor, room)?;
     open(cursor, THEN, 0, room)?;
@@ -65,8 +62,7 @@ fn arm(alloc: Global, cursor: &mut Cursor, room: u32) -> Parsed<Arm>
 fn else_part(alloc: Global, cursor: &mut Cursor, room: u32) -> Parsed<Option<Block>>
     requires { room ≤ 400 }
     ensures reads { Answers given_else else_part room cursor.old result cursor.new }
-    ensures low { IfOk result (λ found. found.height ≤ room) }
-    ensures kept { IfOk result (λ _. length cursor.new ≤ length cursor.old) }
+    ensures bound { IfOk result (λ found. (found.height ≤ room) × (length cursor.new ≤ length cursor.old)) }
 {
     if !cursor.is(ELSE) {
         return Ok(Found {

@@ -27,8 +27,7 @@ use tree_making::Found;
 pub fn explist(alloc: Global, cursor: &mut Cursor, room: u32) -> Parsed<Vec<Exp>>
     requires { room ≤ 400 }
     ensures reads { Answers given_exps explist room cursor.old result cursor.new }
-    ensures low { IfOk result (λ found. found.height ≤ room) }
-    ensures taken { IfOk result (λ _. length cursor.new < length cursor.old) }
+    ensures bound { IfOk result (λ found. (found.height ≤ room) × (length cursor.new < length cursor.old)) }
 {
     let first = expression(alloc, cursor, room)?;
     let mut items = tree_making::one_exp(alloc, first)?;
@@ -45,8 +44,7 @@ pub fn explist(alloc: Global, cursor: &mut Cursor, room: u32) -> Parsed<Vec<Exp>
 pub fn expression(alloc: Global, cursor: &mut Cursor, room: u32) -> Parsed<Box<Exp>>
     requires { room ≤ 400 }
     ensures reads { Answers given_exp exp room cursor.old result cursor.new }
-    ensures low { IfOk result (λ found. found.height ≤ room) }
-    ensures taken { IfOk result (λ _. length cursor.new < length cursor.old) }
+    ensures bound { IfOk result (λ found. (found.height ≤ room) × (length cursor.new < length cursor.old)) }
 {
     chain(alloc, cursor, Level::Or, room)
 }
@@ -57,8 +55,7 @@ pub fn expression(alloc: Global, cursor: &mut Cursor, room: u32) -> Parsed<Box<E
 fn chain(alloc: Global, cursor: &mut Cursor, level: Level, room: u32) -> Parsed<Box<Exp>>
     requires { room ≤ 400 }
     ensures reads { Answers given_exp (chain level) room cursor.old result cursor.new }
-    ensures low { IfOk result (λ found. found.height ≤ room) }
-    ensures taken { IfOk result (λ _. length cursor.new < length cursor.old) }
+    ensures bound { IfOk result (λ found. (found.height ≤ room) × (length cursor.new < length cursor.old)) }
 {
     let mut left = unary(alloc, cursor, room)?;
     let mut current = Level::Product;
@@ -85,8 +82,7 @@ fn operators(
     requires room { room ≤ 400 }
     requires fits { first.height ≤ room }
     ensures reads { Answers given_exp (behind level (plain_boxed first.node) first.height) room cursor.old result cursor.new }
-    ensures low { IfOk result (λ found. found.height ≤ room) }
-    ensures kept { IfOk result (λ _. length cursor.new ≤ length cursor.old) }
+    ensures bound { IfOk result (λ found. (found.height ≤ room) × (length cursor.new ≤ length cursor.old)) }
 {
     let mut left = first;
     while let Some(infix) = operator(cursor.peek(), level) {
@@ -106,8 +102,7 @@ fn operators(
 fn right_operand(alloc: Global, cursor: &mut Cursor, level: Level, room: u32) -> Parsed<Box<Exp>>
     requires { room ≤ 400 }
     ensures reads { Answers given_exp (right_operand level) room cursor.old result cursor.new }
-    ensures low { IfOk result (λ found. found.height ≤ room) }
-    ensures taken { IfOk result (λ _. length cursor.new < length cursor.old) }
+    ensures bound { IfOk result (λ found. (found.height ≤ room) × (length cursor.new < length cursor.old)) }
 {
     match level {
         Level::Or => chain(alloc, cursor, Level::And, room),
@@ -127,8 +122,7 @@ fn right_operand(alloc: Global, cursor: &mut Cursor, level: Level, room: u32) ->
 fn unary(alloc: Global, cursor: &mut Cursor, room: u32) -> Parsed<Box<Exp>>
     requires { room ≤ 400 }
     ensures reads { Answers given_exp unary room cursor.old result cursor.new }
-    ensures low { IfOk result (λ found. found.height ≤ room) }
-    ensures taken { IfOk result (λ _. length cursor.new < length cursor.old) }
+    ensures bound { IfOk result (λ found. (found.height ≤ room) × (length cursor.new < length cursor.old)) }
 {
     let Some(operator) = unary_operator(cursor.peek()) else {
         return simple(alloc, cursor, room);
@@ -147,8 +141,7 @@ fn unary(alloc: Global, cursor: &mut Cursor, room: u32) -> Parsed<Box<Exp>>
 fn simple(alloc: Global, cursor: &mut Cursor, room: u32) -> Parsed<Box<Exp>>
     requires { room ≤ 400 }
     ensures reads { Answers given_exp simple room cursor.old result cursor.new }
-    ensures low { IfOk result (λ found. found.height ≤ room) }
-    ensures taken { IfOk result (λ _. length cursor.new < length cursor.old) }
+    ensures bound { IfOk result (λ found. (found.height ≤ room) × (length cursor.new < length cursor.old)) }
 {
     let line = cursor.line();
     if let Some(node) = constant(alloc, cursor.peek(), line)? {

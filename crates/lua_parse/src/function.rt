@@ -24,8 +24,7 @@ pub fn body(
 ) -> Parsed<Body>
     requires { room ≤ 400 }
     ensures reads { Answers given_body (body line own.items) room cursor.old result cursor.new }
-    ensures low { IfOk result (λ found. found.height ≤ room) }
-    ensures taken { IfOk result (λ _. length cursor.new < length cursor.old) }
+    ensures bound { IfOk result (λ found. (found.height ≤ room) × (length cursor.new < length cursor.old)) }
 {
     open(cursor, OPEN_ROUND, 0, room)?;
     let params = params(cursor, own)?;

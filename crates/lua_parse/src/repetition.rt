@@ -18,8 +18,7 @@ use tree_making::{Found, Range};
 pub fn for_stat(alloc: Global, cursor: &mut Cursor, room: u32) -> Parsed<Stat>
     requires { room ≤ 400 }
     ensures reads { Answers given_stat for_stat room cursor.old result cursor.new }
-    ensures low { IfOk result (λ found. found.height ≤ room) }
-    ensures taken { IfOk result (λ _. length cursor.new < length cursor.old) }
+    ensures bound { IfOk result (λ found. (found.height ≤ room) × (length cursor.new < length cursor.old)) }
 {
     let line = expect(cursor, FOR)?;
     let first = name(cursor)?;
@@ -34,8 +33,7 @@ pub fn for_stat(alloc: Global, cursor: &mut Cursor, room: u32) -> Parsed<Stat>
 fn numeric(alloc: Global, cursor: &mut Cursor, line: u32, name: Name, room: u32) -> Parsed<Stat>
     requires { room ≤ 400 }
     ensures reads { Answers given_stat (numeric line name) room cursor.old result cursor.new }
-    ensures low { IfOk result (λ found. found.height ≤ room) }
-    ensures taken { IfOk result (λ _. length cursor.new < length cursor.old) }
+    ensures bound { IfOk result (λ found. (found.height ≤ room) × (length cursor.new < length cursor.old)) }
 {
     expect(cursor, ASSIGN)?;
     let first = expression(alloc, cursor, room)?;
@@ -52,8 +50,7 @@ fn numeric(alloc: Global, cursor: &mut Cursor, line: u32, name: Name, room: u32)
 fn step(alloc: Global, cursor: &mut Cursor, room: u32) -> Parsed<Option<Box<Exp>>>
     requires { room ≤ 400 }
     ensures reads { Answers given_step step room cursor.old result cursor.new }
-    ensures low { IfOk result (λ found. found.height ≤ room) }
-    ensures kept { IfOk result (λ _. length cursor.new ≤ length cursor.old) }
+    ensures bound { IfOk result (λ found. (found.height ≤ room) × (length cursor.new ≤ length cursor.old)) }
 {
     if !cursor.is(COMMA) {
         return Ok(Found {
@@ -74,8 +71,7 @@ fn step(alloc: Global, cursor: &mut Cursor, room: u32) -> Parsed<Option<Box<Exp>
 fn generic(alloc: Global, cursor: &mut Cursor, line: u32, first: Name, room: u32) -> Parsed<Stat>
     requires { room ≤ 400 }
     ensures reads { Answers given_stat (generic line first) room cursor.old result cursor.new }
-    ensures low { IfOk result (λ found. found.height ≤ room) }
-    ensures taken { IfOk result (λ _. length cursor.new < length cursor.old) }
+    ensures bound { IfOk result (λ found. (found.height ≤ room) × (length cursor.new < length cursor.old)) }
 {
     let names = names(alloc, cursor, first)?;
     expect(cursor, IN)?;

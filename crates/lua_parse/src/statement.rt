@@ -21,8 +21,7 @@ use tree_core::{Stat, StatNode};
 pub fn statement(alloc: Global, cursor: &mut Cursor, room: u32) -> Parsed<Stat>
     requires { room ≤ 400 }
     ensures reads { Answers given_stat stat room cursor.old result cursor.new }
-    ensures low { IfOk result (λ found. found.height ≤ room) }
-    ensures taken { IfOk result (λ _. length cursor.new < length cursor.old) }
+    ensures bound { IfOk result (λ found. (found.height ≤ room) × (length cursor.new < length cursor.old)) }
 {
     let line = cursor.line();
     match start(cursor.peek()) {
@@ -50,8 +49,7 @@ pub fn statement(alloc: Global, cursor: &mut Cursor, room: u32) -> Parsed<Stat>
 /// `::` Name `::`.
 fn label_stat(cursor: &mut Cursor, room: u32) -> Parsed<Stat>
     ensures reads { Answers given_stat label_stat room cursor.old result cursor.new }
-    ensures low { IfOk result (λ found. found.height ≤ room) }
-    ensures taken { IfOk result (λ _. length cursor.new < length cursor.old) }
+    ensures bound { IfOk result (λ found. (found.height ≤ room) × (length cursor.new < length cursor.old)) }
 {
     let line = expect(cursor, LABEL)?;
     let name = name(cursor)?;
@@ -62,8 +60,7 @@ fn label_stat(cursor: &mut Cursor, room: u32) -> Parsed<Stat>
 /// `goto` Name.
 fn goto_stat(cursor: &mut Cursor, room: u32) -> Parsed<Stat>
     ensures reads { Answers given_stat goto_stat room cursor.old result cursor.new }
-    ensures low { IfOk result (λ found. found.height ≤ room) }
-    ensures taken { IfOk result (λ _. length cursor.new < length cursor.old) }
+    ensures bound { IfOk result (λ found. (found.height ≤ room) × (length cursor.new < length cursor.old)) }
 {
     let line = expect(cursor, GOTO)?;
     let name = name(cursor)?;
@@ -75,8 +72,7 @@ fn goto_stat(cursor: &mut Cursor, room: u32) -> Parsed<Stat>
 fn do_stat(alloc: Global, cursor: &mut Cursor, room: u32) -> Parsed<Stat>
     requires { room ≤ 400 }
     ensures reads { Answers given_stat do_stat room cursor.old result cursor.new }
-    ensures low { IfOk result (λ found. found.height ≤ room) }
-    ensures taken { IfOk result (λ _. length cursor.new < length cursor.old) }
+    ensures bound { IfOk result (λ found. (found.height ≤ room) × (length cursor.new < length cursor.old)) }
 {
     let line = cursor.line();
     let inner = do_block(alloc, cursor, room)?;
@@ -88,8 +84,7 @@ fn do_stat(alloc: Global, cursor: &mut Cursor, room: u32) -> Parsed<Stat>
 fn while_stat(alloc: Global, cursor: &mut Cursor, room: u32) -> Parsed<Stat>
     requires { room ≤ 400 }
     ensures reads { Answers given_stat while_stat room cursor.old result cursor.new }
-    ensures low { IfOk result (λ found. found.height ≤ room) }
-    ensures taken { IfOk result (λ _. length cursor.new < length cursor.old) }
+    ensures bound { IfOk result (λ found. (found.height ≤ room) × (length cursor.new < length cursor.old)) }
 {
     let line = expect(cursor, WHILE)?;
     let test = expression(alloc, cursor, room)?;
@@ -102,8 +97,7 @@ fn while_stat(alloc: Global, cursor: &mut Cursor, room: u32) -> Parsed<Stat>
 fn repeat_stat(alloc: Global, cursor: &mut Cursor, room: u32) -> Parsed<Stat>
     requires { room ≤ 400 }
     ensures reads { Answers given_stat repeat_stat room cursor.old result cursor.new }
-    ensures low { IfOk result (λ found. found.height ≤ room) }
-    ensures taken { IfOk result (λ _. length cursor.new < length cursor.old) }
+    ensures bound { IfOk result (λ found. (found.height ≤ room) × (length cursor.new < length cursor.old)) }
 {
     let line = open(cursor, REPEAT, 0, room)?;
     let inner = block(alloc, cursor, room - 1)?;

@@ -24,8 +24,7 @@ use tree_making::Found;
 pub fn prefix(alloc: Global, cursor: &mut Cursor, room: u32) -> Parsed<Box<Exp>>
     requires { room ≤ 400 }
     ensures reads { Answers given_exp prefix room cursor.old result cursor.new }
-    ensures low { IfOk result (λ found. found.height ≤ room) }
-    ensures taken { IfOk result (λ _. length cursor.new < length cursor.old) }
+    ensures bound { IfOk result (λ found. (found.height ≤ room) × (length cursor.new < length cursor.old)) }
     ensures more { IfOk result (λ _. cursor.new ≡ first cursor.new ∷ drop 1 cursor.new) }
 {
     let mut left = primary(alloc, cursor, room)?;
@@ -40,8 +39,7 @@ pub fn prefix(alloc: Global, cursor: &mut Cursor, room: u32) -> Parsed<Box<Exp>>
 fn primary(alloc: Global, cursor: &mut Cursor, room: u32) -> Parsed<Box<Exp>>
     requires { room ≤ 400 }
     ensures reads { Answers given_exp primary room cursor.old result cursor.new }
-    ensures low { IfOk result (λ found. found.height ≤ room) }
-    ensures taken { IfOk result (λ _. length cursor.new < length cursor.old) }
+    ensures bound { IfOk result (λ found. (found.height ≤ room) × (length cursor.new < length cursor.old)) }
 {
     if cursor.is(OPEN_ROUND) {
         return paren(alloc, cursor, room);
@@ -55,8 +53,7 @@ fn primary(alloc: Global, cursor: &mut Cursor, room: u32) -> Parsed<Box<Exp>>
 fn paren(alloc: Global, cursor: &mut Cursor, room: u32) -> Parsed<Box<Exp>>
     requires { room ≤ 400 }
     ensures reads { Answers given_exp paren room cursor.old result cursor.new }
-    ensures low { IfOk result (λ found. found.height ≤ room) }
-    ensures taken { IfOk result (λ _. length cursor.new < length cursor.old) }
+    ensures bound { IfOk result (λ found. (found.height ≤ room) × (length cursor.new < length cursor.old)) }
 {
     let line = open(cursor, OPEN_ROUND, 0, room)?;
     let inner = expression(alloc, cursor, room - 1)?;
@@ -70,8 +67,7 @@ fn suffix(alloc: Global, cursor: &mut Cursor, left: Found<Box<Exp>>, room: u32) 
     requires room { room ≤ 400 }
     requires fits { left.height ≤ room }
     ensures reads { Answers given_exp (suffix (plain_boxed left.node) left.height) room cursor.old result cursor.new }
-    ensures low { IfOk result (λ found. found.height ≤ room) }
-    ensures taken { IfOk result (λ _. length cursor.new < length cursor.old) }
+    ensures bound { IfOk result (λ found. (found.height ≤ room) × (length cursor.new < length cursor.old)) }
 {
     if cursor.is(DOT) {
         return dotted(alloc, cursor, DOT, left, room);
@@ -96,8 +92,7 @@ pub fn dotted(
     requires room { room ≤ 400 }
     requires fits { left.height ≤ room }
     ensures reads { Answers given_exp (dotted wanted (plain_boxed left.node) left.height) room cursor.old result cursor.new }
-    ensures low { IfOk result (λ found. found.height ≤ room) }
-    ensures taken { IfOk result (λ _. length cursor.new < length cursor.old) }
+    ensures bound { IfOk result (λ found. (found.height ≤ room) × (length cursor.new < length cursor.old)) }
 {
     let line = open(cursor, wanted, left.height, room)?;
     let name = name(cursor)?;
@@ -110,8 +105,7 @@ fn indexed(alloc: Global, cursor: &mut Cursor, left: Found<Box<Exp>>, room: u32)
     requires room { room ≤ 400 }
     requires fits { left.height ≤ room }
     ensures reads { Answers given_exp (indexed (plain_boxed left.node) left.height) room cursor.old result cursor.new }
-    ensures low { IfOk result (λ found. found.height ≤ room) }
-    ensures taken { IfOk result (λ _. length cursor.new < length cursor.old) }
+    ensures bound { IfOk result (λ found. (found.height ≤ room) × (length cursor.new < length cursor.old)) }
 {
     let line = open(cursor, OPEN_SQUARE, left.height, room)?;
     let key = expression(alloc, cursor, room - 1)?;
@@ -125,8 +119,7 @@ fn method(alloc: Global, cursor: &mut Cursor, left: Found<Box<Exp>>, room: u32) 
     requires room { room ≤ 400 }
     requires fits { left.height ≤ room }
     ensures reads { Answers given_exp (method (plain_boxed left.node) left.height) room cursor.old result cursor.new }
-    ensures low { IfOk result (λ found. found.height ≤ room) }
-    ensures taken { IfOk result (λ _. length cursor.new < length cursor.old) }
+    ensures bound { IfOk result (λ found. (found.height ≤ room) × (length cursor.new < length cursor.old)) }
 {
     open(cursor, COLON, left.height, room)?;
     let name = name(cursor)?;
@@ -141,8 +134,7 @@ fn call(alloc: Global, cursor: &mut Cursor, left: Found<Box<Exp>>, room: u32) ->
     requires room { room ≤ 400 }
     requires fits { left.height ≤ room }
     ensures reads { Answers given_exp (call (plain_boxed left.node) left.height) room cursor.old result cursor.new }
-    ensures low { IfOk result (λ found. found.height ≤ room) }
-    ensures taken { IfOk result (λ _. length cursor.new < length cursor.old) }
+    ensures bound { IfOk result (λ found. (found.height ≤ room) × (length cursor.new < length cursor.old)) }
 {
     let line = cursor.line();
     if left.height >= room {
@@ -157,8 +149,7 @@ fn call(alloc: Global, cursor: &mut Cursor, left: Found<Box<Exp>>, room: u32) ->
 fn method_arguments(alloc: Global, cursor: &mut Cursor, room: u32) -> Parsed<Vec<Exp>>
     requires { room ≤ 400 }
     ensures reads { Answers given_exps method_arguments room cursor.old result cursor.new }
-    ensures low { IfOk result (λ found. found.height ≤ room) }
-    ensures taken { IfOk result (λ _. length cursor.new < length cursor.old) }
+    ensures bound { IfOk result (λ found. (found.height ≤ room) × (length cursor.new < length cursor.old)) }
 {
     if is_string(cursor.peek()) {
         return arguments(alloc, cursor, room);
@@ -178,8 +169,7 @@ fn method_arguments(alloc: Global, cursor: &mut Cursor, room: u32) -> Parsed<Vec
 fn arguments(alloc: Global, cursor: &mut Cursor, room: u32) -> Parsed<Vec<Exp>>
     requires { room ≤ 400 }
     ensures reads { Answers given_exps arguments room cursor.old result cursor.new }
-    ensures low { IfOk result (λ found. found.height ≤ room) }
-    ensures taken { IfOk result (λ _. length cursor.new < length cursor.old) }
+    ensures bound { IfOk result (λ found. (found.height ≤ room) × (length cursor.new < length cursor.old)) }
 {
     if cursor.is(OPEN_ROUND) {
         cursor.skip();
@@ -197,8 +187,7 @@ fn arguments(alloc: Global, cursor: &mut Cursor, room: u32) -> Parsed<Vec<Exp>>
 /// A string that is the only argument.
 fn string_argument(alloc: Global, cursor: &mut Cursor) -> Parsed<Vec<Exp>>
     ensures reads { Answers given_exps string_argument 0 cursor.old result cursor.new }
-    ensures low { IfOk result (λ found. found.height ≡ 0) }
-    ensures taken { IfOk result (λ _. length cursor.new < length cursor.old) }
+    ensures bound { IfOk result (λ found. (found.height ≡ 0) × (length cursor.new < length cursor.old)) }
 {
     let line = cursor.line();
     let Token::Str(bytes) = cursor.peek() else {
@@ -214,8 +203,7 @@ fn string_argument(alloc: Global, cursor: &mut Cursor) -> Parsed<Vec<Exp>>
 fn listed(alloc: Global, cursor: &mut Cursor, room: u32) -> Parsed<Vec<Exp>>
     requires { room ≤ 400 }
     ensures reads { Answers given_exps listed room cursor.old result cursor.new }
-    ensures low { IfOk result (λ found. found.height ≤ room) }
-    ensures taken { IfOk result (λ _. length cursor.new < length cursor.old) }
+    ensures bound { IfOk result (λ found. (found.height ≤ room) × (length cursor.new < length cursor.old)) }
 {
     if cursor.is(CLOSE_ROUND) {
         cursor.skip();

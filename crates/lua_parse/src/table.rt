@@ -18,8 +18,7 @@ use tree_making::{Found, name_of};
 pub fn table(alloc: Global, cursor: &mut Cursor, room: u32) -> Parsed<Box<Exp>>
     requires { room ≤ 400 }
     ensures reads { Answers given_exp table room cursor.old result cursor.new }
-    ensures low { IfOk result (λ found. found.height ≤ room) }
-    ensures taken { IfOk result (λ _. length cursor.new < length cursor.old) }
+    ensures bound { IfOk result (λ found. (found.height ≤ room) × (length cursor.new < length cursor.old)) }
 {
     let line = open(cursor, OPEN_CURLY, 0, room)?;
     let fields = fields(alloc, cursor, room - 1)?;
@@ -31,8 +30,7 @@ pub fn table(alloc: Global, cursor: &mut Cursor, room: u32) -> Parsed<Box<Exp>>
 pub fn fields(alloc: Global, cursor: &mut Cursor, room: u32) -> Parsed<Vec<Field>>
     requires { room ≤ 400 }
     ensures reads { Answers given_fields (more_fields [] 0) room cursor.old result cursor.new }
-    ensures low { IfOk result (λ found. found.height ≤ room) }
-    ensures taken { IfOk result (λ _. length cursor.new < length cursor.old) }
+    ensures bound { IfOk result (λ found. (found.height ≤ room) × (length cursor.new < length cursor.old)) }
 {
     let mut items = tree_making::no_fields(alloc);
     while !cursor.is(CLOSE_CURLY) {
@@ -48,8 +46,7 @@ pub fn fields(alloc: Global, cursor: &mut Cursor, room: u32) -> Parsed<Vec<Field
 fn separated_field(alloc: Global, cursor: &mut Cursor, room: u32) -> Parsed<Field>
     requires { room ≤ 400 }
     ensures reads { Answers given_field separated_field room cursor.old result cursor.new }
-    ensures low { IfOk result (λ found. found.height ≤ room) }
-    ensures taken { IfOk result (λ _. length cursor.new < length cursor.old) }
+    ensures bound { IfOk result (λ found. (found.height ≤ room) × (length cursor.new < length cursor.old)) }
 {
     let field = field(alloc, cursor, room)?;
     if is_separator(cursor.peek()) {
@@ -68,8 +65,7 @@ fn separated_field(alloc: Global, cursor: &mut Cursor, room: u32) -> Parsed<Fiel
 fn field(alloc: Global, cursor: &mut Cursor, room: u32) -> Parsed<Field>
     requires { room ≤ 400 }
     ensures reads { Answers given_field field room cursor.old result cursor.new }
-    ensures low { IfOk result (λ found. found.height ≤ room) }
-    ensures taken { IfOk result (λ _. length cursor.new < length cursor.old) }
+    ensures bound { IfOk result (λ found. (found.height ≤ room) × (length cursor.new < length cursor.old)) }
 {
     if cursor.is(OPEN_SQUARE) {
         return keyed(alloc, cursor, room);
@@ -82,8 +78,7 @@ fn field(alloc: Global, cursor: &mut Cursor, room: u32) -> Parsed<Field>
 fn keyed(alloc: Global, cursor: &mut Cursor, room: u32) -> Parsed<Field>
     requires { room ≤ 400 }
     ensures reads { Answers given_field keyed room cursor.old result cursor.new }
-    ensures low { IfOk result (λ found. found.height ≤ room) }
-    ensures taken { IfOk result (λ _. length cursor.new < length cursor.old) }
+    ensures bound { IfOk result (λ found. (found.height ≤ room) × (length cursor.new < length cursor.old)) }
 {
     let line = open(cursor, OPEN_SQUARE, 0, room)?;
     let key = expression(alloc, cursor, room - 1)?;
@@ -98,8 +93,7 @@ fn keyed(alloc: Global, cursor: &mut Cursor, room: u32) -> Parsed<Field>
 fn item(alloc: Global, cursor: &mut Cursor, room: u32) -> Parsed<Field>
     requires { room ≤ 400 }
     ensures reads { Answers given_field item room cursor.old result cursor.new }
-    ensures low { IfOk result (λ found. found.height ≤ room) }
-    ensures taken { IfOk result (λ _. length cursor.new < length cursor.old) }
+    ensures bound { IfOk result (λ found. (found.height ≤ room) × (length cursor.new < length cursor.old)) }
 {
     let first = expression(alloc, cursor, room)?;
     if !cursor.is(ASSIGN) {

@@ -614,7 +614,7 @@ suffix::prefix-returns-in_err-left-clause-reads t c = failed_by (starts prefix c
 
 pub suffix::prefix-loop-alloc-init : goal.suffix::prefix-loop-alloc-init
 suffix::prefix-loop-alloc-init t c =
-    record { leads = into (found (starts prefix c.args.room c.args.cursor.now) (c.in_ok-left.ensures.reads.tells)); low = c.in_ok-left.ensures.low; taken = c.in_ok-left.ensures.taken }
+    record { leads = into (found (starts prefix c.args.room c.args.cursor.now) (c.in_ok-left.ensures.reads.tells)); low = c.in_ok-left.ensures.bound.0; taken = c.in_ok-left.ensures.bound.1 }
 
 pub suffix::prefix-returns-in_err-left-2-clause-reads : goal.suffix::prefix-returns-in_err-left-2-clause-reads
 suffix::prefix-returns-in_err-left-2-clause-reads t c =
@@ -700,7 +700,7 @@ expression::chain-returns-in_err-left-clause-reads t c =
     let r : c.from_residual.result ≡ Err c.in_err-left.field-0.0 = search rules in rw r (failed_chain Product c.args.level (at_most_product c.args.level) _ c.in_err-left.ensures.reads)
 
 pub expression::chain-loop-current-init : goal.expression::chain-loop-current-init
-expression::chain-loop-current-init t c = record { reads = c.in_ok-left.ensures.reads.tells; order = at_most_product c.args.level; low = c.in_ok-left.ensures.low; taken = c.in_ok-left.ensures.taken }
+expression::chain-loop-current-init t c = record { reads = c.in_ok-left.ensures.reads.tells; order = at_most_product c.args.level; low = c.in_ok-left.ensures.bound.0; taken = c.in_ok-left.ensures.bound.1 }
 
 pub expression::chain-returns-then-not-may_join-clause-reads : goal.expression::chain-returns-then-not-may_join-clause-reads
 expression::chain-returns-then-not-may_join-clause-reads t c =

@@ -283,7 +283,7 @@ expression::simple-returns-clause-reads t c =
 pub expression::explist-loop-alloc-init : goal.expression::explist-loop-alloc-init
 expression::explist-loop-alloc-init t c =
     let l1 = found (starts explist c.args.room c.args.cursor.now) (c.in_ok-first.ensures.reads.tells) in
-    record { leads = placed c.args.room more_exps (into l1) c.in_ok-items.ensures.node c.in_ok-items.ensures.levels; low = omega (arith, c.in_ok-items.ensures.levels, c.in_ok-first.ensures.low); taken = c.in_ok-first.ensures.taken }
+    record { leads = placed c.args.room more_exps (into l1) c.in_ok-items.ensures.node c.in_ok-items.ensures.levels; low = omega (arith, c.in_ok-items.ensures.levels, c.in_ok-first.ensures.bound.0); taken = c.in_ok-first.ensures.bound.1 }
 
 pub expression::explist-loop-alloc-preserved : goal.expression::explist-loop-alloc-preserved
 expression::explist-loop-alloc-preserved t c =
@@ -291,21 +291,21 @@ expression::explist-loop-alloc-preserved t c =
     let l2 = holds _ l1 (sym c.loop-alloc-test.ensures.is) in
     let l3 = passed l2 c.loop-alloc-test.ensures.more (c.skip.ensures) in
     let l4 = found l3 (c.in_ok-item.ensures.reads.tells) in
-    record { leads = placed c.args.room more_exps (into l4) (mapped plain_exp c.loop-alloc.items.node.items c.in_ok-item.item.node.value c.in_ok-items-2.items.node.items c.in_ok-items-2.ensures.items) c.in_ok-items-2.ensures.levels; low = omega (arith, c.in_ok-items-2.ensures.levels, c.in_ok-item.ensures.low, c.loop-alloc.invariant.low); taken = omega (arith, c.loop-alloc.invariant.taken, c.in_ok-item.ensures.taken, one_less c.loop-alloc-test.ensures.more c.skip.ensures) }
+    record { leads = placed c.args.room more_exps (into l4) (mapped plain_exp c.loop-alloc.items.node.items c.in_ok-item.item.node.value c.in_ok-items-2.items.node.items c.in_ok-items-2.ensures.items) c.in_ok-items-2.ensures.levels; low = omega (arith, c.in_ok-items-2.ensures.levels, c.in_ok-item.ensures.bound.0, c.loop-alloc.invariant.low); taken = omega (arith, c.loop-alloc.invariant.taken, c.in_ok-item.ensures.bound.1, one_less c.loop-alloc-test.ensures.more c.skip.ensures) }
 
 pub suffix::prefix-loop-alloc-preserved : goal.suffix::prefix-loop-alloc-preserved
 suffix::prefix-loop-alloc-preserved t c =
     let l1 = picked c.loop-alloc.invariant.leads c.peek.ensures.more in
     let l2 = holds _ l1 (ap begins_suffix (sym c.peek.ensures.is) ∙ sym c.loop-alloc-test.ensures) in
     let l3 = found l2 (c.in_ok-left-2.ensures.reads.tells) in
-    record { leads = into l3; low = c.in_ok-left-2.ensures.low; taken = omega (arith, c.loop-alloc.invariant.taken, c.in_ok-left-2.ensures.taken) }
+    record { leads = into l3; low = c.in_ok-left-2.ensures.bound.0; taken = omega (arith, c.loop-alloc.invariant.taken, c.in_ok-left-2.ensures.bound.1) }
 
 pub table::fields-loop-alloc-preserved : goal.table::fields-loop-alloc-preserved
 table::fields-loop-alloc-preserved t c =
     let l1 = picked c.loop-alloc.invariant.leads c.loop-alloc-test.ensures.more in
     let l2 = fails _ l1 (sym c.loop-alloc-test.ensures.is) in
     let l3 = found l2 (c.in_ok-item.ensures.reads.tells) in
-    record { leads = placed c.args.room more_fields (into l3) (mapped plain_field c.loop-alloc.items.node.items c.in_ok-item.item.node c.in_ok-items.items.node.items c.in_ok-items.ensures.items) c.in_ok-items.ensures.levels; low = omega (arith, c.in_ok-items.ensures.levels, c.in_ok-item.ensures.low, c.loop-alloc.invariant.low); kept = omega (arith, c.loop-alloc.invariant.kept, c.in_ok-item.ensures.taken) }
+    record { leads = placed c.args.room more_fields (into l3) (mapped plain_field c.loop-alloc.items.node.items c.in_ok-item.item.node c.in_ok-items.items.node.items c.in_ok-items.ensures.items) c.in_ok-items.ensures.levels; low = omega (arith, c.in_ok-items.ensures.levels, c.in_ok-item.ensures.bound.0, c.loop-alloc.invariant.low); kept = omega (arith, c.loop-alloc.invariant.kept, c.in_ok-item.ensures.bound.1) }
 
 pub expression::operators-returns-then-left-room-clause-reads : goal.expression::operators-returns-then-left-room-clause-reads
 expression::operators-returns-then-left-room-clause-reads t c =
@@ -331,7 +331,7 @@ expression::operators-loop-infix-preserved t c =
     let l4 = rw (← c.line-line.ensures.is) at l3 in
     let l5 = passed l4 c.peek.ensures.more (c.skip.ensures) in
     let l6 = found l5 (c.in_ok-right.ensures.reads.tells) in
-    record { leads = placed c.args.room (behind c.args.level) (into l6) c.in_ok-left.ensures.node c.in_ok-left.ensures.levels; low = omega (arith, c.in_ok-left.ensures.levels, c.in_ok-right.ensures.low, c.if-left-room.false); kept = omega (arith, c.loop-infix.invariant.kept, c.in_ok-right.ensures.taken, one_less c.peek.ensures.more c.skip.ensures) }
+    record { leads = placed c.args.room (behind c.args.level) (into l6) c.in_ok-left.ensures.node c.in_ok-left.ensures.levels; low = omega (arith, c.in_ok-left.ensures.levels, c.in_ok-right.ensures.bound.0, c.if-left-room.false); kept = omega (arith, c.loop-infix.invariant.kept, c.in_ok-right.ensures.bound.1, one_less c.peek.ensures.more c.skip.ensures) }
 
 pub expression::operators-returns-clause-reads : goal.expression::operators-returns-clause-reads
 expression::operators-returns-clause-reads t c =
@@ -345,7 +345,7 @@ expression::chain-returns-in_err-left-2-clause-reads t c =
 
 pub expression::chain-loop-current-preserved : goal.expression::chain-loop-current-preserved
 expression::chain-loop-current-preserved t c =
-    let more = less (rank c.args.level) (rank c.loop-current.current) c.loop-current-test.ensures in record { reads = next_operand c.loop-current.current c.looser-current.result c.args.room c.args.cursor.now _ c.looser-current.ensures (omega (arith, more)) ((chain_leads c.loop-current.current c.args.room c.args.cursor.now c.loop-current.cursor (plain_boxed c.loop-current.left.node) c.loop-current.left.height c.loop-current.invariant.reads).leads _ c.in_ok-left-2.ensures.reads.tells); order = omega (arith, more, rank_looser c.loop-current.current, ap rank c.looser-current.ensures); low = c.in_ok-left-2.ensures.low; taken = omega (arith, c.loop-current.invariant.taken, c.in_ok-left-2.ensures.kept) }
+    let more = less (rank c.args.level) (rank c.loop-current.current) c.loop-current-test.ensures in record { reads = next_operand c.loop-current.current c.looser-current.result c.args.room c.args.cursor.now _ c.looser-current.ensures (omega (arith, more)) ((chain_leads c.loop-current.current c.args.room c.args.cursor.now c.loop-current.cursor (plain_boxed c.loop-current.left.node) c.loop-current.left.height c.loop-current.invariant.reads).leads _ c.in_ok-left-2.ensures.reads.tells); order = omega (arith, more, rank_looser c.loop-current.current, ap rank c.looser-current.ensures); low = c.in_ok-left-2.ensures.bound.0; taken = omega (arith, c.loop-current.invariant.taken, c.in_ok-left-2.ensures.bound.1) }
 
 pub expression::chain-returns-clause-reads : goal.expression::chain-returns-clause-reads
 expression::chain-returns-clause-reads t c =

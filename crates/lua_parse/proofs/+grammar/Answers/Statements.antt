@@ -280,7 +280,7 @@ block::block-returns-clause-reads t c =
 pub branch::arms-loop-alloc-init : goal.branch::arms-loop-alloc-init
 branch::arms-loop-alloc-init t c =
     let l1 = found (starts arms c.args.room c.args.cursor.now) (c.in_ok-first.ensures.reads.tells) in
-    record { leads = placed c.args.room more_arms (into l1) c.in_ok-items.ensures.node c.in_ok-items.ensures.levels; low = omega (arith, c.in_ok-items.ensures.levels, c.in_ok-first.ensures.low); taken = c.in_ok-first.ensures.taken }
+    record { leads = placed c.args.room more_arms (into l1) c.in_ok-items.ensures.node c.in_ok-items.ensures.levels; low = omega (arith, c.in_ok-items.ensures.levels, c.in_ok-first.ensures.bound.0); taken = c.in_ok-first.ensures.bound.1 }
 
 pub branch::arms-loop-alloc-preserved : goal.branch::arms-loop-alloc-preserved
 branch::arms-loop-alloc-preserved t c =
@@ -288,7 +288,7 @@ branch::arms-loop-alloc-preserved t c =
     let l2 = holds _ l1 (sym c.loop-alloc-test.ensures.is) in
     let l3 = passed l2 c.loop-alloc-test.ensures.more (c.skip.ensures) in
     let l4 = found l3 (c.in_ok-item.ensures.reads.tells) in
-    record { leads = placed c.args.room more_arms (into l4) (mapped plain_arm c.loop-alloc.items.node.items c.in_ok-item.item.node c.in_ok-items-2.items.node.items c.in_ok-items-2.ensures.items) c.in_ok-items-2.ensures.levels; low = omega (arith, c.in_ok-items-2.ensures.levels, c.in_ok-item.ensures.low, c.loop-alloc.invariant.low); taken = omega (arith, c.loop-alloc.invariant.taken, c.in_ok-item.ensures.taken, one_less c.loop-alloc-test.ensures.more c.skip.ensures) }
+    record { leads = placed c.args.room more_arms (into l4) (mapped plain_arm c.loop-alloc.items.node.items c.in_ok-item.item.node c.in_ok-items-2.items.node.items c.in_ok-items-2.ensures.items) c.in_ok-items-2.ensures.levels; low = omega (arith, c.in_ok-items-2.ensures.levels, c.in_ok-item.ensures.bound.0, c.loop-alloc.invariant.low); taken = omega (arith, c.loop-alloc.invariant.taken, c.in_ok-item.ensures.bound.1, one_less c.loop-alloc-test.ensures.more c.skip.ensures) }
 
 pub block::items-returns-in_err-stat-clause-reads : goal.block::items-returns-in_err-stat-clause-reads
 block::items-returns-in_err-stat-clause-reads t c =
@@ -303,7 +303,7 @@ block::items-loop-cursor-preserved t c =
     let l2 = fails _ l1 (neither_first (is_word RETURN (first c.loop-cursor.cursor).0) (ends_block (first c.loop-cursor.cursor).0) (ap (λ t. is_word RETURN t || ends_block t) (sym c.peek.ensures.is) ∙ sym c.loop-cursor-test.ensures)) in
     let l3 = fails _ l2 (neither_second (is_word RETURN (first c.loop-cursor.cursor).0) (ends_block (first c.loop-cursor.cursor).0) (ap (λ t. is_word RETURN t || ends_block t) (sym c.peek.ensures.is) ∙ sym c.loop-cursor-test.ensures)) in
     let l4 = found l3 (c.in_ok-stat.ensures.reads.tells) in
-    record { leads = placed c.args.room items (into l4) (mapped plain_stat c.loop-cursor.stats.node.items c.in_ok-stat.stat.node c.in_ok-stats.stats.node.items c.in_ok-stats.ensures.items) c.in_ok-stats.ensures.levels; low = omega (arith, c.in_ok-stats.ensures.levels, c.in_ok-stat.ensures.low, c.loop-cursor.invariant.low); kept = omega (arith, c.loop-cursor.invariant.kept, c.in_ok-stat.ensures.taken) }
+    record { leads = placed c.args.room items (into l4) (mapped plain_stat c.loop-cursor.stats.node.items c.in_ok-stat.stat.node c.in_ok-stats.stats.node.items c.in_ok-stats.ensures.items) c.in_ok-stats.ensures.levels; low = omega (arith, c.in_ok-stats.ensures.levels, c.in_ok-stat.ensures.bound.0, c.loop-cursor.invariant.low); kept = omega (arith, c.loop-cursor.invariant.kept, c.in_ok-stat.ensures.bound.1) }
 
 pub block::items-returns-then-not-is-clause-reads : goal.block::items-returns-then-not-is-clause-reads
 block::items-returns-then-not-is-clause-reads t c =
@@ -342,4 +342,4 @@ assignment::targets-loop-alloc-preserved t c =
     let l3 = passed l2 c.loop-alloc-test.ensures.more (c.skip.ensures) in
     let l4 = found l3 (c.in_ok-item.ensures.reads.tells) in
     let l5 = holds _ l4 (sym c.if-not-is_target.ensures) in
-    record { leads = placed c.args.room more_targets (into l5) (mapped plain_exp c.loop-alloc.items.node.items c.in_ok-item.item.node.value c.in_ok-items-2.items.node.items c.in_ok-items-2.ensures.items) c.in_ok-items-2.ensures.levels; low = omega (arith, c.in_ok-items-2.ensures.levels, c.in_ok-item.ensures.low, c.loop-alloc.invariant.low); kept = omega (arith, c.loop-alloc.invariant.kept, c.in_ok-item.ensures.taken, one_less c.loop-alloc-test.ensures.more c.skip.ensures) }
+    record { leads = placed c.args.room more_targets (into l5) (mapped plain_exp c.loop-alloc.items.node.items c.in_ok-item.item.node.value c.in_ok-items-2.items.node.items c.in_ok-items-2.ensures.items) c.in_ok-items-2.ensures.levels; low = omega (arith, c.in_ok-items-2.ensures.levels, c.in_ok-item.ensures.bound.0, c.loop-alloc.invariant.low); kept = omega (arith, c.loop-alloc.invariant.kept, c.in_ok-item.ensures.bound.1, one_less c.loop-alloc-test.ensures.more c.skip.ensures) }

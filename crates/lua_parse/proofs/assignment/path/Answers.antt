@@ -37,7 +37,7 @@ loop-alloc-preserved c =
     let l1 = picked c.loop-alloc.invariant.leads c.loop-alloc-test.ensures.more in
     let l2 = holds _ l1 (sym c.loop-alloc-test.ensures.is) in
     let l3 = found l2 (c.in_ok-left.ensures.reads.tells) in
-    record { leads = into l3; low = c.in_ok-left.ensures.low; kept = omega (arith, c.loop-alloc.invariant.kept, c.in_ok-left.ensures.taken) }
+    record { leads = into l3; low = c.in_ok-left.ensures.bound.0; kept = omega (arith, c.loop-alloc.invariant.kept, c.in_ok-left.ensures.bound.1) }
 
 pub returns-clause-reads : goal.returns-clause-reads
 returns-clause-reads c =
