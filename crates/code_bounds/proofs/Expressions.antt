@@ -372,30 +372,18 @@ module _ (cs : List Const) where
             (λ x n is x_below fits. let o = numbers x n (omega (arith, x_below, fits)) in (omega (arith, o, x_below), omega arith)) small
 
     binary_tests : (line : ℕ) (op : BinOp) (e d : Exp) → ExpTakes (Binary line op e d) → ExpTakes e → ExpTakes d → TestTakes (Binary line op e d)
-    binary_tests line Equal e d value law_e law_d k ahead size t j known in_scope small = compare_tests Equal e d _ _ _ law_e law_d size t j known.0 known.1 in_scope
-        (λ x n xf. pair_top (abc EqK x n 0 (not k)) ahead line ∙ one_a EqK x n 0 (not k) refl xf)
-        (λ x y xf yf. let o = pair_top (abc Eq x y 0 (not k)) ahead line in let p = one_ab Eq x y 0 (not k) refl xf yf in omega (arith, o, p))
-        (λ x n xf. pair_top (abc EqI x (n + 127) 0 (not k)) ahead line ∙ one_a EqI x (n + 127) 0 (not k) refl xf) small
-    binary_tests line Ne e d value law_e law_d k ahead size t j known in_scope small = compare_tests Ne e d _ _ _ law_e law_d size t j known.0 known.1 in_scope
-        (λ x n xf. pair_top (abc EqK x n 0 k) ahead line ∙ one_a EqK x n 0 k refl xf)
-        (λ x y xf yf. let o = pair_top (abc Eq x y 0 k) ahead line in let p = one_ab Eq x y 0 k refl xf yf in omega (arith, o, p))
-        (λ x n xf. pair_top (abc EqI x (n + 127) 0 k) ahead line ∙ one_a EqI x (n + 127) 0 k refl xf) small
-    binary_tests line Less e d value law_e law_d k ahead size t j known in_scope small = compare_tests Less e d _ _ _ law_e law_d size t j known.0 known.1 in_scope
-        (λ x n xf. pair_top (abc EqK x n 0 (not k)) ahead line ∙ one_a EqK x n 0 (not k) refl xf)
-        (λ x y xf yf. let o = pair_top (abc Lt x y 0 (not k)) ahead line in let p = one_ab Lt x y 0 (not k) refl xf yf in omega (arith, o, p))
-        (λ x n xf. pair_top (abc LtI x (n + 127) 0 (not k)) ahead line ∙ one_a LtI x (n + 127) 0 (not k) refl xf) small
-    binary_tests line AtMost e d value law_e law_d k ahead size t j known in_scope small = compare_tests AtMost e d _ _ _ law_e law_d size t j known.0 known.1 in_scope
-        (λ x n xf. pair_top (abc EqK x n 0 (not k)) ahead line ∙ one_a EqK x n 0 (not k) refl xf)
-        (λ x y xf yf. let o = pair_top (abc Le x y 0 (not k)) ahead line in let p = one_ab Le x y 0 (not k) refl xf yf in omega (arith, o, p))
-        (λ x n xf. pair_top (abc LeI x (n + 127) 0 (not k)) ahead line ∙ one_a LeI x (n + 127) 0 (not k) refl xf) small
-    binary_tests line Gt e d value law_e law_d k ahead size t j known in_scope small = compare_tests Gt e d _ _ _ law_e law_d size t j known.0 known.1 in_scope
-        (λ x n xf. pair_top (abc EqK x n 0 (not k)) ahead line ∙ one_a EqK x n 0 (not k) refl xf)
-        (λ x y xf yf. let o = pair_top (abc Lt y x 0 (not k)) ahead line in let p = one_ab Lt y x 0 (not k) refl yf xf in omega (arith, o, p))
-        (λ x n xf. pair_top (abc GtI x (n + 127) 0 (not k)) ahead line ∙ one_a GtI x (n + 127) 0 (not k) refl xf) small
-    binary_tests line Ge e d value law_e law_d k ahead size t j known in_scope small = compare_tests Ge e d _ _ _ law_e law_d size t j known.0 known.1 in_scope
-        (λ x n xf. pair_top (abc EqK x n 0 (not k)) ahead line ∙ one_a EqK x n 0 (not k) refl xf)
-        (λ x y xf yf. let o = pair_top (abc Le y x 0 (not k)) ahead line in let p = one_ab Le y x 0 (not k) refl yf xf in omega (arith, o, p))
-        (λ x n xf. pair_top (abc GeI x (n + 127) 0 (not k)) ahead line ∙ one_a GeI x (n + 127) 0 (not k) refl xf) small
+    binary_tests line Equal e d value law_e law_d k ahead size t j known in_scope small = compare_tests Equal e d _ _ _ law_e law_d size t j known.0 known.1 in_scope (λ x n xf. pair_top (abc EqK x n 0 (not k)) ahead line ∙ one_a EqK x n 0 (not k) refl xf)
+        (λ x y xf yf. pair_top (abc Eq x y 0 (not k)) ahead line ∙ one_ab Eq x y 0 (not k) refl xf yf) (λ x n xf. pair_top (abc EqI x (n + 127) 0 (not k)) ahead line ∙ one_a EqI x (n + 127) 0 (not k) refl xf) small
+    binary_tests line Ne e d value law_e law_d k ahead size t j known in_scope small = compare_tests Ne e d _ _ _ law_e law_d size t j known.0 known.1 in_scope (λ x n xf. pair_top (abc EqK x n 0 k) ahead line ∙ one_a EqK x n 0 k refl xf)
+        (λ x y xf yf. pair_top (abc Eq x y 0 k) ahead line ∙ one_ab Eq x y 0 k refl xf yf) (λ x n xf. pair_top (abc EqI x (n + 127) 0 k) ahead line ∙ one_a EqI x (n + 127) 0 k refl xf) small
+    binary_tests line Less e d value law_e law_d k ahead size t j known in_scope small = compare_tests Less e d _ _ _ law_e law_d size t j known.0 known.1 in_scope (λ x n xf. pair_top (abc EqK x n 0 (not k)) ahead line ∙ one_a EqK x n 0 (not k) refl xf)
+        (λ x y xf yf. pair_top (abc Lt x y 0 (not k)) ahead line ∙ one_ab Lt x y 0 (not k) refl xf yf) (λ x n xf. pair_top (abc LtI x (n + 127) 0 (not k)) ahead line ∙ one_a LtI x (n + 127) 0 (not k) refl xf) small
+    binary_tests line AtMost e d value law_e law_d k ahead size t j known in_scope small = compare_tests AtMost e d _ _ _ law_e law_d size t j known.0 known.1 in_scope (λ x n xf. pair_top (abc EqK x n 0 (not k)) ahead line ∙ one_a EqK x n 0 (not k) refl xf)
+        (λ x y xf yf. pair_top (abc Le x y 0 (not k)) ahead line ∙ one_ab Le x y 0 (not k) refl xf yf) (λ x n xf. pair_top (abc LeI x (n + 127) 0 (not k)) ahead line ∙ one_a LeI x (n + 127) 0 (not k) refl xf) small
+    binary_tests line Gt e d value law_e law_d k ahead size t j known in_scope small = compare_tests Gt e d _ _ _ law_e law_d size t j known.0 known.1 in_scope (λ x n xf. pair_top (abc EqK x n 0 (not k)) ahead line ∙ one_a EqK x n 0 (not k) refl xf)
+        (λ x y xf yf. let o = pair_top (abc Lt y x 0 (not k)) ahead line in let p = one_ab Lt y x 0 (not k) refl yf xf in omega (arith, o, p)) (λ x n xf. pair_top (abc GtI x (n + 127) 0 (not k)) ahead line ∙ one_a GtI x (n + 127) 0 (not k) refl xf) small
+    binary_tests line Ge e d value law_e law_d k ahead size t j known in_scope small = compare_tests Ge e d _ _ _ law_e law_d size t j known.0 known.1 in_scope (λ x n xf. pair_top (abc EqK x n 0 (not k)) ahead line ∙ one_a EqK x n 0 (not k) refl xf)
+        (λ x y xf yf. let o = pair_top (abc Le y x 0 (not k)) ahead line in let p = one_ab Le y x 0 (not k) refl yf xf in omega (arith, o, p)) (λ x n xf. pair_top (abc GeI x (n + 127) 0 (not k)) ahead line ∙ one_a GeI x (n + 127) 0 (not k) refl xf) small
     binary_tests line op e d value law_e law_d k ahead size t j known in_scope small = value_tests (Binary line op e d) value k ahead size t j known in_scope small
 
     true_tests : (line : ℕ) → TestTakes (True line)
