@@ -5,11 +5,16 @@ use Rattle.std.specs.List.{list_any}
 use Rattle.std.proofs.lemmas.List.{get_or-map, length-map, drop_more, drop_all}
 use Rattle.tree_core.specs.declared.tree.Stat.{Stat}
 use Rattle.tree_core.specs.Plain.{plain_stat}
+use Rattle.scope_core.specs.Scopes.{Around}
 use Rattle.scope_core.specs.Rules as rules
 use Rattle.scope_core.specs.Rules.{is_label, find_label, find_in, stands_before, or_further}
 use Rattle.scope_core.proofs.Variables.{split_last}
 use Rattle.lua_scope.specs.declared.labels.BlockPlace.{BlockPlace}
 use Rattle.lua_scope.specs.Blocks.{around_of, arounds}
+
+-- what is asked of the blocks comes to what it comes to of those that are left
+abbrev pub IsLeft : {A : Type 0} → (List Around → A) → (count : ℕ) → List BlockPlace → Type 0
+IsLeft f count blocks = (count ≤ length blocks) × (f (arounds (take count blocks)) ≡ f (arounds blocks))
 
 last_around : (r : ℕ) (bs : List BlockPlace) (d : BlockPlace) → 0 < r → r ≤ length bs → arounds (take r bs) ≡ around_of (slice_index_or bs (r - 1) d) ∷ arounds (take (r - 1) bs)
 last_around r bs d p h = ap (map around_of) (split_last r bs d p h)

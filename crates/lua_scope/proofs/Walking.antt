@@ -33,6 +33,18 @@ returned_met s ends ss es tokens line o o₁ o₂ o₃ fs r frames met counted c
     ∙ held_met o₁ (locals fs) (held_behind 0 es) r line counted
     ∙ ap₂ (λ x gs. meet_all x (breach (nat_lt 250 (locals gs + held_behind 0 es)) line 11)) met frames)
 
+-- what is called, and then the arguments
+
+pub called_met :
+    (fs fs₁ : List Frame) (vararg : Bool) (f f' : Exp) (es : Exps) (o o₁ o₂ : Option Violation)
+    → f' ≡ f
+    → fs₁ ≡ fs
+    → o₁ ≡ met_exp fs vararg o f'
+    → o₂ ≡ met_exps fs₁ vararg o₁ es
+    → o₂ ≡ met_exps fs vararg (met_exp fs vararg o f) es
+called_met fs fs₁ vararg f f' es o o₁ o₂ same frames met last =
+    last ∙ ap₂ (λ gs x. met_exps gs vararg x es) frames (met ∙ ap (met_exp fs vararg o) same)
+
 -- a function
 
 pub body_met :

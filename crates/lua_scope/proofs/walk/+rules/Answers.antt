@@ -19,7 +19,7 @@ use Rattle.lua_scope.specs.Blocks.{scope_at, moved}
 use Rattle.lua_scope.proofs.Looping.{on, at_end, mapped, within, gone}
 use Rattle.lua_scope.proofs.Placing.{around_here, gone_out, next_behind, next_met}
 use Rattle.lua_scope.proofs.Endings.{ended_behind}
-use Rattle.lua_scope.proofs.Walking.{returned_met, body_left, body_met, repeated_met, for_ended, for_met}
+use Rattle.lua_scope.proofs.Walking.{returned_met, called_met, body_left, body_met, repeated_met, for_ended, for_met}
 use Rattle.lua_scope.proofs.walk.+rules.Goals as goal
 
 pub meet_exps-loop-exp-preserved : goal.meet_exps-loop-exp-preserved
@@ -180,21 +180,15 @@ meet_iterated-returns-clause-met t c =
 
 pub meet_exp-returns-in_ok-meet_exps-in-Call-clause-met : goal.meet_exp-returns-in_ok-meet_exps-in-Call-clause-met
 meet_exp-returns-in_ok-meet_exps-in-Call-clause-met t c =
-    let called : c.meet_exp-in-Call.new.least.violation ≡ met_exp c.args.nesting.now c.args.is_vararg c.args.least.now.violation (plain_exp c.in-Call.called.value) =
-    c.in_ok-meet_exp-in-Call.ensures.met ∙ ap (λ e. met_exp c.args.nesting.now c.args.is_vararg c.args.least.now.violation (plain_exp e)) c.deref-in-Call.ensures in
-    c.in_ok-meet_exps-in-Call.ensures.met
-    ∙ ap₂ (λ fs o. met_exps fs c.args.is_vararg o (tree.exps (plain_exps c.in-Call.arguments.items))) c.in_ok-meet_exp-in-Call.ensures.nesting called
-    ∙ sym (ap (met_exp c.args.nesting.now c.args.is_vararg c.args.least.now.violation)
-    (ap (λ node. plain_exp_node node c.args.exp.now.line) c.in-Call.is ∙ plain-call c.args.exp.now.line c.in-Call.called c.in-Call.arguments))
+    called_met c.args.nesting.now c.meet_exp-in-Call.new.nesting c.args.is_vararg (plain_exp c.in-Call.called.value) _ (tree.exps (plain_exps c.in-Call.arguments.items)) c.args.least.now.violation c.meet_exp-in-Call.new.least.violation _
+    (ap plain_exp c.deref-in-Call.ensures) c.in_ok-meet_exp-in-Call.ensures.nesting c.in_ok-meet_exp-in-Call.ensures.met c.in_ok-meet_exps-in-Call.ensures.met
+    ∙ sym (ap (met_exp c.args.nesting.now c.args.is_vararg c.args.least.now.violation) (ap (λ node. plain_exp_node node c.args.exp.now.line) c.in-Call.is ∙ plain-call c.args.exp.now.line c.in-Call.called c.in-Call.arguments))
 
 pub meet_exp-returns-in_ok-meet_exps-in-Method-clause-met : goal.meet_exp-returns-in_ok-meet_exps-in-Method-clause-met
 meet_exp-returns-in_ok-meet_exps-in-Method-clause-met t c =
-    let object : c.meet_exp-in-Method.new.least.violation ≡ met_exp c.args.nesting.now c.args.is_vararg c.args.least.now.violation (plain_exp c.in-Method.object.value) =
-    c.in_ok-meet_exp-in-Method.ensures.met ∙ ap (λ e. met_exp c.args.nesting.now c.args.is_vararg c.args.least.now.violation (plain_exp e)) c.deref-in-Method.ensures in
-    c.in_ok-meet_exps-in-Method.ensures.met
-    ∙ ap₂ (λ fs o. met_exps fs c.args.is_vararg o (tree.exps (plain_exps c.in-Method.arguments.items))) c.in_ok-meet_exp-in-Method.ensures.nesting object
-    ∙ sym (ap (met_exp c.args.nesting.now c.args.is_vararg c.args.least.now.violation)
-    (ap (λ node. plain_exp_node node c.args.exp.now.line) c.in-Method.is ∙ plain-method c.args.exp.now.line c.in-Method.object c.in-Method._name c.in-Method.arguments))
+    called_met c.args.nesting.now c.meet_exp-in-Method.new.nesting c.args.is_vararg (plain_exp c.in-Method.object.value) _ (tree.exps (plain_exps c.in-Method.arguments.items)) c.args.least.now.violation c.meet_exp-in-Method.new.least.violation _
+    (ap plain_exp c.deref-in-Method.ensures) c.in_ok-meet_exp-in-Method.ensures.nesting c.in_ok-meet_exp-in-Method.ensures.met c.in_ok-meet_exps-in-Method.ensures.met
+    ∙ sym (ap (met_exp c.args.nesting.now c.args.is_vararg c.args.least.now.violation) (ap (λ node. plain_exp_node node c.args.exp.now.line) c.in-Method.is ∙ plain-method c.args.exp.now.line c.in-Method.object c.in-Method._name c.in-Method.arguments))
 
 pub meet_stat-returns-in_ok-declare_locals-in-Local-clause-met : goal.meet_stat-returns-in_ok-declare_locals-in-Local-clause-met
 meet_stat-returns-in_ok-declare_locals-in-Local-clause-met t c =
