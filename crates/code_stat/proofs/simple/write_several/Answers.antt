@@ -7,16 +7,14 @@ use Rattle.code_stat.proofs.simple.write_several.Goals as goal
 
 pub returns-then-len-ne2 : goal.returns-then-len-ne2
 returns-then-len-ne2 c =
-    let ts = c.args.targets.now.items in
-    let es = tree.exps (plain_exps c.args.values.now.items) in
+    let ts = c.args.targets.now.items in let es = tree.exps (plain_exps c.args.values.now.items) in
     let size : c.len.result ≡ length ts = search rules in
     on_ok_weaker c.write_single.result
     (single_follows c.args.emitter.now c.write_single.new.emitter (tree.exps (plain_exps ts)) es c.args.register c.args.line (two_targets ts es (λ h. c.if-len-ne2.true (size ∙ h)))) c.write_single.ensures
 
 pub returns-then-len-ne2-2 : goal.returns-then-len-ne2-2
 returns-then-len-ne2-2 c =
-    let es = c.args.values.now.items in
-    let ts = tree.exps (plain_exps c.args.targets.now.items) in
+    let es = c.args.values.now.items in let ts = tree.exps (plain_exps c.args.targets.now.items) in
     let size : c.len-2.result ≡ length es = search rules in
     on_ok_weaker c.write_single-then-len-ne2-2.result
     (single_follows c.args.emitter.now c.write_single-then-len-ne2-2.new.emitter ts (tree.exps (plain_exps es)) c.args.register c.args.line (two_values ts es (λ h. c.if-len-ne2-2.true (size ∙ h)))) c.write_single-then-len-ne2-2.ensures

@@ -22,19 +22,15 @@ returns-then-len-ne1-2 c =
 
 pub returns-then-is_field : goal.returns-then-is_field
 returns-then-is_field c =
-    let targets = single c.args.targets.now.items c.index-target.result.now (search rules) (search rules) in
-    let values = single c.args.values.now.items c.index-value.result.now (search rules) (search rules) in
     on_ok_weaker c.store.result
     (field_follows c.args.emitter.now c.store.new.emitter (tree.exps (plain_exps c.args.targets.now.items)) (tree.exps (plain_exps c.args.values.now.items)) (plain_exp c.index-target.result.now) (plain_exp c.index-value.result.now) c.args.register c.args.line
-    targets values (sym c.is_field.ensures ∙ c.if-is_field.true)) c.store.ensures
+    (single c.args.targets.now.items c.index-target.result.now (search rules) (search rules)) (single c.args.values.now.items c.index-value.result.now (search rules) (search rules)) (sym c.is_field.ensures ∙ c.if-is_field.true)) c.store.ensures
 
 pub returns-in-Some : goal.returns-in-Some
 returns-in-Some c =
-    let targets = single c.args.targets.now.items c.index-target.result.now (search rules) (search rules) in
-    let values = single c.args.values.now.items c.index-value.result.now (search rules) (search rules) in
     on_ok_weaker c.put_step.result
     (local_follows c.args.emitter.now c.put_step.new.self (tree.exps (plain_exps c.args.targets.now.items)) (tree.exps (plain_exps c.args.values.now.items)) (plain_exp c.index-target.result.now) (plain_exp c.index-value.result.now) c.in-Some.step c.args.register c.args.line
-    targets values (sym c.is_field.ensures ∙ c.if-is_field.false) (sym c.local_store.ensures ∙ c.in-Some.is)) c.put_step.ensures
+    (single c.args.targets.now.items c.index-target.result.now (search rules) (search rules)) (single c.args.values.now.items c.index-value.result.now (search rules) (search rules)) (sym c.is_field.ensures ∙ c.if-is_field.false) (sym c.local_store.ensures ∙ c.in-Some.is)) c.put_step.ensures
 
 pub returns-in-None : goal.returns-in-None
 returns-in-None c =
