@@ -1,6 +1,6 @@
 -- The code of an expression talks as the expression does. The work below is any work, and code goes on by a hypothesis.
 use Rattle.std.proofs.Common.{◌≡◌, ℕ, ◌+◌, ◌-◌, ◌<◌, ◌≤◌, ◌^◌, lit<, max, Bool, true, false, zero, suc, Option, Some, None, List, [], ◌∷◌, ◌++◌, length, cond, refl, ap, sym, ◌∙◌, subst, arith, length-append}
-use Rattle.int_core.specs.Value.{Value, same_truth, known, nil, boolean, nth, shape, holds}
+use Rattle.int_core.specs.Value.{Value, known, nil, boolean, nth}
 use Rattle.int_core.specs.Ask.{Captured, goes_on}
 use Rattle.tree_core.specs.declared.operator.BinOp.{BinOp}
 use Rattle.tree_core.specs.Tree.{Exp, Nil, True, False, Int, Str, Vararg, Function, Var, Index, Call, Method, Unary, Binary, And, Or, Paren, Table, Exps, EndExps, MoreExps, Fields, EndFields, MoreFields, Item, Keyed}
@@ -24,7 +24,6 @@ use Rattle.code_of.proofs.Chains.{joins_is}
 use Rattle.code_of.proofs.Operations.{some_operation}
 use Rattle.code_of.proofs.FieldReads.{some_read}
 use Rattle.code_of.specs.Operators.{self_code, prefix_code, operator_code, number_code}
-use Rattle.code_of.specs.Conditions.{keep_code}
 use Rattle.code_of.specs.Expressions.{made_by, count, is_open, ends_open, Wanted, results_field, one_less, field_of, wanted_after, list_field, exp_code, exps_code, fields_code}
 use Rattle.exp_laws.specs.Setting.{Setting}
 use Rattle.exp_laws.proofs.Registers.{Rel, After, after_then, lower}
@@ -43,7 +42,7 @@ use Rattle.exp_laws.specs.Placed.{IsPlaced, ArePlaced, FieldsArePlaced}
 use Rattle.code_of.specs.FieldReads.{object_room}
 use Rattle.code_of.specs.Rooms.{room_of, room_of_name, room_of_list, room_of_values}
 use Rattle.code_of.proofs.Rooms.{self_room}
-use Rattle.exp_laws.proofs.Going.{Given, Filled, Goes, GoesFilled, at_place, goes_at, goes_after, into_goes, one_goes}
+use Rattle.exp_laws.proofs.Going.{Given, Filled, Goes, GoesFilled, goes_at, goes_after, into_goes, one_goes}
 use Rattle.exp_laws.proofs.NameForms.{constant_goes, integer_goes, name_goes}
 use Rattle.exp_laws.proofs.OperatorForms.{unary_into, binary_goes, number_goes}
 use Rattle.exp_laws.proofs.Sums.{number_form}
@@ -53,24 +52,8 @@ use Rattle.exp_laws.proofs.ConstantForms.{operation_same, with_constant_goes}
 use Rattle.exp_laws.proofs.FieldForms.{field_into}
 use Rattle.exp_laws.proofs.Rooms.{room_some}
 use Rattle.exp_laws.proofs.TestForms.{TestSame, leaf_tested, paren_tested, unary_tested, and_tested, or_tested, binary_tested, true_tested}
-use Rattle.exp_laws.proofs.Keeping.{KeepSame, leaf_kept, unary_kept, binary_kept, paren_kept, and_kept, or_kept}
+use Rattle.exp_laws.proofs.Keeping.{KeepSame, leaf_kept, unary_kept, binary_kept, paren_kept, and_kept, or_kept, and_keeps, or_keeps, either_same}
 use Rattle.exp_laws.proofs.ChainForms.{ChainSame, ChainsSame, chain_end, chain_binary, join_same}
-
-and_decides : {A : Type 0} (x y : A) (b : Bool) → same_truth b false ≡ true → cond b x y ≡ y
-and_decides x y false e = refl
-and_decides x y true e = absurd (cc)
-
-and_goes_on : {A : Type 0} (x y : A) (b : Bool) → same_truth b false ≡ false → cond b x y ≡ x
-and_goes_on x y true e = refl
-and_goes_on x y false e = absurd (cc)
-
-or_decides : {A : Type 0} (x y : A) (b : Bool) → same_truth b true ≡ true → cond b x y ≡ x
-or_decides x y true e = refl
-or_decides x y false e = absurd (cc)
-
-or_goes_on : {A : Type 0} (x y : A) (b : Bool) → same_truth b true ≡ false → cond b x y ≡ y
-or_goes_on x y false e = refl
-or_goes_on x y true e = absurd (cc)
 
 -- each value of a list that is not open has its register
 pub room_count : (cs : List Const) (above : ℕ) (es : Exps) → ends_open es ≡ false → above + count es ≤ max above (room_of_list cs above es None)
@@ -352,31 +335,11 @@ module _ (S : Setting) (pending : List Pending) where
     all_same (Binary line op e d) field t j n pc opened env regs c k bound has fits ok inside le room rel goes =
         binary_same line op e d (one_same e (all_same e)) (one_same d (all_same d)) (chain_same d (one_same d (all_same d)) line) t j n pc opened env regs c k bound has ok inside le room rel goes
     all_same (And line e d) field t j n pc opened env regs c k bound has fits ok inside le room rel goes =
-        let second = exp_code S.code.own.constants d t (j + made_by e) 2 in
-        let front = keep_code S.code.own.constants e false (length second) t j in
-        let whole = length-append front second in
         go_left S n _ (tree.at (evaluate e) (of_tree S pending env c) (and_right d ∷ k)) _ refl
-        (keep_law e (one_same e (all_same e)) false (length second) t j n pc opened env regs c (and_right d ∷ k) bound (has_front S pc front second has) ok.0 (omega (arith, inside, whole)) le (omega (arith, room)) rel
-        (λ vs env1 regs1 c1 o1 af eq is. go_left S n _ (tree.at (give (first vs ∷ [])) (of_tree S pending env1 c1) k) _ (and_decides _ _ (holds (shape (first vs))) is)
-        (at_place S pending n (pc + length front + length second) (pc + length (front ++ second)) o1 _ regs1 c1 (omega (arith, whole)) (goes (first vs ∷ []) env1 regs1 c1 o1 af eq refl)))
-        (λ vs env1 regs1 c1 o1 af is. go_left S n _ (tree.at (evaluate d) (of_tree S pending env1 c1) (first_only ∷ k)) _ (and_goes_on _ _ (holds (shape (first vs))) is)
-        (one_same d (all_same d) t (j + made_by e) n (pc + length front) o1 env1 regs1 c1 (first_only ∷ k) bound (has_back S pc front second has) (placed d _ _ _ af.size ok.1) (omega (arith, inside, whole)) (omega (arith, le, af.size)) (omega (arith, room)) af.rel
-        (λ ws env2 regs2 c2 o2 af2 eq2 one2. go_left S n _ (tree.at (give (first ws ∷ [])) (of_tree S pending env2 c2) k) _ refl
-        (at_place S pending n (pc + length front + length second) (pc + length (front ++ second)) o2 _ regs2 c2 (omega (arith, whole))
-        (goes (first ws ∷ []) env2 regs2 c2 o2 (after_then S.hidden S.code.own.stack pending env regs env1 regs1 env2 regs2 c1 c2 t t (omega arith) af af2) eq2 refl))))))
+        (either_same S pending (and_right d) e d false (and_keeps S pending d) (keep_law e (one_same e (all_same e))) (one_same d (all_same d)) t j n pc opened env regs c k bound has ok.0 ok.1 inside le (omega (arith, room)) (omega (arith, room)) rel goes)
     all_same (Or line e d) field t j n pc opened env regs c k bound has fits ok inside le room rel goes =
-        let second = exp_code S.code.own.constants d t (j + made_by e) 2 in
-        let front = keep_code S.code.own.constants e true (length second) t j in
-        let whole = length-append front second in
         go_left S n _ (tree.at (evaluate e) (of_tree S pending env c) (or_right d ∷ k)) _ refl
-        (keep_law e (one_same e (all_same e)) true (length second) t j n pc opened env regs c (or_right d ∷ k) bound (has_front S pc front second has) ok.0 (omega (arith, inside, whole)) le (omega (arith, room)) rel
-        (λ vs env1 regs1 c1 o1 af eq is. go_left S n _ (tree.at (give (first vs ∷ [])) (of_tree S pending env1 c1) k) _ (or_decides _ _ (holds (shape (first vs))) is)
-        (at_place S pending n (pc + length front + length second) (pc + length (front ++ second)) o1 _ regs1 c1 (omega (arith, whole)) (goes (first vs ∷ []) env1 regs1 c1 o1 af eq refl)))
-        (λ vs env1 regs1 c1 o1 af is. go_left S n _ (tree.at (evaluate d) (of_tree S pending env1 c1) (first_only ∷ k)) _ (or_goes_on _ _ (holds (shape (first vs))) is)
-        (one_same d (all_same d) t (j + made_by e) n (pc + length front) o1 env1 regs1 c1 (first_only ∷ k) bound (has_back S pc front second has) (placed d _ _ _ af.size ok.1) (omega (arith, inside, whole)) (omega (arith, le, af.size)) (omega (arith, room)) af.rel
-        (λ ws env2 regs2 c2 o2 af2 eq2 one2. go_left S n _ (tree.at (give (first ws ∷ [])) (of_tree S pending env2 c2) k) _ refl
-        (at_place S pending n (pc + length front + length second) (pc + length (front ++ second)) o2 _ regs2 c2 (omega (arith, whole))
-        (goes (first ws ∷ []) env2 regs2 c2 o2 (after_then S.hidden S.code.own.stack pending env regs env1 regs1 env2 regs2 c1 c2 t t (omega arith) af af2) eq2 refl))))))
+        (either_same S pending (or_right d) e d true (or_keeps S pending d) (keep_law e (one_same e (all_same e))) (one_same d (all_same d)) t j n pc opened env regs c k bound has ok.0 ok.1 inside le (omega (arith, room)) (omega (arith, room)) rel goes)
     all_same (Table line fs) field t j n pc opened env regs c k bound has fits ok inside le room rel goes =
         new_goes S pending n line t pc opened _ env regs c k (λ vs. construct line (first vs) 0 fs) refl (has.0, (has.1.0, (has.1.1.0, (has.1.1.1.0, tt)))) (omega (arith, inside)) le (omega (arith, room)) rel
         (λ m env1 regs1 c1 af is. fields_same fs 0 [] line 0 0 m t j n (pc + 2) opened env1 regs1 c1 k tt refl bound

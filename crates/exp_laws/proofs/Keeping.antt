@@ -1,6 +1,6 @@
 -- The first operand of `and` or `or`, whose value is kept in register t where its truth is k: both come then to the place that the jumps lead to, and else to the
 -- place behind the code. The laws of the parts are given.
-use Rattle.std.proofs.Common.{◌⊎◌, inl, inr, ◌≡◌, ℕ, ◌+◌, ◌<◌, ◌≤◌, max, Bool, true, false, cond, List, [], ◌∷◌, ◌++◌, length, Option, Some, None, refl, sym, ap, subst, ◌∙◌, arith, length-append}
+use Rattle.std.proofs.Common.{◌⊎◌, inl, inr, ◌≡◌, ℕ, ◌+◌, ◌<◌, ◌≤◌, max, Bool, true, false, cond, not, List, [], ◌∷◌, ◌++◌, length, Option, Some, None, refl, sym, ap, subst, ◌∙◌, arith, length-append}
 use Rattle.int_core.specs.Value.{Value, known, boolean, nth, write, shape, holds, same_truth}
 use Rattle.int_core.specs.Ask.{Captured, goes_on}
 use Rattle.tree_core.specs.declared.operator.UnOp.{UnOp}
@@ -9,10 +9,12 @@ use Rattle.tree_core.specs.declared.operator.BinOp.{BinOp}
 use Rattle.tree_core.specs.Tree.{Exp, Unary, Binary, And, Or, Paren}
 use Rattle.tree_activation.specs.Work.{give, evaluate, Work, Pending, and_right, or_right, first_only}
 use Rattle.tree_activation.specs.Work as tree
+use Rattle.tree_activation.specs.Activation.{step}
 use Rattle.tree_activation.specs.Asking.{first}
 use Rattle.code_core.specs.declared.opcode.Opcode.TheVariants.{Jmp}
 use Rattle.code_core.specs.Instruction.{op_ax}
-use Rattle.machine_core.specs.Talk.{before}
+use Rattle.code_core.specs.Check.{at}
+use Rattle.machine_core.specs.Talk.{before, talk_step}
 use Rattle.list_laws.proofs.Values.{nth_write_same}
 use Rattle.code_of.specs.Coded.{Coded}
 use Rattle.code_of.specs.Conditions.{test_code, keep_code}
@@ -28,10 +30,15 @@ use Rattle.exp_laws.proofs.Placing.{HasAt, has_front, has_back}
 use Rattle.exp_laws.proofs.Steps.{true_step, false_step}
 use Rattle.exp_laws.proofs.Comparisons.{Comparison}
 use Rattle.exp_laws.proofs.Tests.{test_on, test_past, set_on, set_past, jump_step}
-use Rattle.exp_laws.proofs.Going.{next_there, at_place}
+use Rattle.exp_laws.proofs.Going.{Goes, next_there, at_place}
 use Rattle.exp_laws.proofs.Operands.{ExpSame, local_placed, local_read}
 use Rattle.exp_laws.proofs.Rooms.{room_some}
 use Rattle.exp_laws.proofs.TestForms.{Other, sort, GoesIf, if_at, if_after, if_first, TestSame, TruthSame, not_truth, compared_truth, truth_is, truth_not, same_cond, placed_still}
+
+-- The work that waits for a first operand goes on with its value where whether its truth is q is b, and else with the second operand.
+pub record Chooses (right : Work) (d : Exp) (q b : Bool) : Type 0 where
+  pub gives : (vs : List Value) (a : tree.Activation) (w : List Work) → same_truth (holds (shape (first vs))) q ≡ b → step (tree.at (give vs) a (right ∷ w)) ≡ goes_on (tree.at (give (first vs ∷ [])) a w)
+  pub goes : (vs : List Value) (a : tree.Activation) (w : List Work) → same_truth (holds (shape (first vs))) q ≡ not b → step (tree.at (give vs) a (right ∷ w)) ≡ goes_on (tree.at (evaluate d) a (first_only ∷ w))
 
 module _ (S : Setting) (pending : List Pending) where
   -- the code at pc goes on as the work w does with values whose truth is k, where register t has the first one
@@ -130,30 +137,29 @@ module _ (S : Setting) (pending : List Pending) where
           (λ yes regs2 af2 eq2. at_place S pending n (pc + 2 + ahead) (end + ahead) opened _ regs2 c (omega (arith, size)) (kept (nth env x ∷ []) env regs2 c opened af2 eq2 yes))
           (λ no. at_place S pending n (pc + 2) end opened _ regs c (omega (arith, size)) (on (nth env x ∷ []) env regs c opened (after_none S.hidden S.code.own.stack pending env regs c t rel) no)))
 
+  -- the truth k was loaded, and goes on where the jump leads
+  loaded_goes : (k : Bool) (t ahead n pc opened : ℕ) (env regs : List Value) (c : Captured) (w : List Work)
+      → talk_step S.code (before (of_code S pending pc regs opened) c) ≡ goes_on (before (of_code S pending (pc + 1) (write t (known (boolean k)) regs) opened) c) → at S.code (pc + 1) ≡ Some (op_ax Jmp (16777215 + ahead))
+      → pc + 2 + ahead < length S.code.own.code → length env ≤ t → Rel S.hidden S.code.own.stack pending env c regs → same_truth k k ≡ true
+      → GoesKept n t env regs (pc + 2 + ahead) w k → Agree S n (tree.at (give (known (boolean k) ∷ [])) (of_tree S pending env c) w) (before (of_code S pending pc regs opened) c)
+  loaded_goes k t ahead n pc opened env regs c w loads jumps inside le rel is kept =
+      let v = known (boolean k) in
+      let far : pc + 1 + (ahead + 1) ≡ pc + 2 + ahead = omega arith in
+      let there = next_there S (pc + 1 + (ahead + 1)) (omega (arith, inside)) in
+      go_right S n _ _ (before (of_code S pending (pc + 1) (write t v regs) opened) c) loads
+      (go_right S n _ _ (before (of_code S pending (pc + 1 + (ahead + 1)) (write t v regs) opened) c)
+      (jump_step S.code (of_code S pending (pc + 1) (write t v regs) opened) c ahead there.0 jumps (omega (arith, inside, S.short)) there.1)
+      (at_place S pending n (pc + 1 + (ahead + 1)) (pc + 2 + ahead) opened _ (write t v regs) c far
+      (kept (v ∷ []) env (write t v regs) c opened (after_put S.hidden S.code.own.stack pending env regs c t v le rel) (nth_write_same t v regs) is)))
+
   -- a truth is loaded, and goes on where the jump leads
   load_goes : (k truth : Bool) (t ahead line n pc opened : ℕ) (env regs : List Value) (c : Captured) (w : List Work)
       → HasAt S pc (load_truth k ahead t line) → pc + 2 + ahead < length S.code.own.code → t < S.code.own.stack → length env ≤ t → Rel S.hidden S.code.own.stack pending env c regs → same_truth truth k ≡ true
       → GoesKept n t env regs (pc + 2 + ahead) w k → Agree S n (tree.at (give (known (boolean truth) ∷ [])) (of_tree S pending env c) w) (before (of_code S pending pc regs opened) c)
   load_goes true true t ahead line n pc opened env regs c w has inside t_room le rel is kept =
-      let v = known (boolean true) in
-      let far : pc + 1 + (ahead + 1) ≡ pc + 2 + ahead = omega arith in
-      let there = next_there S (pc + 1 + (ahead + 1)) (omega (arith, inside)) in
-      go_right S n _ _ (before (of_code S pending (pc + 1) (write t v regs) opened) c)
-      (true_step S.code (of_code S pending pc regs opened) c (op_ax Jmp (16777215 + ahead)) has.1.1.0 t has.0 (omega (arith, t_room, S.small)) (omega (arith, t_room, rel.room)))
-      (go_right S n _ _ (before (of_code S pending (pc + 1 + (ahead + 1)) (write t v regs) opened) c)
-      (jump_step S.code (of_code S pending (pc + 1) (write t v regs) opened) c ahead there.0 has.1.1.0 (omega (arith, inside, S.short)) there.1)
-      (at_place S pending n (pc + 1 + (ahead + 1)) (pc + 2 + ahead) opened _ (write t v regs) c far
-      (kept (v ∷ []) env (write t v regs) c opened (after_put S.hidden S.code.own.stack pending env regs c t v le rel) (nth_write_same t v regs) refl)))
+      loaded_goes true t ahead n pc opened env regs c w (true_step S.code (of_code S pending pc regs opened) c (op_ax Jmp (16777215 + ahead)) has.1.1.0 t has.0 (omega (arith, t_room, S.small)) (omega (arith, t_room, rel.room))) has.1.1.0 inside le rel is kept
   load_goes false false t ahead line n pc opened env regs c w has inside t_room le rel is kept =
-      let v = known (boolean false) in
-      let far : pc + 1 + (ahead + 1) ≡ pc + 2 + ahead = omega arith in
-      let there = next_there S (pc + 1 + (ahead + 1)) (omega (arith, inside)) in
-      go_right S n _ _ (before (of_code S pending (pc + 1) (write t v regs) opened) c)
-      (false_step S.code (of_code S pending pc regs opened) c (op_ax Jmp (16777215 + ahead)) has.1.1.0 t has.0 (omega (arith, t_room, S.small)) (omega (arith, t_room, rel.room)))
-      (go_right S n _ _ (before (of_code S pending (pc + 1 + (ahead + 1)) (write t v regs) opened) c)
-      (jump_step S.code (of_code S pending (pc + 1) (write t v regs) opened) c ahead there.0 has.1.1.0 (omega (arith, inside, S.short)) there.1)
-      (at_place S pending n (pc + 1 + (ahead + 1)) (pc + 2 + ahead) opened _ (write t v regs) c far
-      (kept (v ∷ []) env (write t v regs) c opened (after_put S.hidden S.code.own.stack pending env regs c t v le rel) (nth_write_same t v regs) refl)))
+      loaded_goes false t ahead n pc opened env regs c w (false_step S.code (of_code S pending pc regs opened) c (op_ax Jmp (16777215 + ahead)) has.1.1.0 t has.0 (omega (arith, t_room, S.small)) (omega (arith, t_room, rel.room))) has.1.1.0 inside le rel is kept
   load_goes true false t ahead line n pc opened env regs c w has inside t_room le rel is kept = absurd (cc)
   load_goes false true t ahead line n pc opened env regs c w has inside t_room le rel is kept = absurd (cc)
 
@@ -202,55 +208,97 @@ module _ (S : Setting) (pending : List Pending) where
       go_left S n _ (tree.at (evaluate e) (of_tree S pending env c) (first_only ∷ w)) _ refl
       (law k ahead t j n pc opened env regs c (first_only ∷ w) bound has ok inside le room rel (kept_first n t _ env regs w k kept) (if_first S pending n t _ env regs w k false on))
 
+  -- how the work that waits for the first operand of `and`, or of `or`, chooses
+
+  pub and_keeps : (d : Exp) → Chooses (and_right d) d false true
+  and_keeps d = record { gives = λ vs a w is. same_cond (holds (shape (first vs))) false _ _ (truth_not S pending _ true is); goes = λ vs a w is. same_cond (holds (shape (first vs))) true _ _ (truth_not S pending _ false is) }
+
+  and_tests : (d : Exp) → Chooses (and_right d) d true false
+  and_tests d = record { gives = λ vs a w is. same_cond (holds (shape (first vs))) false _ _ (truth_is S pending _ false is); goes = λ vs a w is. same_cond (holds (shape (first vs))) true _ _ (truth_is S pending _ true is) }
+
+  pub or_keeps : (d : Exp) → Chooses (or_right d) d true true
+  or_keeps d = record { gives = λ vs a w is. same_cond (holds (shape (first vs))) true _ _ (truth_is S pending _ true is); goes = λ vs a w is. same_cond (holds (shape (first vs))) false _ _ (truth_is S pending _ false is) }
+
+  or_tests : (d : Exp) → Chooses (or_right d) d false false
+  or_tests d = record { gives = λ vs a w is. same_cond (holds (shape (first vs))) true _ _ (truth_not S pending _ false is); goes = λ vs a w is. same_cond (holds (shape (first vs))) false _ _ (truth_not S pending _ true is) }
+
   -- a value of the first operand is kept where it decides and its truth is k; where its truth is not k, it is only tested
+
+  abbrev both_code : (e d : Exp) (k : Bool) (ahead t j : ℕ) → List Coded
+  both_code e d k ahead t j =
+      keep_code S.code.own.constants e k (length (keep_code S.code.own.constants d k ahead t (j + made_by e)) + ahead) t j ++ keep_code S.code.own.constants d k ahead t (j + made_by e)
+
+  both_kept : (right : Work) (e d : Exp) (k : Bool) → Chooses right d k true → KeepSame e → KeepSame d → (ahead t j n pc opened : ℕ) (env regs : List Value) (c : Captured) (w : List Work)
+      → n ≤ S.bound → HasAt S pc (both_code e d k ahead t j) → IsPlaced S e (length env) j → IsPlaced S d (length env) (j + made_by e) → pc + length (both_code e d k ahead t j) + ahead < length S.code.own.code
+      → length env ≤ t → t + room_of_keep S.code.own.constants e k ≤ S.code.own.stack → t + room_of_keep S.code.own.constants d k ≤ S.code.own.stack → Rel S.hidden S.code.own.stack pending env c regs
+      → GoesKept n t env regs (pc + length (both_code e d k ahead t j) + ahead) w k
+      → GoesIf S pending n t env regs (pc + length (both_code e d k ahead t j)) w k false
+      → Agree S n (tree.at (evaluate e) (of_tree S pending env c) (right ∷ w)) (before (of_code S pending pc regs opened) c)
+  both_kept right e d k chooses keep_e keep_d ahead t j n pc opened env regs c w bound has e_ok d_ok inside le e_room d_room rel kept on =
+      let second = keep_code S.code.own.constants d k ahead t (j + made_by e) in
+      let front = keep_code S.code.own.constants e k (length second + ahead) t j in
+      let whole = length-append front second in
+      keep_e k (length second + ahead) t j n pc opened env regs c (right ∷ w) bound (has_front S pc front second has) e_ok (omega (arith, inside, whole)) le e_room rel
+      (λ vs env1 regs1 c1 o1 af eq is. go_left S n _ (tree.at (give (first vs ∷ [])) (of_tree S pending env1 c1) w) _ (chooses.gives vs (of_tree S pending env1 c1) w is)
+      (at_place S pending n _ (pc + length (front ++ second) + ahead) o1 _ regs1 c1 (omega (arith, whole)) (kept (first vs ∷ []) env1 regs1 c1 o1 af eq is)))
+      (λ vs env1 regs1 c1 o1 af is. go_left S n _ (tree.at (evaluate d) (of_tree S pending env1 c1) (first_only ∷ w)) _ (chooses.goes vs (of_tree S pending env1 c1) w is)
+      (keep_d k ahead t (j + made_by e) n (pc + length front) o1 env1 regs1 c1 (first_only ∷ w) bound (has_back S pc front second has) (placed_still S pending d _ _ _ af.size d_ok) (omega (arith, inside, whole)) (omega (arith, le, af.size)) d_room af.rel
+      (kept_first n t _ env1 regs1 w k (kept_at n t _ _ env1 regs1 w k (omega (arith, whole)) (kept_after n t _ env regs env1 regs1 c1 w k af kept)))
+      (if_first S pending n t _ env1 regs1 w k false (if_at S pending n t _ _ env1 regs1 w k false (omega (arith, whole)) (if_after S pending n t _ env regs env1 regs1 c1 w k false af on)))))
+
+  abbrev second_code : (e d : Exp) (k : Bool) (ahead t j : ℕ) → List Coded
+  second_code e d k ahead t j =
+      test_code S.code.own.constants e k (length (keep_code S.code.own.constants d k ahead t (j + made_by e))) t j ++ keep_code S.code.own.constants d k ahead t (j + made_by e)
+
+  second_kept : (right : Work) (e d : Exp) (k : Bool) → Chooses right d k false → TestSame S pending e → KeepSame d → (ahead t j n pc opened : ℕ) (env regs : List Value) (c : Captured) (w : List Work)
+      → n ≤ S.bound → HasAt S pc (second_code e d k ahead t j) → IsPlaced S e (length env) j → IsPlaced S d (length env) (j + made_by e) → pc + length (second_code e d k ahead t j) + ahead < length S.code.own.code
+      → length env ≤ t → t + room_of_test S.code.own.constants e ≤ S.code.own.stack → t + room_of_keep S.code.own.constants d k ≤ S.code.own.stack → Rel S.hidden S.code.own.stack pending env c regs
+      → GoesKept n t env regs (pc + length (second_code e d k ahead t j) + ahead) w k
+      → GoesIf S pending n t env regs (pc + length (second_code e d k ahead t j)) w k false
+      → Agree S n (tree.at (evaluate e) (of_tree S pending env c) (right ∷ w)) (before (of_code S pending pc regs opened) c)
+  second_kept right e d k chooses test_e keep_d ahead t j n pc opened env regs c w bound has e_ok d_ok inside le e_room d_room rel kept on =
+      let second = keep_code S.code.own.constants d k ahead t (j + made_by e) in
+      let front = test_code S.code.own.constants e k (length second) t j in
+      let whole = length-append front second in
+      test_e k (length second) t j n pc opened env regs c (right ∷ w) bound (has_front S pc front second has) e_ok (omega (arith, inside, whole)) le e_room rel
+      (λ vs env1 regs1 c1 o1 af is. go_left S n _ (tree.at (evaluate d) (of_tree S pending env1 c1) (first_only ∷ w)) _ (chooses.goes vs (of_tree S pending env1 c1) w is)
+      (keep_d k ahead t (j + made_by e) n (pc + length front) o1 env1 regs1 c1 (first_only ∷ w) bound (has_back S pc front second has) (placed_still S pending d _ _ _ af.size d_ok) (omega (arith, inside, whole)) (omega (arith, le, af.size)) d_room af.rel
+      (kept_first n t _ env1 regs1 w k (kept_at n t _ _ env1 regs1 w k (omega (arith, whole)) (kept_after n t _ env regs env1 regs1 c1 w k af kept)))
+      (if_first S pending n t _ env1 regs1 w k false (if_at S pending n t _ _ env1 regs1 w k false (omega (arith, whole)) (if_after S pending n t _ env regs env1 regs1 c1 w k false af on)))))
+      (λ vs env1 regs1 c1 o1 af is. go_left S n _ (tree.at (give (first vs ∷ [])) (of_tree S pending env1 c1) w) _ (chooses.gives vs (of_tree S pending env1 c1) w is)
+      (at_place S pending n _ (pc + length (front ++ second)) o1 _ regs1 c1 (omega (arith, whole)) (on (first vs ∷ []) env1 regs1 c1 o1 af is)))
+
   pub and_kept : (line : ℕ) (e d : Exp) → TestSame S pending e → KeepSame e → KeepSame d → KeepSame (And line e d)
   and_kept line e d test_e keep_e keep_d false ahead t j n pc opened env regs c w bound has ok inside le room rel kept on =
-      let second = keep_code S.code.own.constants d false ahead t (j + made_by e) in
-      let front = keep_code S.code.own.constants e false (length second + ahead) t j in
-      let whole = length-append front second in
-      go_left S n _ (tree.at (evaluate e) (of_tree S pending env c) (and_right d ∷ w)) _ refl
-      (keep_e false (length second + ahead) t j n pc opened env regs c (and_right d ∷ w) bound (has_front S pc front second has) ok.0 (omega (arith, inside, whole)) le (omega (arith, room)) rel
-      (λ vs env1 regs1 c1 o1 af eq is. go_left S n _ (tree.at (give (first vs ∷ [])) (of_tree S pending env1 c1) w) _ (same_cond (holds (shape (first vs))) false _ _ (truth_not S pending _ true is))
-      (at_place S pending n _ (pc + length (front ++ second) + ahead) o1 _ regs1 c1 (omega (arith, whole)) (kept (first vs ∷ []) env1 regs1 c1 o1 af eq is)))
-      (λ vs env1 regs1 c1 o1 af is. go_left S n _ (tree.at (evaluate d) (of_tree S pending env1 c1) (first_only ∷ w)) _ (same_cond (holds (shape (first vs))) true _ _ (truth_not S pending _ false is))
-      (keep_d false ahead t (j + made_by e) n (pc + length front) o1 env1 regs1 c1 (first_only ∷ w) bound (has_back S pc front second has) (placed_still S pending d _ _ _ af.size ok.1) (omega (arith, inside, whole)) (omega (arith, le, af.size)) (omega (arith, room)) af.rel
-      (kept_first n t _ env1 regs1 w false (kept_at n t _ _ env1 regs1 w false (omega (arith, whole)) (kept_after n t _ env regs env1 regs1 c1 w false af kept)))
-      (if_first S pending n t _ env1 regs1 w false false (if_at S pending n t _ _ env1 regs1 w false false (omega (arith, whole)) (if_after S pending n t _ env regs env1 regs1 c1 w false false af on))))))
+      go_left S n _ (tree.at (evaluate e) (of_tree S pending env c) (and_right d ∷ w)) _ refl (both_kept (and_right d) e d false (and_keeps d) keep_e keep_d ahead t j n pc opened env regs c w bound has ok.0 ok.1 inside le (omega (arith, room)) (omega (arith, room)) rel kept on)
   and_kept line e d test_e keep_e keep_d true ahead t j n pc opened env regs c w bound has ok inside le room rel kept on =
-      let second = keep_code S.code.own.constants d true ahead t (j + made_by e) in
-      let front = test_code S.code.own.constants e true (length second) t j in
-      let whole = length-append front second in
-      go_left S n _ (tree.at (evaluate e) (of_tree S pending env c) (and_right d ∷ w)) _ refl
-      (test_e true (length second) t j n pc opened env regs c (and_right d ∷ w) bound (has_front S pc front second has) ok.0 (omega (arith, inside, whole)) le (omega (arith, room)) rel
-      (λ vs env1 regs1 c1 o1 af is. go_left S n _ (tree.at (evaluate d) (of_tree S pending env1 c1) (first_only ∷ w)) _ (same_cond (holds (shape (first vs))) true _ _ (truth_is S pending _ true is))
-      (keep_d true ahead t (j + made_by e) n (pc + length front) o1 env1 regs1 c1 (first_only ∷ w) bound (has_back S pc front second has) (placed_still S pending d _ _ _ af.size ok.1) (omega (arith, inside, whole)) (omega (arith, le, af.size)) (omega (arith, room)) af.rel
-      (kept_first n t _ env1 regs1 w true (kept_at n t _ _ env1 regs1 w true (omega (arith, whole)) (kept_after n t _ env regs env1 regs1 c1 w true af kept)))
-      (if_first S pending n t _ env1 regs1 w true false (if_at S pending n t _ _ env1 regs1 w true false (omega (arith, whole)) (if_after S pending n t _ env regs env1 regs1 c1 w true false af on)))))
-      (λ vs env1 regs1 c1 o1 af is. go_left S n _ (tree.at (give (first vs ∷ [])) (of_tree S pending env1 c1) w) _ (same_cond (holds (shape (first vs))) false _ _ (truth_is S pending _ false is))
-      (at_place S pending n _ (pc + length (front ++ second)) o1 _ regs1 c1 (omega (arith, whole)) (on (first vs ∷ []) env1 regs1 c1 o1 af is))))
+      go_left S n _ (tree.at (evaluate e) (of_tree S pending env c) (and_right d ∷ w)) _ refl (second_kept (and_right d) e d true (and_tests d) test_e keep_d ahead t j n pc opened env regs c w bound has ok.0 ok.1 inside le (omega (arith, room)) (omega (arith, room)) rel kept on)
 
   pub or_kept : (line : ℕ) (e d : Exp) → TestSame S pending e → KeepSame e → KeepSame d → KeepSame (Or line e d)
-  or_kept line e d test_e keep_e keep_d true ahead t j n pc opened env regs c w bound has ok inside le room rel kept on =
-      let second = keep_code S.code.own.constants d true ahead t (j + made_by e) in
-      let front = keep_code S.code.own.constants e true (length second + ahead) t j in
-      let whole = length-append front second in
-      go_left S n _ (tree.at (evaluate e) (of_tree S pending env c) (or_right d ∷ w)) _ refl
-      (keep_e true (length second + ahead) t j n pc opened env regs c (or_right d ∷ w) bound (has_front S pc front second has) ok.0 (omega (arith, inside, whole)) le (omega (arith, room)) rel
-      (λ vs env1 regs1 c1 o1 af eq is. go_left S n _ (tree.at (give (first vs ∷ [])) (of_tree S pending env1 c1) w) _ (same_cond (holds (shape (first vs))) true _ _ (truth_is S pending _ true is))
-      (at_place S pending n _ (pc + length (front ++ second) + ahead) o1 _ regs1 c1 (omega (arith, whole)) (kept (first vs ∷ []) env1 regs1 c1 o1 af eq is)))
-      (λ vs env1 regs1 c1 o1 af is. go_left S n _ (tree.at (evaluate d) (of_tree S pending env1 c1) (first_only ∷ w)) _ (same_cond (holds (shape (first vs))) false _ _ (truth_is S pending _ false is))
-      (keep_d true ahead t (j + made_by e) n (pc + length front) o1 env1 regs1 c1 (first_only ∷ w) bound (has_back S pc front second has) (placed_still S pending d _ _ _ af.size ok.1) (omega (arith, inside, whole)) (omega (arith, le, af.size)) (omega (arith, room)) af.rel
-      (kept_first n t _ env1 regs1 w true (kept_at n t _ _ env1 regs1 w true (omega (arith, whole)) (kept_after n t _ env regs env1 regs1 c1 w true af kept)))
-      (if_first S pending n t _ env1 regs1 w true false (if_at S pending n t _ _ env1 regs1 w true false (omega (arith, whole)) (if_after S pending n t _ env regs env1 regs1 c1 w true false af on))))))
   or_kept line e d test_e keep_e keep_d false ahead t j n pc opened env regs c w bound has ok inside le room rel kept on =
-      let second = keep_code S.code.own.constants d false ahead t (j + made_by e) in
-      let front = test_code S.code.own.constants e false (length second) t j in
+      go_left S n _ (tree.at (evaluate e) (of_tree S pending env c) (or_right d ∷ w)) _ refl (second_kept (or_right d) e d false (or_tests d) test_e keep_d ahead t j n pc opened env regs c w bound has ok.0 ok.1 inside le (omega (arith, room)) (omega (arith, room)) rel kept on)
+  or_kept line e d test_e keep_e keep_d true ahead t j n pc opened env regs c w bound has ok inside le room rel kept on =
+      go_left S n _ (tree.at (evaluate e) (of_tree S pending env c) (or_right d ∷ w)) _ refl (both_kept (or_right d) e d true (or_keeps d) keep_e keep_d ahead t j n pc opened env regs c w bound has ok.0 ok.1 inside le (omega (arith, room)) (omega (arith, room)) rel kept on)
+
+  -- `and` and `or` themselves, of which one value is wanted
+
+  abbrev pub either_code : (e d : Exp) (k : Bool) (t j : ℕ) → List Coded
+  either_code e d k t j = keep_code S.code.own.constants e k (length (exp_code S.code.own.constants d t (j + made_by e) 2)) t j ++ exp_code S.code.own.constants d t (j + made_by e) 2
+
+  pub either_same : (right : Work) (e d : Exp) (k : Bool) → Chooses right d k true → KeepSame e → ExpSame S pending d → (t j n pc opened : ℕ) (env regs : List Value) (c : Captured) (w : List Work)
+      → n ≤ S.bound → HasAt S pc (either_code e d k t j) → IsPlaced S e (length env) j → IsPlaced S d (length env) (j + made_by e) → pc + length (either_code e d k t j) < length S.code.own.code
+      → length env ≤ t → t + room_of_keep S.code.own.constants e k ≤ S.code.own.stack → t + room_of S.code.own.constants d 2 ≤ S.code.own.stack → Rel S.hidden S.code.own.stack pending env c regs
+      → Goes S pending n false t env regs (pc + length (either_code e d k t j)) w
+      → Agree S n (tree.at (evaluate e) (of_tree S pending env c) (right ∷ w)) (before (of_code S pending pc regs opened) c)
+  either_same right e d k chooses keep_e law_d t j n pc opened env regs c w bound has e_ok d_ok inside le e_room d_room rel goes =
+      let second = exp_code S.code.own.constants d t (j + made_by e) 2 in
+      let front = keep_code S.code.own.constants e k (length second) t j in
       let whole = length-append front second in
-      go_left S n _ (tree.at (evaluate e) (of_tree S pending env c) (or_right d ∷ w)) _ refl
-      (test_e false (length second) t j n pc opened env regs c (or_right d ∷ w) bound (has_front S pc front second has) ok.0 (omega (arith, inside, whole)) le (omega (arith, room)) rel
-      (λ vs env1 regs1 c1 o1 af is. go_left S n _ (tree.at (evaluate d) (of_tree S pending env1 c1) (first_only ∷ w)) _ (same_cond (holds (shape (first vs))) false _ _ (truth_not S pending _ true is))
-      (keep_d false ahead t (j + made_by e) n (pc + length front) o1 env1 regs1 c1 (first_only ∷ w) bound (has_back S pc front second has) (placed_still S pending d _ _ _ af.size ok.1) (omega (arith, inside, whole)) (omega (arith, le, af.size)) (omega (arith, room)) af.rel
-      (kept_first n t _ env1 regs1 w false (kept_at n t _ _ env1 regs1 w false (omega (arith, whole)) (kept_after n t _ env regs env1 regs1 c1 w false af kept)))
-      (if_first S pending n t _ env1 regs1 w false false (if_at S pending n t _ _ env1 regs1 w false false (omega (arith, whole)) (if_after S pending n t _ env regs env1 regs1 c1 w false false af on)))))
-      (λ vs env1 regs1 c1 o1 af is. go_left S n _ (tree.at (give (first vs ∷ [])) (of_tree S pending env1 c1) w) _ (same_cond (holds (shape (first vs))) true _ _ (truth_not S pending _ false is))
-      (at_place S pending n _ (pc + length (front ++ second)) o1 _ regs1 c1 (omega (arith, whole)) (on (first vs ∷ []) env1 regs1 c1 o1 af is))))
+      keep_e k (length second) t j n pc opened env regs c (right ∷ w) bound (has_front S pc front second has) e_ok (omega (arith, inside, whole)) le e_room rel
+      (λ vs env1 regs1 c1 o1 af eq is. go_left S n _ (tree.at (give (first vs ∷ [])) (of_tree S pending env1 c1) w) _ (chooses.gives vs (of_tree S pending env1 c1) w is)
+      (at_place S pending n (pc + length front + length second) (pc + length (front ++ second)) o1 _ regs1 c1 (omega (arith, whole)) (goes (first vs ∷ []) env1 regs1 c1 o1 af eq refl)))
+      (λ vs env1 regs1 c1 o1 af is. go_left S n _ (tree.at (evaluate d) (of_tree S pending env1 c1) (first_only ∷ w)) _ (chooses.goes vs (of_tree S pending env1 c1) w is)
+      (law_d t (j + made_by e) n (pc + length front) o1 env1 regs1 c1 (first_only ∷ w) bound (has_back S pc front second has) (placed_still S pending d _ _ _ af.size d_ok) (omega (arith, inside, whole)) (omega (arith, le, af.size)) d_room af.rel
+      (λ ws env2 regs2 c2 o2 af2 eq2 one2. go_left S n _ (tree.at (give (first ws ∷ [])) (of_tree S pending env2 c2) w) _ refl
+      (at_place S pending n (pc + length front + length second) (pc + length (front ++ second)) o2 _ regs2 c2 (omega (arith, whole))
+      (goes (first ws ∷ []) env2 regs2 c2 o2 (after_then S.hidden S.code.own.stack pending env regs env1 regs1 env2 regs2 c1 c2 t t (omega arith) af af2) eq2 refl)))))
