@@ -60,52 +60,13 @@ less_by_sum n t le None = refl
 less_by_sum n t le (Some m) = ap (λ z. then (text.write_register t (written (integer (wrapped z)))) skip) (taken_back m (127 - n) n (omega (arith, le)))
 
 pub plus_sum : (n : ℕ) → n ≤ 128 → Sum Plus n
-plus_sum n le = record {
-  opcode = AddI;
-  done = of_add;
-  event = of_add;
-  field = n + 127;
-  number = 6;
-  fits = omega (arith, le);
-  small = lit< tt;
-  emits = λ x t line. refl;
-  row = λ p pc w. refl;
-  same = λ t o. ap (λ z. fast of_add t o (Some z)) (numeral_back n);
-  means = λ line v w a k. refl;
-  numbered = refl;
-}
+plus_sum n le = record { opcode = AddI; done = of_add; event = of_add; field = n + 127; number = 6; fits = omega (arith, le); small = lit< tt; emits = λ x t line. refl; row = λ p pc w. refl; same = λ t o. ap (λ z. fast of_add t o (Some z)) (numeral_back n); means = λ line v w a k. refl; numbered = refl }
 
 pub minus_sum : (n : ℕ) → n ≤ 127 → Sum Minus n
-minus_sum n le = record {
-  opcode = AddI;
-  done = of_add;
-  event = of_sub;
-  field = 127 - n;
-  number = 7;
-  fits = omega (arith, le);
-  small = lit< tt;
-  emits = λ x t line. refl;
-  row = λ p pc w. refl;
-  same = λ t o. less_by_sum n t le o;
-  means = λ line v w a k. refl;
-  numbered = refl;
-}
+minus_sum n le = record { opcode = AddI; done = of_add; event = of_sub; field = 127 - n; number = 7; fits = omega (arith, le); small = lit< tt; emits = λ x t line. refl; row = λ p pc w. refl; same = λ t o. less_by_sum n t le o; means = λ line v w a k. refl; numbered = refl }
 
 pub shift_sum : (n : ℕ) → n ≤ 128 → Sum ShiftRight n
-shift_sum n le = record {
-  opcode = ShrI;
-  done = of_shr;
-  event = of_shr;
-  field = n + 127;
-  number = 17;
-  fits = omega (arith, le);
-  small = lit< tt;
-  emits = λ x t line. refl;
-  row = λ p pc w. refl;
-  same = λ t o. ap (λ z. fast of_shr t o (Some z)) (numeral_back n);
-  means = λ line v w a k. refl;
-  numbered = refl;
-}
+shift_sum n le = record { opcode = ShrI; done = of_shr; event = of_shr; field = n + 127; number = 17; fits = omega (arith, le); small = lit< tt; emits = λ x t line. refl; row = λ p pc w. refl; same = λ t o. ap (λ z. fast of_shr t o (Some z)) (numeral_back n); means = λ line v w a k. refl; numbered = refl }
 
 -- SHRI with the field of -n, for `a << n`
 
@@ -121,20 +82,7 @@ up_by_shift (suc k) t some le None = refl
 up_by_shift (suc k) t some le (Some m) = ap (λ z. fast of_shr t (Some m) (Some z)) (lowered k le)
 
 pub shift_up_sum : (n : ℕ) → 1 ≤ n → n ≤ 127 → Sum ShiftLeft n
-shift_up_sum n some le = record {
-  opcode = ShrI;
-  done = of_shr;
-  event = of_shl;
-  field = 127 - n;
-  number = 16;
-  fits = omega (arith, le);
-  small = lit< tt;
-  emits = λ x t line. refl;
-  row = λ p pc w. refl;
-  same = λ t o. up_by_shift n t some le o;
-  means = λ line v w a k. refl;
-  numbered = refl;
-}
+shift_up_sum n some le = record { opcode = ShrI; done = of_shr; event = of_shl; field = 127 - n; number = 16; fits = omega (arith, le); small = lit< tt; emits = λ x t line. refl; row = λ p pc w. refl; same = λ t o. up_by_shift n t some le o; means = λ line v w a k. refl; numbered = refl }
 
 -- an operator with a numeral adds or compares
 

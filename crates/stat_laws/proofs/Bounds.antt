@@ -110,23 +110,7 @@ module _ (S : Setting) (back_field : ℕ) where
       at_start = has_front S pc (pair ++ one) behind has
 
       counted : Counted S back_field line block n closing closed t (j + made_by from + made_by limit) pc (pc + li) exit named loops reach k
-      counted = record {
-        law = law t;
-        fewer = fewer;
-        from = omega arith;
-        out = omega arith;
-        inside = inside;
-        has = has_back S pc (pair ++ one) behind has;
-        room = room;
-        near = placed.1.1.0;
-        placed = placed.1.1.1;
-        under = under;
-        clear = clear;
-        titles = titles;
-        plain = plain;
-        jumps = jumps refl;
-        done = done;
-      }
+      counted = record { law = law t; fewer = fewer; from = omega arith; out = omega arith; inside = inside; has = has_back S pc (pair ++ one) behind has; room = room; near = placed.1.1.0; placed = placed.1.1.1; under = under; clear = clear; titles = titles; plain = plain; jumps = jumps refl; done = done }
 
   pub stepped_goes : (line : ℕ) (name : Name) (from limit by : Exp) (block : Block) → ((t : ℕ) → BlockLaw (hiding S t) back_field block) → StatLaw S back_field (NumForStep line name from limit by block)
   stepped_goes line name from limit by block law n closing closed t j pc named loops reach k fewer has placed titles inside under clear plain jumps done ps env regs c opened s st standing =
@@ -170,20 +154,4 @@ module _ (S : Setting) (back_field : ℕ) where
       at_start = has_front S pc (pair ++ one) behind has
 
       counted : Counted S back_field line block n closing closed t (j + made_by from + made_by limit + made_by by) pc (pc + li) exit named loops reach k
-      counted = record {
-        law = law t;
-        fewer = fewer;
-        from = omega arith;
-        out = omega arith;
-        inside = inside;
-        has = has_back S pc (pair ++ one) behind has;
-        room = placed.1.1.1.0;
-        near = placed.1.1.1.1.0;
-        placed = placed.1.1.1.1.1;
-        under = under;
-        clear = clear;
-        titles = titles;
-        plain = plain;
-        jumps = jumps refl;
-        done = done;
-      }
+      counted = record { law = law t; fewer = fewer; from = omega arith; out = omega arith; inside = inside; has = has_back S pc (pair ++ one) behind has; room = placed.1.1.1.0; near = placed.1.1.1.1.0; placed = placed.1.1.1.1.1; under = under; clear = clear; titles = titles; plain = plain; jumps = jumps refl; done = done }
