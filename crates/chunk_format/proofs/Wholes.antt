@@ -7,6 +7,7 @@ use Rattle.chunk_format.proofs.Exact.{Spelled, Exact, halves, exact_then, exact_
 use Rattle.chunk_format.proofs.Bases.{exact_byte, exact_flag, exact_number}
 use Rattle.chunk_format.proofs.Formats.{exact_name, exact_instruction, exact_upvalue, exact_change, exact_abs_line, exact_local, exact_list}
 use Rattle.chunk_format.proofs.Constants.{exact_constant, same_rest}
+use Rattle.chunk_format.proofs.Spelled.{then_rest}
 
 exact_source : (parent : Option (List ℕ)) → Exact (SourceOf parent) (read_source parent)
 exact_source parent = exact_then exact_name (λ name. exact_gives (or_parents parent name))
@@ -56,14 +57,7 @@ module _ {Rule : Prototype → List ℕ → Type 0} {get : ℕ → List ℕ → 
       record {
         front = a.front ++ (b.front ++ []);
         whole = rw (a.whole, b.whole, is_rest) (three a.front b.front rest);
-        spells = record {
-          first = p;
-          front = a.front;
-          back = b.front ++ [];
-          whole = refl;
-          spells_first = a.spells;
-          spells_rest = record { first = qs; front = b.front; back = []; whole = refl; spells_first = b.spells; spells_rest = record { value = is_ps; nothing = refl } };
-        };
+        spells = then_rest p a.front (b.front ++ []) a.spells (then_rest qs b.front [] b.spells (record { value = is_ps; nothing = refl }));
         counted = rw is_ps (omega arith);
       }
     where
@@ -111,35 +105,8 @@ module _ {Inner : Option (List ℕ) → Prototype → List ℕ → Type 0} {get 
       record {
         front = h.front ++ (l.front ++ (c.front ++ (f.front ++ (d.front ++ []))));
         whole = rw (h.whole, l.whole, c.whole, f.whole, d.whole) (six h.front l.front c.front f.front d.front rest);
-        spells = record {
-          first = head;
-          front = h.front;
-          back = l.front ++ (c.front ++ (f.front ++ (d.front ++ [])));
-          whole = refl;
-          spells_first = h.spells;
-          spells_rest = record {
-            first = lists;
-            front = l.front;
-            back = c.front ++ (f.front ++ (d.front ++ []));
-            whole = refl;
-            spells_first = l.spells;
-            spells_rest = record {
-              first = n;
-              front = c.front;
-              back = f.front ++ (d.front ++ []);
-              whole = refl;
-              spells_first = c.spells;
-              spells_rest = record {
-                first = functions;
-                front = f.front;
-                back = d.front ++ [];
-                whole = refl;
-                spells_first = f.spells;
-                spells_rest = record { first = details; front = d.front; back = []; whole = refl; spells_first = d.spells; spells_rest = record { value = refl; nothing = refl } };
-              };
-            };
-          };
-        };
+        spells = then_rest head h.front _ h.spells (then_rest lists l.front _ l.spells (then_rest n c.front _ c.spells
+            (then_rest functions f.front _ f.spells (then_rest details d.front [] d.spells (record { value = refl; nothing = refl })))));
         counted = omega arith;
       }
     where
