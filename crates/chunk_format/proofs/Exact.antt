@@ -24,6 +24,10 @@ pub halves : {A B : Type 0} (got : Got A) (more : A → List ℕ → Got B) (y :
 halves (read x behind) more y rest e = record { first = x; behind = behind; got_first = refl; got_rest = e }
 halves (refused kind) more y rest e = absurd (cc)
 
+-- what is read first stands in front of all that comes behind it
+pub at_front : {A B : Type 0} {First : A → List ℕ → Type 0} {Rest : A → B → List ℕ → Type 0} {y : B} {bytes : List ℕ} (t : Then First Rest y bytes) (rest : List ℕ) → bytes ++ rest ≡ t.front ++ (t.back ++ rest)
+at_front t rest = ap (λ s. s ++ rest) t.whole ∙ append_assoc t.front t.back rest
+
 module _ {A B : Type 0} {First : A → List ℕ → Type 0} {Rest : A → B → List ℕ → Type 0} {get : List ℕ → Got A} {more : A → List ℕ → Got B} (exact_first : Exact First get) (exact_rest : (x : A) → Exact (Rest x) (more x)) where
   sound_then : (bytes rest : List ℕ) (y : B) → and_then (get bytes) more ≡ read y rest → Spelled (Then First Rest) y bytes rest
   sound_then bytes rest y e =
@@ -38,8 +42,7 @@ module _ {A B : Type 0} {First : A → List ℕ → Type 0} {Rest : A → B → 
 
   complete_then : (y : B) (front rest : List ℕ) → Then First Rest y front → and_then (get (front ++ rest)) more ≡ read y rest
   complete_then y front rest t =
-      let at_first : get (front ++ rest) ≡ read t.first (t.back ++ rest) =
-      ap (λ s. get (s ++ rest)) t.whole ∙ (ap get (append_assoc t.front t.back rest) ∙ exact_first.complete t.first t.front (t.back ++ rest) t.spells_first) in
+      let at_first : get (front ++ rest) ≡ read t.first (t.back ++ rest) = ap get (at_front t rest) ∙ exact_first.complete t.first t.front (t.back ++ rest) t.spells_first in
       rw at_first ((exact_rest t.first).complete y t.back rest t.spells_rest)
 
   pub exact_then : Exact (Then First Rest) (λ bytes. and_then (get bytes) more)

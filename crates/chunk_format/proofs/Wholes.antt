@@ -3,7 +3,7 @@ use Rattle.std.proofs.Common.{◌≡◌, ℕ, zero, suc, ◌+◌, List, [], ◌�
 use Rattle.code_core.specs.Prototype.{Prototype, prototypes, count, function_count}
 use Rattle.chunk_format.specs.Reading.{Got, read, Head, Lists, Details, read_source, read_head, read_number, read_lists, read_details, read_functions, read_body, read_function, parts_of, or_parents}
 use Rattle.chunk_format.specs.Grammar.{NumberOf, SourceOf, HeadOf, ListsOf, DetailsOf, TimesOf, BodyOf, FunctionOf}
-use Rattle.chunk_format.proofs.Exact.{Spelled, Exact, halves, exact_then, exact_gives}
+use Rattle.chunk_format.proofs.Exact.{Spelled, Exact, halves, at_front, exact_then, exact_gives}
 use Rattle.chunk_format.proofs.Bases.{exact_byte, exact_flag, exact_number}
 use Rattle.chunk_format.proofs.Formats.{exact_name, exact_instruction, exact_upvalue, exact_change, exact_abs_line, exact_local, exact_list}
 use Rattle.chunk_format.proofs.Constants.{exact_constant, same_rest}
@@ -93,7 +93,7 @@ module _ {Rule : Prototype → List ℕ → Type 0} {get : ℕ → List ℕ → 
       let no_more : t.back ≡ [] = t.spells_rest.nothing in
       let back_is : h.back ++ rest ≡ t.front ++ rest = ap (λ s. s ++ rest) (t.whole ∙ rw no_more (append-nil t.front)) in
       let others_read = complete_all n (after + count (prototypes t.first)) after t.first t.front rest t.spells_first refl in
-      rw (h.whole, append_assoc h.front h.back rest, first_read, back_is, others_read, is_ps) refl
+      rw (at_front h rest, first_read, back_is, others_read, is_ps) refl
 
 module _ {Inner : Option (List ℕ) → Prototype → List ℕ → Type 0} {get : Option (List ℕ) → ℕ → List ℕ → Got (Prototype × ℕ)} (exact : (source : Option (List ℕ)) → ExactWithin (Inner source) (get source)) where
   body_spelled : (parent : Option (List ℕ)) (head : Head) (lists : Lists) (n : ℕ) (functions : List Prototype) (details : Details) (left after : ℕ)
@@ -152,25 +152,7 @@ module _ {Inner : Option (List ℕ) → Prototype → List ℕ → Type 0} {get 
       let number_read = exact_number.complete c.first c.front (c.back ++ rest) c.spells_first in
       let all_read = complete_all (exact t.first.source) c.first left after f.first f.front (f.back ++ rest) f.spells_first inner_counted in
       let details_read = exact_details.complete d.first d.front (d.back ++ rest) d.spells_first in
-      rw (
-        t.whole,
-        append_assoc t.front t.back rest,
-        head_read,
-        l.whole,
-        append_assoc l.front l.back rest,
-        lists_read,
-        c.whole,
-        append_assoc c.front c.back rest,
-        number_read,
-        f.whole,
-        append_assoc f.front f.back rest,
-        all_read,
-        d.whole,
-        append_assoc d.front d.back rest,
-        details_read,
-        no_more,
-        is_p,
-      ) refl
+      rw (at_front t rest, head_read, at_front l rest, lists_read, at_front c rest, number_read, at_front f rest, all_read, at_front d rest, details_read, no_more, is_p) refl
 
 no_function : (parent : Option (List ℕ)) (left after : ℕ) (bytes rest : List ℕ) (p : Prototype) → read_function zero parent left bytes ≡ read (p, after) rest → SpelledWithin (FunctionOf zero parent) p left after bytes rest
 unfolding read_function
