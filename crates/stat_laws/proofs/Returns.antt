@@ -3,7 +3,7 @@ use Rattle.std.proofs.Common.{◌≡◌, ℕ, ◌+◌, ◌-◌, ◌<◌, ◌≤�
 use Rattle.std.specs.Prelude.{nat_lt, ◌==◌}
 use Rattle.int_core.specs.Value.{Value}
 use Rattle.int_core.specs.Ask.{goes_on, Captured}
-use Rattle.tree_core.specs.Tree.{Block, Returns, Stats, EndStats, Repeat, Exp, Nil, True, False, Int, Str, Vararg, Function, Var, Index, Call, Method, Unary, Binary, And, Or, Paren, Table, Exps, EndExps, MoreExps, MoreStats}
+use Rattle.tree_core.specs.Tree.{Block, Returns, Stats, EndStats, Repeat, Exp, Call, Method, Exps, EndExps, MoreExps, MoreStats}
 use Rattle.tree_activation.specs.Work.{collect, evaluate, callee_of, method_of, for_return, run, repeating, Work, Pending, Passed, returns_list, State}
 use Rattle.tree_activation.specs.Work as tree
 use Rattle.tree_activation.specs.Activation.{step}
@@ -94,41 +94,9 @@ module _ (S : Setting) where
 
   -- where a variable is to be closed, no call behind `return` is in the function's place
   no_tail_call : (es : Exps) (line : ℕ) (p : Pending) (ps : List Pending) (env : List Value) (c : Captured) (k : List Work) → begins_return line es (of_tree S (p ∷ ps) env c) k ≡ goes_on (tree.at (collect (for_return line) [] es) (of_tree S (p ∷ ps) env c) k)
-  no_tail_call EndExps line p ps env c k = refl
-  no_tail_call (MoreExps (Nil l) EndExps) line p ps env c k = refl
-  no_tail_call (MoreExps (True l) EndExps) line p ps env c k = refl
-  no_tail_call (MoreExps (False l) EndExps) line p ps env c k = refl
-  no_tail_call (MoreExps (Int l z) EndExps) line p ps env c k = refl
-  no_tail_call (MoreExps (Str l bytes) EndExps) line p ps env c k = refl
-  no_tail_call (MoreExps (Vararg l) EndExps) line p ps env c k = refl
-  no_tail_call (MoreExps (Function l body) EndExps) line p ps env c k = refl
-  no_tail_call (MoreExps (Var l name) EndExps) line p ps env c k = refl
-  no_tail_call (MoreExps (Index l o key) EndExps) line p ps env c k = refl
   no_tail_call (MoreExps (Call l f args) EndExps) line p ps env c k = refl
   no_tail_call (MoreExps (Method l o name args) EndExps) line p ps env c k = refl
-  no_tail_call (MoreExps (Unary l op x) EndExps) line p ps env c k = refl
-  no_tail_call (MoreExps (Binary l op x y) EndExps) line p ps env c k = refl
-  no_tail_call (MoreExps (And l x y) EndExps) line p ps env c k = refl
-  no_tail_call (MoreExps (Or l x y) EndExps) line p ps env c k = refl
-  no_tail_call (MoreExps (Paren l x) EndExps) line p ps env c k = refl
-  no_tail_call (MoreExps (Table l fs) EndExps) line p ps env c k = refl
-  no_tail_call (MoreExps (Nil l) (MoreExps d es)) line p ps env c k = refl
-  no_tail_call (MoreExps (True l) (MoreExps d es)) line p ps env c k = refl
-  no_tail_call (MoreExps (False l) (MoreExps d es)) line p ps env c k = refl
-  no_tail_call (MoreExps (Int l z) (MoreExps d es)) line p ps env c k = refl
-  no_tail_call (MoreExps (Str l bytes) (MoreExps d es)) line p ps env c k = refl
-  no_tail_call (MoreExps (Vararg l) (MoreExps d es)) line p ps env c k = refl
-  no_tail_call (MoreExps (Function l body) (MoreExps d es)) line p ps env c k = refl
-  no_tail_call (MoreExps (Var l name) (MoreExps d es)) line p ps env c k = refl
-  no_tail_call (MoreExps (Index l o key) (MoreExps d es)) line p ps env c k = refl
-  no_tail_call (MoreExps (Call l f args) (MoreExps d es)) line p ps env c k = refl
-  no_tail_call (MoreExps (Method l o name args) (MoreExps d es)) line p ps env c k = refl
-  no_tail_call (MoreExps (Unary l op x) (MoreExps d es)) line p ps env c k = refl
-  no_tail_call (MoreExps (Binary l op x y) (MoreExps d es)) line p ps env c k = refl
-  no_tail_call (MoreExps (And l x y) (MoreExps d es)) line p ps env c k = refl
-  no_tail_call (MoreExps (Or l x y) (MoreExps d es)) line p ps env c k = refl
-  no_tail_call (MoreExps (Paren l x) (MoreExps d es)) line p ps env c k = refl
-  no_tail_call (MoreExps (Table l fs) (MoreExps d es)) line p ps env c k = refl
+  no_tail_call es line p ps env c k = refl
 
   module _ (back : ℕ) where
     -- the values of a list
@@ -182,72 +150,8 @@ module _ (S : Setting) where
         go_left S n s (tree.at (evaluate o) (of_tree S [] env c) (method_of l true name.text es ∷ k)) _ st
         (method_last_same S [] o name.text es l back t j n pc opened env regs c k fewer (subst (HasAt S pc) (joined (one ∷ [])) front) (subst (λ u. IsPlaced S o u j) (sym size) h.0) h.1.0 (subst (λ u. ArePlaced S es u (j + made_by o)) (sym size) h.1.1.0)
         (omega (arith, inside, a, b, x, d, e, y)) (omega (arith, size)) h.1.1.1.0 h.1.1.1.1.0 h.1.1.1.1.1 rel)
-    return_goes EndExps n t j line pc opened env regs c k s st fewer has h inside size rel =
-        go_left S n s (tree.at (collect (for_return line) [] EndExps) (of_tree S [] env c) k) _ st (list_returns [] EndExps n t j line pc opened env regs c k fewer has h.0 h.1.0 h.1.1 inside size rel)
-    return_goes (MoreExps (Nil l) EndExps) n t j line pc opened env regs c k s st fewer has h inside size rel =
-        go_left S n s (tree.at (collect (for_return line) [] (MoreExps (Nil l) EndExps)) (of_tree S [] env c) k) _ st (list_returns [] (MoreExps (Nil l) EndExps) n t j line pc opened env regs c k fewer has h.0 h.1.0 h.1.1 inside size rel)
-    return_goes (MoreExps (True l) EndExps) n t j line pc opened env regs c k s st fewer has h inside size rel =
-        go_left S n s (tree.at (collect (for_return line) [] (MoreExps (True l) EndExps)) (of_tree S [] env c) k) _ st (list_returns [] (MoreExps (True l) EndExps) n t j line pc opened env regs c k fewer has h.0 h.1.0 h.1.1 inside size rel)
-    return_goes (MoreExps (False l) EndExps) n t j line pc opened env regs c k s st fewer has h inside size rel =
-        go_left S n s (tree.at (collect (for_return line) [] (MoreExps (False l) EndExps)) (of_tree S [] env c) k) _ st (list_returns [] (MoreExps (False l) EndExps) n t j line pc opened env regs c k fewer has h.0 h.1.0 h.1.1 inside size rel)
-    return_goes (MoreExps (Int l z) EndExps) n t j line pc opened env regs c k s st fewer has h inside size rel =
-        go_left S n s (tree.at (collect (for_return line) [] (MoreExps (Int l z) EndExps)) (of_tree S [] env c) k) _ st (list_returns [] (MoreExps (Int l z) EndExps) n t j line pc opened env regs c k fewer has h.0 h.1.0 h.1.1 inside size rel)
-    return_goes (MoreExps (Str l bytes) EndExps) n t j line pc opened env regs c k s st fewer has h inside size rel =
-        go_left S n s (tree.at (collect (for_return line) [] (MoreExps (Str l bytes) EndExps)) (of_tree S [] env c) k) _ st (list_returns [] (MoreExps (Str l bytes) EndExps) n t j line pc opened env regs c k fewer has h.0 h.1.0 h.1.1 inside size rel)
-    return_goes (MoreExps (Vararg l) EndExps) n t j line pc opened env regs c k s st fewer has h inside size rel =
-        go_left S n s (tree.at (collect (for_return line) [] (MoreExps (Vararg l) EndExps)) (of_tree S [] env c) k) _ st (list_returns [] (MoreExps (Vararg l) EndExps) n t j line pc opened env regs c k fewer has h.0 h.1.0 h.1.1 inside size rel)
-    return_goes (MoreExps (Function l body) EndExps) n t j line pc opened env regs c k s st fewer has h inside size rel =
-        go_left S n s (tree.at (collect (for_return line) [] (MoreExps (Function l body) EndExps)) (of_tree S [] env c) k) _ st (list_returns [] (MoreExps (Function l body) EndExps) n t j line pc opened env regs c k fewer has h.0 h.1.0 h.1.1 inside size rel)
-    return_goes (MoreExps (Var l name) EndExps) n t j line pc opened env regs c k s st fewer has h inside size rel =
-        go_left S n s (tree.at (collect (for_return line) [] (MoreExps (Var l name) EndExps)) (of_tree S [] env c) k) _ st (list_returns [] (MoreExps (Var l name) EndExps) n t j line pc opened env regs c k fewer has h.0 h.1.0 h.1.1 inside size rel)
-    return_goes (MoreExps (Index l o key) EndExps) n t j line pc opened env regs c k s st fewer has h inside size rel =
-        go_left S n s (tree.at (collect (for_return line) [] (MoreExps (Index l o key) EndExps)) (of_tree S [] env c) k) _ st (list_returns [] (MoreExps (Index l o key) EndExps) n t j line pc opened env regs c k fewer has h.0 h.1.0 h.1.1 inside size rel)
-    return_goes (MoreExps (Unary l op x) EndExps) n t j line pc opened env regs c k s st fewer has h inside size rel =
-        go_left S n s (tree.at (collect (for_return line) [] (MoreExps (Unary l op x) EndExps)) (of_tree S [] env c) k) _ st (list_returns [] (MoreExps (Unary l op x) EndExps) n t j line pc opened env regs c k fewer has h.0 h.1.0 h.1.1 inside size rel)
-    return_goes (MoreExps (Binary l op x y) EndExps) n t j line pc opened env regs c k s st fewer has h inside size rel =
-        go_left S n s (tree.at (collect (for_return line) [] (MoreExps (Binary l op x y) EndExps)) (of_tree S [] env c) k) _ st (list_returns [] (MoreExps (Binary l op x y) EndExps) n t j line pc opened env regs c k fewer has h.0 h.1.0 h.1.1 inside size rel)
-    return_goes (MoreExps (And l x y) EndExps) n t j line pc opened env regs c k s st fewer has h inside size rel =
-        go_left S n s (tree.at (collect (for_return line) [] (MoreExps (And l x y) EndExps)) (of_tree S [] env c) k) _ st (list_returns [] (MoreExps (And l x y) EndExps) n t j line pc opened env regs c k fewer has h.0 h.1.0 h.1.1 inside size rel)
-    return_goes (MoreExps (Or l x y) EndExps) n t j line pc opened env regs c k s st fewer has h inside size rel =
-        go_left S n s (tree.at (collect (for_return line) [] (MoreExps (Or l x y) EndExps)) (of_tree S [] env c) k) _ st (list_returns [] (MoreExps (Or l x y) EndExps) n t j line pc opened env regs c k fewer has h.0 h.1.0 h.1.1 inside size rel)
-    return_goes (MoreExps (Paren l x) EndExps) n t j line pc opened env regs c k s st fewer has h inside size rel =
-        go_left S n s (tree.at (collect (for_return line) [] (MoreExps (Paren l x) EndExps)) (of_tree S [] env c) k) _ st (list_returns [] (MoreExps (Paren l x) EndExps) n t j line pc opened env regs c k fewer has h.0 h.1.0 h.1.1 inside size rel)
-    return_goes (MoreExps (Table l fs) EndExps) n t j line pc opened env regs c k s st fewer has h inside size rel =
-        go_left S n s (tree.at (collect (for_return line) [] (MoreExps (Table l fs) EndExps)) (of_tree S [] env c) k) _ st (list_returns [] (MoreExps (Table l fs) EndExps) n t j line pc opened env regs c k fewer has h.0 h.1.0 h.1.1 inside size rel)
-    return_goes (MoreExps (Nil l) (MoreExps d es)) n t j line pc opened env regs c k s st fewer has h inside size rel =
-        go_left S n s (tree.at (collect (for_return line) [] (MoreExps (Nil l) (MoreExps d es))) (of_tree S [] env c) k) _ st (list_returns [] (MoreExps (Nil l) (MoreExps d es)) n t j line pc opened env regs c k fewer has h.0 h.1.0 h.1.1 inside size rel)
-    return_goes (MoreExps (True l) (MoreExps d es)) n t j line pc opened env regs c k s st fewer has h inside size rel =
-        go_left S n s (tree.at (collect (for_return line) [] (MoreExps (True l) (MoreExps d es))) (of_tree S [] env c) k) _ st (list_returns [] (MoreExps (True l) (MoreExps d es)) n t j line pc opened env regs c k fewer has h.0 h.1.0 h.1.1 inside size rel)
-    return_goes (MoreExps (False l) (MoreExps d es)) n t j line pc opened env regs c k s st fewer has h inside size rel =
-        go_left S n s (tree.at (collect (for_return line) [] (MoreExps (False l) (MoreExps d es))) (of_tree S [] env c) k) _ st (list_returns [] (MoreExps (False l) (MoreExps d es)) n t j line pc opened env regs c k fewer has h.0 h.1.0 h.1.1 inside size rel)
-    return_goes (MoreExps (Int l z) (MoreExps d es)) n t j line pc opened env regs c k s st fewer has h inside size rel =
-        go_left S n s (tree.at (collect (for_return line) [] (MoreExps (Int l z) (MoreExps d es))) (of_tree S [] env c) k) _ st (list_returns [] (MoreExps (Int l z) (MoreExps d es)) n t j line pc opened env regs c k fewer has h.0 h.1.0 h.1.1 inside size rel)
-    return_goes (MoreExps (Str l bytes) (MoreExps d es)) n t j line pc opened env regs c k s st fewer has h inside size rel =
-        go_left S n s (tree.at (collect (for_return line) [] (MoreExps (Str l bytes) (MoreExps d es))) (of_tree S [] env c) k) _ st (list_returns [] (MoreExps (Str l bytes) (MoreExps d es)) n t j line pc opened env regs c k fewer has h.0 h.1.0 h.1.1 inside size rel)
-    return_goes (MoreExps (Vararg l) (MoreExps d es)) n t j line pc opened env regs c k s st fewer has h inside size rel =
-        go_left S n s (tree.at (collect (for_return line) [] (MoreExps (Vararg l) (MoreExps d es))) (of_tree S [] env c) k) _ st (list_returns [] (MoreExps (Vararg l) (MoreExps d es)) n t j line pc opened env regs c k fewer has h.0 h.1.0 h.1.1 inside size rel)
-    return_goes (MoreExps (Function l body) (MoreExps d es)) n t j line pc opened env regs c k s st fewer has h inside size rel =
-        go_left S n s (tree.at (collect (for_return line) [] (MoreExps (Function l body) (MoreExps d es))) (of_tree S [] env c) k) _ st (list_returns [] (MoreExps (Function l body) (MoreExps d es)) n t j line pc opened env regs c k fewer has h.0 h.1.0 h.1.1 inside size rel)
-    return_goes (MoreExps (Var l name) (MoreExps d es)) n t j line pc opened env regs c k s st fewer has h inside size rel =
-        go_left S n s (tree.at (collect (for_return line) [] (MoreExps (Var l name) (MoreExps d es))) (of_tree S [] env c) k) _ st (list_returns [] (MoreExps (Var l name) (MoreExps d es)) n t j line pc opened env regs c k fewer has h.0 h.1.0 h.1.1 inside size rel)
-    return_goes (MoreExps (Index l o key) (MoreExps d es)) n t j line pc opened env regs c k s st fewer has h inside size rel =
-        go_left S n s (tree.at (collect (for_return line) [] (MoreExps (Index l o key) (MoreExps d es))) (of_tree S [] env c) k) _ st (list_returns [] (MoreExps (Index l o key) (MoreExps d es)) n t j line pc opened env regs c k fewer has h.0 h.1.0 h.1.1 inside size rel)
-    return_goes (MoreExps (Unary l op x) (MoreExps d es)) n t j line pc opened env regs c k s st fewer has h inside size rel =
-        go_left S n s (tree.at (collect (for_return line) [] (MoreExps (Unary l op x) (MoreExps d es))) (of_tree S [] env c) k) _ st (list_returns [] (MoreExps (Unary l op x) (MoreExps d es)) n t j line pc opened env regs c k fewer has h.0 h.1.0 h.1.1 inside size rel)
-    return_goes (MoreExps (Binary l op x y) (MoreExps d es)) n t j line pc opened env regs c k s st fewer has h inside size rel =
-        go_left S n s (tree.at (collect (for_return line) [] (MoreExps (Binary l op x y) (MoreExps d es))) (of_tree S [] env c) k) _ st (list_returns [] (MoreExps (Binary l op x y) (MoreExps d es)) n t j line pc opened env regs c k fewer has h.0 h.1.0 h.1.1 inside size rel)
-    return_goes (MoreExps (And l x y) (MoreExps d es)) n t j line pc opened env regs c k s st fewer has h inside size rel =
-        go_left S n s (tree.at (collect (for_return line) [] (MoreExps (And l x y) (MoreExps d es))) (of_tree S [] env c) k) _ st (list_returns [] (MoreExps (And l x y) (MoreExps d es)) n t j line pc opened env regs c k fewer has h.0 h.1.0 h.1.1 inside size rel)
-    return_goes (MoreExps (Or l x y) (MoreExps d es)) n t j line pc opened env regs c k s st fewer has h inside size rel =
-        go_left S n s (tree.at (collect (for_return line) [] (MoreExps (Or l x y) (MoreExps d es))) (of_tree S [] env c) k) _ st (list_returns [] (MoreExps (Or l x y) (MoreExps d es)) n t j line pc opened env regs c k fewer has h.0 h.1.0 h.1.1 inside size rel)
-    return_goes (MoreExps (Paren l x) (MoreExps d es)) n t j line pc opened env regs c k s st fewer has h inside size rel =
-        go_left S n s (tree.at (collect (for_return line) [] (MoreExps (Paren l x) (MoreExps d es))) (of_tree S [] env c) k) _ st (list_returns [] (MoreExps (Paren l x) (MoreExps d es)) n t j line pc opened env regs c k fewer has h.0 h.1.0 h.1.1 inside size rel)
-    return_goes (MoreExps (Table l fs) (MoreExps d es)) n t j line pc opened env regs c k s st fewer has h inside size rel =
-        go_left S n s (tree.at (collect (for_return line) [] (MoreExps (Table l fs) (MoreExps d es))) (of_tree S [] env c) k) _ st (list_returns [] (MoreExps (Table l fs) (MoreExps d es)) n t j line pc opened env regs c k fewer has h.0 h.1.0 h.1.1 inside size rel)
-    return_goes (MoreExps (Call l f args) (MoreExps d es)) n t j line pc opened env regs c k s st fewer has h inside size rel =
-        go_left S n s (tree.at (collect (for_return line) [] (MoreExps (Call l f args) (MoreExps d es))) (of_tree S [] env c) k) _ st (list_returns [] (MoreExps (Call l f args) (MoreExps d es)) n t j line pc opened env regs c k fewer has h.0 h.1.0 h.1.1 inside size rel)
-    return_goes (MoreExps (Method l o name args) (MoreExps d es)) n t j line pc opened env regs c k s st fewer has h inside size rel =
-        go_left S n s (tree.at (collect (for_return line) [] (MoreExps (Method l o name args) (MoreExps d es))) (of_tree S [] env c) k) _ st (list_returns [] (MoreExps (Method l o name args) (MoreExps d es)) n t j line pc opened env regs c k fewer has h.0 h.1.0 h.1.1 inside size rel)
+    return_goes es n t j line pc opened env regs c k s st fewer has h inside size rel =
+        go_left S n s (tree.at (collect (for_return line) [] es) (of_tree S [] env c) k) (before (of_code S [] pc regs opened) c) st (list_returns [] es n t j line pc opened env regs c k fewer has h.0 h.1.0 h.1.1 inside size rel)
 
     -- the end of statements, where `return` stands
     pub return_ends : (ss : Stats) (es : Exps) (line n : ℕ) (closing : Bool) (closed : List ℕ) (outer t j pc : ℕ) (reach : Reach) (k : List Work) → n ≤ S.bound
