@@ -24,16 +24,20 @@ use Rattle.machine_core.specs.Talk.{before, talk_step, says_so, heard}
 use Rattle.code_of.specs.Operators.{operator_code, arithmetic_code}
 use Rattle.exp_laws.proofs.Steps.{row_step, own_step}
 
--- what the operators of arithmetic have in common
-pub record Arithmetic (op : BinOp) : Type 0 where
+-- What the operators of arithmetic have in common, in the form of code and of rows that a second operand has.
+pub record ByOperator (op : BinOp) (Emits : Opcode → ℕ → Type 0) (reads : Event → Instruction → Text) : Type 0 where
   pub opcode : Opcode
   pub event : Event
   pub number : ℕ
   pub small : number < 2 ^ 8
-  pub emits : (x y t line : ℕ) → operator_code op x y t line ≡ arithmetic_code opcode number x y t line
-  pub row : (p : Prototype) (pc : ℕ) (w : Instruction) → row_of p pc opcode w ≡ with_register event w
+  pub emits : Emits opcode number
+  pub row : (p : Prototype) (pc : ℕ) (w : Instruction) → row_of p pc opcode w ≡ reads event w
   pub means : (line : ℕ) (v w : Value) (a : tree.Activation) (k : List Work) → binary op line v w a k ≡ arithmetic_of event line v w a k
   pub numbered : event_numbered number ≡ Some event
+
+-- between two registers
+abbrev pub Arithmetic : BinOp → Type 0
+Arithmetic op = ByOperator op (λ opcode number. (x y t line : ℕ) → operator_code op x y t line ≡ arithmetic_code opcode number x y t line) with_register
 
 abbrev pub IsArithmetic : BinOp → Type 0
 IsArithmetic Plus = Unit {0}

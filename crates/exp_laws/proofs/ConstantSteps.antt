@@ -7,9 +7,6 @@ use Rattle.int_core.specs.Ask.{operates, Captured}
 use Rattle.tree_core.specs.declared.operator.BinOp.{BinOp}
 use Rattle.tree_core.specs.declared.operator.BinOp.TheVariants.{Add as Plus, Sub as Minus, Mul as Times, Mod as Modulo, Idiv, Band, Bor, Bxor, Eq as Equal, Ne}
 use Rattle.tree_core.specs.Tree.{Exp}
-use Rattle.tree_activation.specs.Work.{Work}
-use Rattle.tree_activation.specs.Work as tree
-use Rattle.tree_activation.specs.Expressions.{arithmetic_of, binary}
 use Rattle.code_core.specs.declared.opcode.Opcode.{Opcode}
 use Rattle.code_core.specs.declared.opcode.Opcode.TheVariants.{AddK, SubK, MulK, ModK, IDivK, BAndK, BOrK, BXorK, MmBinK, EqK}
 use Rattle.code_core.specs.declared.instruction.Instruction.{Instruction}
@@ -27,18 +24,12 @@ use Rattle.code_of.specs.ConstantOperands.{constant_by}
 use Rattle.code_of.specs.Operations.{constant_code, constant_arithmetic}
 use Rattle.code_of.proofs.Fields.{k_of-abc}
 use Rattle.exp_laws.proofs.Steps.{row_step, own_step, found_below}
+use Rattle.exp_laws.proofs.Arithmetic.{ByOperator}
 use Rattle.exp_laws.proofs.Comparisons.{Comparison, comparison_by}
 
--- what the operators of arithmetic that take a constant have in common
-pub record ConstantArithmetic (op : BinOp) : Type 0 where
-  pub opcode : Opcode
-  pub event : Event
-  pub number : ℕ
-  pub small : number < 2 ^ 8
-  pub emits : (x n t line : ℕ) → constant_code op x n t line ≡ constant_arithmetic opcode number x n t line
-  pub row : (p : Prototype) (pc : ℕ) (w : Instruction) → row_of p pc opcode w ≡ with_constant event w
-  pub means : (line : ℕ) (v w : Value) (a : tree.Activation) (k : List Work) → binary op line v w a k ≡ arithmetic_of event line v w a k
-  pub numbered : event_numbered number ≡ Some event
+-- the operators of arithmetic that take a constant
+abbrev pub ConstantArithmetic : BinOp → Type 0
+ConstantArithmetic op = ByOperator op (λ opcode number. (x n t line : ℕ) → constant_code op x n t line ≡ constant_arithmetic opcode number x n t line) with_constant
 
 -- an operator that takes a constant is one of these, or it tells whether two values are equal
 pub constant_sort : (op : BinOp) (d : Exp) (v : Const) → constant_by op d ≡ Some v → ConstantArithmetic op ⊎ Comparison op
