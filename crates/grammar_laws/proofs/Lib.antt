@@ -17,8 +17,7 @@ pub mod Bytes
 mod LineKeeping
 mod LineParts
 mod LineReadings
-pub mod PlacedWeight
-pub mod PlacedFunctions
+pub mod PlacedSizes
 pub mod PlacedBlocks
 mod PlacedLines
 pub mod Rules
@@ -26,4 +25,3 @@ pub mod WholeSizes
 pub mod Walk
 pub mod Nesting
 pub mod NestingParts
-pub mod PlacedNesting

@@ -5,7 +5,7 @@ use Rattle.scope_core.specs.Scopes.{Frame, behind_stats}
 use Rattle.scope_core.specs.Places.{placed_block, main_upvalues, placed}
 use Rattle.grammar_laws.specs.Counted.{block_is_counted, all_counted, BlockIsCounted, BodyIsCounted}
 use Rattle.grammar_laws.proofs.PlacedParts.{Stays, block_stays}
-use Rattle.grammar_laws.proofs.PlacedWeight.{exps_weighs, stats_weighs}
+use Rattle.grammar_laws.proofs.PlacedSizes.{exps_weighs, stats_weighs}
 
 one_stays : (p q : Type 0) (fs : List Frame) (b : Block) → block_is_counted b p → (p → q) → block_is_counted (placed_block fs b) q
 one_stays p q fs (Falls ss tokens line) h k = (omega (arith, h.0, stats_weighs fs ss), k h.1)

@@ -8,8 +8,7 @@ use Rattle.lua_parse.specs.Reading.{Derives}
 use Rattle.grammar_laws.specs.Sizes.{Weighs, TakesBytes, WeighsAlike, HasFewLines}
 use Rattle.grammar_laws.proofs.SizeReadings.{Gone, part_kept, goes}
 use Rattle.grammar_laws.proofs.Bytes.{tokens_count, openings_fit}
-use Rattle.grammar_laws.proofs.PlacedWeight.{placed_weighs}
-use Rattle.grammar_laws.proofs.PlacedFunctions.{placed_has}
+use Rattle.grammar_laws.proofs.PlacedSizes.{placed_has, placed_weighs}
 use Rattle.grammar_laws.proofs.PlacedBlocks.{placed_counted}
 use Rattle.grammar_laws.proofs.LineReadings.{tree_within}
 use Rattle.grammar_laws.proofs.PlacedLines.{placed_within}

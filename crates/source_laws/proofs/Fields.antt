@@ -19,8 +19,7 @@ use Rattle.lua_lex.specs.Lexical.{TokensOf}
 use Rattle.lua_parse.specs.Reading.{Derives}
 use Rattle.scope_core.specs.Places.{placed}
 use Rattle.grammar_laws.proofs.PlacedBlocks.{placed_counted}
-use Rattle.grammar_laws.proofs.PlacedFunctions.{placed_has}
-use Rattle.grammar_laws.proofs.PlacedWeight.{placed_weighs}
+use Rattle.grammar_laws.proofs.PlacedSizes.{placed_has, placed_weighs}
 use Rattle.grammar_laws.proofs.WholeSizes.{weighs, takes}
 
 pub light : (block : Block) → BlockIsCounted block → weight_of_block block ≤ tokens_of block

@@ -15,7 +15,7 @@ use Rattle.source_laws.proofs.TextParts.{part_fits}
 use Rattle.source_laws.proofs.TokenTexts.{tokens_fit}
 use Rattle.source_laws.proofs.PlacedTexts.{placed_fits}
 use Rattle.grammar_laws.proofs.NestingParts.{part_nests}
-use Rattle.grammar_laws.proofs.PlacedNesting.{placed_nests}
+use Rattle.grammar_laws.proofs.PlacedSizes.{placed_nests}
 use Rattle.source_laws.proofs.Deep.{deep_body}
 
 tree_fits : (source : List ℕ) (tokens : List Lexeme) (tree : Block) → length source ≤ 1048576 → TokensOf source tokens → Derives tokens tree → BlockTextsFit tree
