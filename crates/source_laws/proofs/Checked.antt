@@ -18,7 +18,7 @@ use Rattle.source_laws.proofs.Meaning.{source_light, source_functions, source_fi
 use Rattle.source_laws.proofs.Nearing.{near_body}
 use Rattle.code_checked.proofs.Keeping.{code_is_checked}
 use Rattle.source_laws.proofs.Joining.{body_written}
-use Rattle.source_laws.proofs.Many.{many_body}
+use Rattle.source_laws.proofs.Within.{many_body}
 use Rattle.source_laws.proofs.Limits.{texts_fit, shallow}
 
 pub source_checked : (source : List ℕ) (tokens : List Lexeme) (tree : Block) → length source ≤ 1048576 → TokensOf source tokens → Derives tokens tree → violations tree ≡ []

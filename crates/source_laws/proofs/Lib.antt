@@ -9,7 +9,7 @@ mod SourceExample
 mod MeaningExample
 mod Counting
 pub mod Nearing
-mod Deep
+mod Within
 mod Texts
 mod TextParts
 mod PartTexts
@@ -17,7 +17,6 @@ mod PlacedTexts
 mod TokenTexts
 mod Limits
 mod Joining
-mod Many
 pub mod Checked
 mod CheckedExample
 mod Fields

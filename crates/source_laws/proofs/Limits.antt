@@ -16,7 +16,7 @@ use Rattle.source_laws.proofs.TokenTexts.{tokens_fit}
 use Rattle.source_laws.proofs.PlacedTexts.{placed_fits}
 use Rattle.grammar_laws.proofs.NestingParts.{part_nests}
 use Rattle.grammar_laws.proofs.PlacedSizes.{placed_nests}
-use Rattle.source_laws.proofs.Deep.{deep_body}
+use Rattle.source_laws.proofs.Within.{deep_body}
 
 tree_fits : (source : List ℕ) (tokens : List Lexeme) (tree : Block) → length source ≤ 1048576 → TokensOf source tokens → Derives tokens tree → BlockTextsFit tree
 tree_fits source tokens tree small t d = (goes part_fits (a_block tree) d.height [] d.reads refl (part_fits chunk 400 tt) (tokens_fit (omega (arith, small)) t)).holds
