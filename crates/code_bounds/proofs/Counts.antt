@@ -12,119 +12,73 @@ use Rattle.code_of.specs.Levels.{made_by_stat, made_in_arms, made_in_stats, made
 use Rattle.tree_terms.specs.FunctionCount.{functions, functions_in_exps, functions_in_fields, functions_in_field, functions_in_stat, functions_in_arms, functions_in_stats, functions_in_block, functions_in_body}
 use Rattle.tree_terms.specs.Weight.{weight, weight_of_arguments, weight_of_exps, weight_of_fields, weight_of_field, weight_of_stat, weight_of_arms, weight_of_stats, weight_of_block, weight_of_body}
 
--- functions
+-- functions: those that code makes itself, those that are written, and the weight
 
 pub arguments_weigh : (es : Exps) → weight_of_exps es ≤ weight_of_arguments es
 arguments_weigh EndExps = omega arith
 arguments_weigh (MoreExps e es) = omega arith
 
 mutual
-  made_exp : (e : Exp) → made_by e ≤ functions e
-  made_exp (Index line object key) = omega (arith, made_exp object, made_exp key)
-  made_exp (Call line f es) = omega (arith, made_exp f, made_exps es)
-  made_exp (Method line object name es) = omega (arith, made_exp object, made_exps es)
-  made_exp (Unary line op e) = omega (arith, made_exp e)
-  made_exp (Binary line op e d) = omega (arith, made_exp e, made_exp d)
-  made_exp (And line e d) = omega (arith, made_exp e, made_exp d)
-  made_exp (Or line e d) = omega (arith, made_exp e, made_exp d)
-  made_exp (Paren line e) = omega (arith, made_exp e)
-  made_exp (Table line fs) = omega (arith, made_fields fs)
-  made_exp _ = omega arith
+  exp_counts : (e : Exp) → (made_by e ≤ functions e) × (functions e ≤ weight e)
+  exp_counts (Function line body) = (omega arith, omega (arith, body_counts body))
+  exp_counts (Index line object key) = let x = exp_counts object in let y = exp_counts key in (omega (arith, x.0, y.0), omega (arith, x.1, y.1))
+  exp_counts (Call line f es) = let x = exp_counts f in let y = exps_counts es in (omega (arith, x.0, y.0), omega (arith, x.1, y.1, arguments_weigh es))
+  exp_counts (Method line object name es) = let x = exp_counts object in let y = exps_counts es in (omega (arith, x.0, y.0), omega (arith, x.1, y.1, arguments_weigh es))
+  exp_counts (Unary line op e) = let x = exp_counts e in (omega (arith, x.0), omega (arith, x.1))
+  exp_counts (Binary line op e d) = let x = exp_counts e in let y = exp_counts d in (omega (arith, x.0, y.0), omega (arith, x.1, y.1))
+  exp_counts (And line e d) = let x = exp_counts e in let y = exp_counts d in (omega (arith, x.0, y.0), omega (arith, x.1, y.1))
+  exp_counts (Or line e d) = let x = exp_counts e in let y = exp_counts d in (omega (arith, x.0, y.0), omega (arith, x.1, y.1))
+  exp_counts (Paren line e) = let x = exp_counts e in (omega (arith, x.0), omega (arith, x.1))
+  exp_counts (Table line fs) = let x = fields_counts fs in (omega (arith, x.0), omega (arith, x.1))
+  exp_counts _ = (omega arith, omega arith)
 
-  made_exps : (es : Exps) → made_in es ≤ functions_in_exps es
-  made_exps EndExps = omega arith
-  made_exps (MoreExps e es) = omega (arith, made_exp e, made_exps es)
+  exps_counts : (es : Exps) → (made_in es ≤ functions_in_exps es) × (functions_in_exps es ≤ weight_of_exps es)
+  exps_counts EndExps = (omega arith, omega arith)
+  exps_counts (MoreExps e es) = let x = exp_counts e in let y = exps_counts es in (omega (arith, x.0, y.0), omega (arith, x.1, y.1))
 
-  made_fields : (fs : Fields) → made_in_fields fs ≤ functions_in_fields fs
-  made_fields EndFields = omega arith
-  made_fields (MoreFields f fs) = omega (arith, made_field f, made_fields fs)
+  fields_counts : (fs : Fields) → (made_in_fields fs ≤ functions_in_fields fs) × (functions_in_fields fs ≤ weight_of_fields fs)
+  fields_counts EndFields = (omega arith, omega arith)
+  fields_counts (MoreFields f fs) = let x = field_counts f in let y = fields_counts fs in (omega (arith, x.0, y.0), omega (arith, x.1, y.1))
 
-  made_field : (f : Field) → made_by_field f ≤ functions_in_field f
-  made_field (Item e) = made_exp e
-  made_field (Keyed line e d) = omega (arith, made_exp e, made_exp d)
+  field_counts : (f : Field) → (made_by_field f ≤ functions_in_field f) × (functions_in_field f ≤ weight_of_field f)
+  field_counts (Item e) = exp_counts e
+  field_counts (Keyed line e d) = let x = exp_counts e in let y = exp_counts d in (omega (arith, x.0, y.0), omega (arith, x.1, y.1))
 
-mutual
-  made_stat : (s : Stat) → made_by_stat s ≤ functions_in_stat s
-  made_stat (Local line names es) = omega (arith, made_exps es)
-  made_stat (Assign line targets es) = omega (arith, made_exps targets, made_exps es)
-  made_stat (CallStat line e) = made_exp e
-  made_stat (Do line block) = omega (arith, made_block block)
-  made_stat (While line e block) = omega (arith, made_exp e, made_block block)
-  made_stat (Repeat line block e) = omega (arith, made_block block, made_exp e)
-  made_stat (If line arms) = omega (arith, made_arms arms)
-  made_stat (IfElse line arms block) = omega (arith, made_arms arms, made_block block)
-  made_stat (NumFor line name from limit block) = omega (arith, made_exp from, made_exp limit, made_block block)
-  made_stat (NumForStep line name from limit step block) = omega (arith, made_exp from, made_exp limit, made_exp step, made_block block)
-  made_stat (GenFor line names es block) = omega (arith, made_exps es, made_block block)
-  made_stat _ = omega arith
+  stat_counts : (s : Stat) → (made_by_stat s ≤ functions_in_stat s) × (functions_in_stat s ≤ weight_of_stat s)
+  stat_counts (Local line names es) = let x = exps_counts es in (omega (arith, x.0), omega (arith, x.1))
+  stat_counts (LocalFunction line name body) = (omega arith, omega (arith, body_counts body))
+  stat_counts (Assign line targets es) = let x = exps_counts targets in let y = exps_counts es in (omega (arith, x.0, y.0), omega (arith, x.1, y.1))
+  stat_counts (CallStat line e) = exp_counts e
+  stat_counts (Do line block) = let x = block_counts block in (omega (arith, x.0), omega (arith, x.1))
+  stat_counts (While line e block) = let x = exp_counts e in let y = block_counts block in (omega (arith, x.0, y.0), omega (arith, x.1, y.1))
+  stat_counts (Repeat line block e) = let x = block_counts block in let y = exp_counts e in (omega (arith, x.0, y.0), omega (arith, x.1, y.1))
+  stat_counts (If line arms) = let x = arms_counts arms in (omega (arith, x.0), omega (arith, x.1))
+  stat_counts (IfElse line arms block) = let x = arms_counts arms in let y = block_counts block in (omega (arith, x.0, y.0), omega (arith, x.1, y.1))
+  stat_counts (NumFor line name from limit block) = let x = exp_counts from in let y = exp_counts limit in let z = block_counts block in (omega (arith, x.0, y.0, z.0), omega (arith, x.1, y.1, z.1))
+  stat_counts (NumForStep line name from limit step block) = let x = exp_counts from in let y = exp_counts limit in let z = exp_counts step in let u = block_counts block in (omega (arith, x.0, y.0, z.0, u.0), omega (arith, x.1, y.1, z.1, u.1))
+  stat_counts (GenFor line names es block) = let x = exps_counts es in let y = block_counts block in (omega (arith, x.0, y.0), omega (arith, x.1, y.1))
+  stat_counts _ = (omega arith, omega arith)
 
-  made_arms : (arms : Arms) → made_in_arms arms ≤ functions_in_arms arms
-  made_arms EndArms = omega arith
-  made_arms (MoreArms e block arms) = omega (arith, made_exp e, made_block block, made_arms arms)
+  arms_counts : (arms : Arms) → (made_in_arms arms ≤ functions_in_arms arms) × (functions_in_arms arms ≤ weight_of_arms arms)
+  arms_counts EndArms = (omega arith, omega arith)
+  arms_counts (MoreArms e block arms) = let x = exp_counts e in let y = block_counts block in let z = arms_counts arms in (omega (arith, x.0, y.0, z.0), omega (arith, x.1, y.1, z.1))
 
-  made_stats : (ss : Stats) → made_in_stats ss ≤ functions_in_stats ss
-  made_stats EndStats = omega arith
-  made_stats (MoreStats s ss) = omega (arith, made_stat s, made_stats ss)
+  stats_counts : (ss : Stats) → (made_in_stats ss ≤ functions_in_stats ss) × (functions_in_stats ss ≤ weight_of_stats ss)
+  stats_counts EndStats = (omega arith, omega arith)
+  stats_counts (MoreStats s ss) = let x = stat_counts s in let y = stats_counts ss in (omega (arith, x.0, y.0), omega (arith, x.1, y.1))
 
-  pub made_block : (block : Block) → made_in_block block ≤ functions_in_block block
-  made_block (Falls ss tokens line) = made_stats ss
-  made_block (Returns ss es tokens line) = omega (arith, made_stats ss, made_exps es)
+  block_counts : (block : Block) → (made_in_block block ≤ functions_in_block block) × (functions_in_block block ≤ weight_of_block block)
+  block_counts (Falls ss tokens line) = stats_counts ss
+  block_counts (Returns ss es tokens line) = let x = stats_counts ss in let y = exps_counts es in (omega (arith, x.0, y.0), omega (arith, x.1, y.1))
 
-mutual
-  written_exp : (e : Exp) → functions e ≤ weight e
-  written_exp (Function line body) = omega (arith, written_body body)
-  written_exp (Index line object key) = omega (arith, written_exp object, written_exp key)
-  written_exp (Call line f es) = omega (arith, written_exp f, written_exps es, arguments_weigh es)
-  written_exp (Method line object name es) = omega (arith, written_exp object, written_exps es, arguments_weigh es)
-  written_exp (Unary line op e) = omega (arith, written_exp e)
-  written_exp (Binary line op e d) = omega (arith, written_exp e, written_exp d)
-  written_exp (And line e d) = omega (arith, written_exp e, written_exp d)
-  written_exp (Or line e d) = omega (arith, written_exp e, written_exp d)
-  written_exp (Paren line e) = omega (arith, written_exp e)
-  written_exp (Table line fs) = omega (arith, written_fields fs)
-  written_exp _ = omega arith
+  body_counts : (body : Body) → functions_in_body body + 1 ≤ weight_of_body body
+  body_counts (BodyOf params vararg inner ups line) = let x = block_counts inner in omega (arith, x.1)
 
-  written_exps : (es : Exps) → functions_in_exps es ≤ weight_of_exps es
-  written_exps EndExps = omega arith
-  written_exps (MoreExps e es) = omega (arith, written_exp e, written_exps es)
+pub made_block : (block : Block) → made_in_block block ≤ functions_in_block block
+made_block block = (block_counts block).0
 
-  written_fields : (fs : Fields) → functions_in_fields fs ≤ weight_of_fields fs
-  written_fields EndFields = omega arith
-  written_fields (MoreFields f fs) = omega (arith, written_field f, written_fields fs)
-
-  written_field : (f : Field) → functions_in_field f ≤ weight_of_field f
-  written_field (Item e) = written_exp e
-  written_field (Keyed line e d) = omega (arith, written_exp e, written_exp d)
-
-  written_stat : (s : Stat) → functions_in_stat s ≤ weight_of_stat s
-  written_stat (Local line names es) = omega (arith, written_exps es)
-  written_stat (LocalFunction line name body) = omega (arith, written_body body)
-  written_stat (Assign line targets es) = omega (arith, written_exps targets, written_exps es)
-  written_stat (CallStat line e) = written_exp e
-  written_stat (Do line block) = omega (arith, written_block block)
-  written_stat (While line e block) = omega (arith, written_exp e, written_block block)
-  written_stat (Repeat line block e) = omega (arith, written_block block, written_exp e)
-  written_stat (If line arms) = omega (arith, written_arms arms)
-  written_stat (IfElse line arms block) = omega (arith, written_arms arms, written_block block)
-  written_stat (NumFor line name from limit block) = omega (arith, written_exp from, written_exp limit, written_block block)
-  written_stat (NumForStep line name from limit step block) = omega (arith, written_exp from, written_exp limit, written_exp step, written_block block)
-  written_stat (GenFor line names es block) = omega (arith, written_exps es, written_block block)
-  written_stat _ = omega arith
-
-  written_arms : (arms : Arms) → functions_in_arms arms ≤ weight_of_arms arms
-  written_arms EndArms = omega arith
-  written_arms (MoreArms e block arms) = omega (arith, written_exp e, written_block block, written_arms arms)
-
-  written_stats : (ss : Stats) → functions_in_stats ss ≤ weight_of_stats ss
-  written_stats EndStats = omega arith
-  written_stats (MoreStats s ss) = omega (arith, written_stat s, written_stats ss)
-
-  pub written_block : (block : Block) → functions_in_block block ≤ weight_of_block block
-  written_block (Falls ss tokens line) = written_stats ss
-  written_block (Returns ss es tokens line) = omega (arith, written_stats ss, written_exps es)
-
-  written_body : (body : Body) → functions_in_body body + 1 ≤ weight_of_body body
-  written_body (BodyOf params vararg inner ups line) = omega (arith, written_block inner)
+pub written_block : (block : Block) → functions_in_block block ≤ weight_of_block block
+written_block block = (block_counts block).1
 
 -- constants
 
