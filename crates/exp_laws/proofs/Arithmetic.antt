@@ -1,5 +1,5 @@
 -- Arithmetic between two operands: an instruction that does it on integers, and MMBIN behind it that asks.
-use Rattle.std.proofs.Common.{◌≡◌, ℕ, suc, ◌+◌, ◌<◌, ◌^◌, lit<, false, List, [], ◌∷◌, length, Some, None, refl, ap, ap₂, ◌∙◌, arith}
+use Rattle.std.proofs.Common.{◌≡◌, ℕ, suc, ◌+◌, ◌<◌, ◌^◌, lit<, true, false, List, [], ◌∷◌, length, Some, None, refl, ap, ap₂, ◌∙◌, arith}
 use borrow.Author.Tests.{lt-ltb}
 use Rattle.int_core.specs.Value.{Value, Shape, is_known, primitive, nth}
 use Rattle.int_core.specs.Operations.{Event, of_add, of_sub, of_mul, of_mod, of_idiv, of_band, of_bor, of_bxor, of_shl, of_shr, arithmetic}
@@ -21,6 +21,7 @@ use Rattle.machine_core.specs.World as world
 use Rattle.machine_core.specs.Text.{read, Text, read_register, own, trap}
 use Rattle.machine_core.specs.InstructionRows.{row_of, rest, rest_at, rest_by, to_register, to_register_before, handled, event_numbered, integer_of_shape, with_register}
 use Rattle.machine_core.specs.Talk.{before, talk_step, says_so, heard}
+use Rattle.code_of.specs.Operands.{computes}
 use Rattle.code_of.specs.Operators.{operator_code, arithmetic_code}
 use Rattle.exp_laws.proofs.Steps.{row_step, own_step}
 
@@ -39,20 +40,7 @@ pub record ByOperator (op : BinOp) (Emits : Opcode → ℕ → Type 0) (reads : 
 abbrev pub Arithmetic : BinOp → Type 0
 Arithmetic op = ByOperator op (λ opcode number. (x y t line : ℕ) → operator_code op x y t line ≡ arithmetic_code opcode number x y t line) with_register
 
-abbrev pub IsArithmetic : BinOp → Type 0
-IsArithmetic Plus = Unit {0}
-IsArithmetic Minus = Unit {0}
-IsArithmetic Times = Unit {0}
-IsArithmetic Modulo = Unit {0}
-IsArithmetic Idiv = Unit {0}
-IsArithmetic Band = Unit {0}
-IsArithmetic Bor = Unit {0}
-IsArithmetic Bxor = Unit {0}
-IsArithmetic ShiftLeft = Unit {0}
-IsArithmetic ShiftRight = Unit {0}
-IsArithmetic _ = ⊥
-
-pub arithmetic_by : (op : BinOp) → IsArithmetic op → Arithmetic op
+pub arithmetic_by : (op : BinOp) → computes op ≡ true → Arithmetic op
 arithmetic_by Plus h = record { opcode = Add; event = of_add; number = 6; small = lit< tt; emits = λ x y t line. refl; row = λ p pc w. refl; means = λ line v w a k. refl; numbered = refl }
 arithmetic_by Minus h = record { opcode = Sub; event = of_sub; number = 7; small = lit< tt; emits = λ x y t line. refl; row = λ p pc w. refl; means = λ line v w a k. refl; numbered = refl }
 arithmetic_by Times h = record { opcode = Mul; event = of_mul; number = 8; small = lit< tt; emits = λ x y t line. refl; row = λ p pc w. refl; means = λ line v w a k. refl; numbered = refl }
@@ -63,7 +51,7 @@ arithmetic_by Bor h = record { opcode = BOr; event = of_bor; number = 14; small 
 arithmetic_by Bxor h = record { opcode = BXor; event = of_bxor; number = 15; small = lit< tt; emits = λ x y t line. refl; row = λ p pc w. refl; means = λ line v w a k. refl; numbered = refl }
 arithmetic_by ShiftLeft h = record { opcode = Shl; event = of_shl; number = 16; small = lit< tt; emits = λ x y t line. refl; row = λ p pc w. refl; means = λ line v w a k. refl; numbered = refl }
 arithmetic_by ShiftRight h = record { opcode = Shr; event = of_shr; number = 17; small = lit< tt; emits = λ x y t line. refl; row = λ p pc w. refl; means = λ line v w a k. refl; numbered = refl }
-arithmetic_by _ h = absurd h
+arithmetic_by _ h = absurd (cc)
 
 pub integer_same : (s : Shape) → integer_of_shape s ≡ integer_in s
 integer_same (is_known (primitive n)) = refl

@@ -46,23 +46,14 @@ pub record Comparison (op : BinOp) : Type 0 where
   pub row_of_number : (p : Prototype) (pc : ℕ) (w : Instruction) → row_of p pc (number_opcode op) w ≡ own (read_register (a_of w)) (λ x _. compares operation (pick swapped (read x) (with_number w)) (pick swapped (with_number w) (read x)) w)
   pub means : (line : ℕ) (v w : Value) (a : tree.Activation) (k : List Work) → binary op line v w a k ≡ truth_of operation wanted (pick swapped v w) (pick swapped w v) line a k
 
-abbrev pub IsComparison : BinOp → Type 0
-IsComparison Equal = Unit {0}
-IsComparison Ne = Unit {0}
-IsComparison Less = Unit {0}
-IsComparison AtMost = Unit {0}
-IsComparison Gt = Unit {0}
-IsComparison Ge = Unit {0}
-IsComparison _ = ⊥
-
-pub comparison_by : (op : BinOp) → IsComparison op → Comparison op
+pub comparison_by : (op : BinOp) → is_compared op ≡ true → Comparison op
 comparison_by Equal h = record { opcode = Eq; operation = equal; wanted = true; swapped = false; emits = λ x y t line. refl; emits_number = λ x n t line. refl; emits_constant = λ d c is x n t line. refl; equals = λ d c is. (refl, refl); tests = λ other by. refl; compares_so = refl; row = λ p pc w. refl; row_of_number = λ p pc w. refl; means = λ line v w a k. refl }
 comparison_by Ne h = record { opcode = Eq; operation = equal; wanted = false; swapped = false; emits = λ x y t line. refl; emits_number = λ x n t line. refl; emits_constant = λ d c is x n t line. refl; equals = λ d c is. (refl, refl); tests = λ other by. refl; compares_so = refl; row = λ p pc w. refl; row_of_number = λ p pc w. refl; means = λ line v w a k. refl }
 comparison_by Less h = record { opcode = Lt; operation = less; wanted = true; swapped = false; emits = λ x y t line. refl; emits_number = λ x n t line. refl; emits_constant = λ d c is. absurd (cc); equals = λ d c is. absurd (cc); tests = λ other by. refl; compares_so = refl; row = λ p pc w. refl; row_of_number = λ p pc w. refl; means = λ line v w a k. refl }
 comparison_by AtMost h = record { opcode = Le; operation = less_equal; wanted = true; swapped = false; emits = λ x y t line. refl; emits_number = λ x n t line. refl; emits_constant = λ d c is. absurd (cc); equals = λ d c is. absurd (cc); tests = λ other by. refl; compares_so = refl; row = λ p pc w. refl; row_of_number = λ p pc w. refl; means = λ line v w a k. refl }
 comparison_by Gt h = record { opcode = Lt; operation = less; wanted = true; swapped = true; emits = λ x y t line. refl; emits_number = λ x n t line. refl; emits_constant = λ d c is. absurd (cc); equals = λ d c is. absurd (cc); tests = λ other by. refl; compares_so = refl; row = λ p pc w. refl; row_of_number = λ p pc w. refl; means = λ line v w a k. refl }
 comparison_by Ge h = record { opcode = Le; operation = less_equal; wanted = true; swapped = true; emits = λ x y t line. refl; emits_number = λ x n t line. refl; emits_constant = λ d c is. absurd (cc); equals = λ d c is. absurd (cc); tests = λ other by. refl; compares_so = refl; row = λ p pc w. refl; row_of_number = λ p pc w. refl; means = λ line v w a k. refl }
-comparison_by _ h = absurd h
+comparison_by _ h = absurd (cc)
 
 pub told_truth : (reply : Reply) → told_values for_truth reply ≡ told_values for_value reply
 told_truth (values vs) = refl

@@ -39,7 +39,7 @@ use Rattle.exp_laws.proofs.Arithmetic.{arithmetic_by, integer_same, event_rest}
 use Rattle.exp_laws.proofs.Comparisons.{Comparison}
 use Rattle.exp_laws.proofs.ConstantSteps.{ConstantArithmetic, constant_sort, constant_step, constant_event_step, equal_step}
 use Rattle.exp_laws.proofs.Going.{Goes, GoesInto, goes_at, into_goes, into_at}
-use Rattle.exp_laws.proofs.OperatorForms.{computes_arithmetic, arithmetic_into, truth_goes}
+use Rattle.exp_laws.proofs.OperatorForms.{arithmetic_into, truth_goes}
 use Rattle.exp_laws.proofs.Operands.{ExpSame, local_placed, local_read, operands_goes, GoesWithRegisters, GoesWithNumber}
 
 const_is : (x y : Const) → Some x ≡ Some y → x ≡ y
@@ -166,7 +166,7 @@ module _ (S : Setting) (pending : List Pending) where
           (g.means line v (known (constant f.value)) (of_tree S pending env c) k)
           (into_at S pending n many t free (pc + 2) (pc + length (constant_code op x number t line)) env regs k (omega (arith, size)) goes)
       by (inr g) =
-          let two = ap length ((arithmetic_by op (computes_arithmetic op is)).emits 0 0 0 0) in
+          let two = ap length ((arithmetic_by op is).emits 0 0 0 0) in
           let four = ap length (g.emits 0 0 0 0) in
           absurd (omega (arith, two, four))
 

@@ -41,8 +41,8 @@ constant_sort Idiv d v h = inl (record { opcode = IDivK; event = of_idiv; number
 constant_sort Band d v h = inl (record { opcode = BAndK; event = of_band; number = 13; small = lit< tt; emits = λ x n t line. refl; row = λ p pc w. refl; means = λ line v w a k. refl; numbered = refl })
 constant_sort Bor d v h = inl (record { opcode = BOrK; event = of_bor; number = 14; small = lit< tt; emits = λ x n t line. refl; row = λ p pc w. refl; means = λ line v w a k. refl; numbered = refl })
 constant_sort Bxor d v h = inl (record { opcode = BXorK; event = of_bxor; number = 15; small = lit< tt; emits = λ x n t line. refl; row = λ p pc w. refl; means = λ line v w a k. refl; numbered = refl })
-constant_sort Equal d v h = inr (comparison_by Equal tt)
-constant_sort Ne d v h = inr (comparison_by Ne tt)
+constant_sort Equal d v h = inr (comparison_by Equal refl)
+constant_sort Ne d v h = inr (comparison_by Ne refl)
 constant_sort _ d v h = absurd (cc)
 
 module _ (p : Prototype) where

@@ -11,7 +11,7 @@ use Rattle.code_core.specs.declared.proto.Const.TheVariants.{Str as StrConst}
 use Rattle.machine_core.specs.Talk.{before}
 use Rattle.code_of.specs.Coded.{with_abc}
 use Rattle.code_of.specs.Constants.{is_small}
-use Rattle.code_of.specs.Operands.{second_of, is_direct}
+use Rattle.code_of.specs.Operands.{computes, second_of, is_direct}
 use Rattle.code_of.proofs.Operands.{second_number, operator_stands}
 use Rattle.code_of.specs.Operators.{prefix_code, operator_code, number_code}
 use Rattle.code_of.specs.FieldReads.{object_room}
@@ -27,7 +27,7 @@ use Rattle.exp_laws.proofs.Going.{GoesInto, into_at, into_after, one_into}
 use Rattle.exp_laws.proofs.Loads.{nil_step}
 use Rattle.exp_laws.proofs.Steps.{true_step, false_step}
 use Rattle.exp_laws.proofs.NameForms.{constant_into, integer_into, named_into}
-use Rattle.exp_laws.proofs.OperatorForms.{unary_into, computes_arithmetic, binary_into, number_into}
+use Rattle.exp_laws.proofs.OperatorForms.{unary_into, binary_into, number_into}
 use Rattle.exp_laws.proofs.Sums.{number_form}
 use Rattle.exp_laws.proofs.Operands.{operands_goes}
 use Rattle.exp_laws.proofs.Standing.{operand_goes}
@@ -72,7 +72,7 @@ module _ (S : Setting) (pending : List Pending) where
       (into_at S pending n false r t (place + 1) end env1 regs1 k ends (into_after S pending n false r t end env regs env1 regs1 c1 k af goes))))
   direct_same (Binary line op e d) is r t j n pc opened env regs c k bound has ok inside le below room rel goes =
       let constants = S.code.own.constants in
-      let arithmetic = computes_arithmetic op is in
+      let arithmetic : computes op ≡ true = is in
       let end = pc + length (direct_code constants (Binary line op e d) r t j) in
       go_left S n _ (tree.at (evaluate e) (of_tree S pending env c) (right_of line op d ∷ k)) _ refl
       (operation_same S pending line op e d (λ x m. constant_code op x m r line) (λ x y. operator_code op x y r line) (λ x m. number_code op x m r line) n t end env regs k

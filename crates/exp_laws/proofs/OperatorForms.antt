@@ -23,7 +23,7 @@ use Rattle.machine_core.specs.Text.{read, written, go_by}
 use Rattle.machine_core.specs.InstructionRows.{fast, integer_of_shape, rest_at, to_register, told_values}
 use Rattle.machine_core.specs.Talk.{before, amid, talk, talk_step, says_so, heard}
 use Rattle.code_of.specs.Coded.{with_abc, jump_over}
-use Rattle.code_of.specs.Truths.{pick}
+use Rattle.code_of.specs.Truths.{pick, is_compared}
 use Rattle.code_of.specs.Operands.{joins, computes}
 use Rattle.code_of.specs.Operators.{prefix_opcode, prefix_code, operator_code, number_code, number_opcode, arithmetic_code, sum_code, truth_code}
 use Rattle.exp_laws.proofs.Registers.{Rel, After, after_none}
@@ -35,8 +35,8 @@ use Rattle.exp_laws.proofs.Asking.{asks_alike}
 use Rattle.exp_laws.proofs.Steps.{go_step, put_step, true_step, not_step, operands_step, concat_step, concat_rest}
 use Rattle.exp_laws.proofs.Prefixes.{given, Prefix, prefix_by, prefix_step, prefix_rest}
 use Rattle.exp_laws.proofs.Tests.{jump_step}
-use Rattle.exp_laws.proofs.Arithmetic.{Arithmetic, IsArithmetic, arithmetic_by, integer_same, event_step, event_rest}
-use Rattle.exp_laws.proofs.Comparisons.{Comparison, IsComparison, comparison_by, told_truth, truth_same, compare_step, number_step, compare_rest, skip_step}
+use Rattle.exp_laws.proofs.Arithmetic.{Arithmetic, arithmetic_by, integer_same, event_step, event_rest}
+use Rattle.exp_laws.proofs.Comparisons.{Comparison, comparison_by, told_truth, truth_same, compare_step, number_step, compare_rest, skip_step}
 use Rattle.exp_laws.proofs.Sums.{Sum, NumberForm, sum_step, number_event_step}
 use Rattle.exp_laws.proofs.Going.{next_there, Goes, GoesInto, given_one, put_goes, at_place, goes_at, goes_after, into_goes, into_at, operation_into, operation_goes}
 
@@ -45,26 +45,16 @@ told_concat (values vs) = refl
 told_concat (faulted words) = refl
 told_concat (left e) = refl
 
--- an operator that computes a value is one of arithmetic
-pub computes_arithmetic : (op : BinOp) → computes op ≡ true → IsArithmetic op
-computes_arithmetic Join e = absurd (cc)
-computes_arithmetic Equal e = absurd (cc)
-computes_arithmetic Ne e = absurd (cc)
-computes_arithmetic Less e = absurd (cc)
-computes_arithmetic AtMost e = absurd (cc)
-computes_arithmetic Gt e = absurd (cc)
-computes_arithmetic Ge e = absurd (cc)
-computes_arithmetic _ e = tt
-
-sort_of : (op : BinOp) → IsArithmetic op ⊎ (IsComparison op ⊎ (op ≡ Join))
+-- an operator computes a value, compares, or joins
+sort_of : (op : BinOp) → (computes op ≡ true) ⊎ ((is_compared op ≡ true) ⊎ (op ≡ Join))
 sort_of Join = inr (inr refl)
-sort_of Equal = inr (inl tt)
-sort_of Ne = inr (inl tt)
-sort_of Less = inr (inl tt)
-sort_of AtMost = inr (inl tt)
-sort_of Gt = inr (inl tt)
-sort_of Ge = inr (inl tt)
-sort_of _ = inl tt
+sort_of Equal = inr (inl refl)
+sort_of Ne = inr (inl refl)
+sort_of Less = inr (inl refl)
+sort_of AtMost = inr (inl refl)
+sort_of Gt = inr (inl refl)
+sort_of Ge = inr (inl refl)
+sort_of _ = inl refl
 
 module _ (S : Setting) (pending : List Pending) where
   prefix_into : (op : UnOp) (g : Prefix op) (n : ℕ) (many : Bool) (line x t f pc opened : ℕ) (vs env regs : List Value) (c : Captured) (k : List Work)
@@ -253,7 +243,7 @@ module _ (S : Setting) (pending : List Pending) where
       ∙ ap (λ u. says_so (operates f.operation (pick f.swapped u (known (integer (pos m))) ∷ pick f.swapped (known (integer (pos m))) u ∷ [])) S.code (of_code S pending pc regs opened) c (λ q b d. heard for_truth S.code q b d)) x_is
 
   -- an operator of arithmetic between the values in the registers x and y, whose result goes to any register
-  pub binary_into : (op : BinOp) → IsArithmetic op → (n : ℕ) (many : Bool) (line x y t f pc opened : ℕ) (v : Value) (ws env regs : List Value) (c : Captured) (k : List Work)
+  pub binary_into : (op : BinOp) → computes op ≡ true → (n : ℕ) (many : Bool) (line x y t f pc opened : ℕ) (v : Value) (ws env regs : List Value) (c : Captured) (k : List Work)
       → HasAt S pc (operator_code op x y t line) → pc + length (operator_code op x y t line) < length S.code.own.code → t < S.code.own.stack → x < S.code.own.stack → y < S.code.own.stack
       → Rel S.hidden S.code.own.stack pending env c regs → nth regs x ≡ v → nth regs y ≡ first ws → GoesInto S pending n many t f env regs (pc + length (operator_code op x y t line)) k
       → Agree S n (tree.at (give ws) (of_tree S pending env c) (left_of line op v ∷ k)) (before (of_code S pending pc regs opened) c)
@@ -276,7 +266,7 @@ module _ (S : Setting) (pending : List Pending) where
       (into_at S pending n many t free (pc + 2) (pc + length (number_code op x m t line)) env regs k (omega (arith, size)) goes)
 
   -- and between the value in the register x and the numeral m
-  pub number_into : (op : BinOp) → IsArithmetic op → (d : Exp) (m : ℕ) (f : NumberForm op d m) (n : ℕ) (many : Bool) (line x t free pc opened : ℕ) (v : Value) (env regs : List Value) (c : Captured) (k : List Work)
+  pub number_into : (op : BinOp) → computes op ≡ true → (d : Exp) (m : ℕ) (f : NumberForm op d m) (n : ℕ) (many : Bool) (line x t free pc opened : ℕ) (v : Value) (env regs : List Value) (c : Captured) (k : List Work)
       → HasAt S pc (number_code op x m t line) → pc + length (number_code op x m t line) < length S.code.own.code → t < S.code.own.stack → x < S.code.own.stack
       → Rel S.hidden S.code.own.stack pending env c regs → nth regs x ≡ v → GoesInto S pending n many t free env regs (pc + length (number_code op x m t line)) k
       → Agree S n (tree.at (give (known (integer (pos m)) ∷ [])) (of_tree S pending env c) (left_of line op v ∷ k)) (before (of_code S pending pc regs opened) c)
@@ -311,7 +301,7 @@ module _ (S : Setting) (pending : List Pending) where
           (concat_rest S.code t pc here.0 (omega (arith, room, S.small))) (here_abc S Concat t 2 0 false line pc [] here) (omega (arith, inside, size)) le room rel
           (goes_at S pending n many t (pc + 1) (pc + length (operator_code op x y t line)) env regs k (omega (arith, size)) goes)
 
-      by : IsArithmetic op ⊎ (IsComparison op ⊎ (op ≡ Join)) → Agree S n (tree.at (give ws) (of_tree S pending env c) (left_of line op v ∷ k)) (before (of_code S pending pc regs opened) c)
+      by : (computes op ≡ true) ⊎ ((is_compared op ≡ true) ⊎ (op ≡ Join)) → Agree S n (tree.at (give ws) (of_tree S pending env c) (left_of line op v ∷ k)) (before (of_code S pending pc regs opened) c)
       by (inl is) =
           binary_into op is n many line x y t t pc opened v ws env regs c k has inside room x_room y_room rel e1 e2
           (into_goes S pending n many t (pc + length (operator_code op x y t line)) env regs k le goes)

@@ -98,12 +98,12 @@ number_form Plus d n e = let h = numeral_is d 128 n e in record { numeral = h; f
 number_form Minus d n e = let h = numeral_is d 127 n e in record { numeral = numeral_form Minus d n e; form = inl (minus_sum n h.small) }
 number_form ShiftLeft d n e = let h = shift_is d n e in record { numeral = numeral_form ShiftLeft d n e; form = inl (shift_up_sum n h.1 h.0.small) }
 number_form ShiftRight d n e = let h = numeral_is d 128 n e in record { numeral = h; form = inl (shift_sum n h.small) }
-number_form Equal d n e = compares_number Equal d n (comparison_by Equal tt) e
-number_form Ne d n e = compares_number Ne d n (comparison_by Ne tt) e
-number_form Less d n e = compares_number Less d n (comparison_by Less tt) e
-number_form AtMost d n e = compares_number AtMost d n (comparison_by AtMost tt) e
-number_form Gt d n e = compares_number Gt d n (comparison_by Gt tt) e
-number_form Ge d n e = compares_number Ge d n (comparison_by Ge tt) e
+number_form Equal d n e = compares_number Equal d n (comparison_by Equal refl) e
+number_form Ne d n e = compares_number Ne d n (comparison_by Ne refl) e
+number_form Less d n e = compares_number Less d n (comparison_by Less refl) e
+number_form AtMost d n e = compares_number AtMost d n (comparison_by AtMost refl) e
+number_form Gt d n e = compares_number Gt d n (comparison_by Gt refl) e
+number_form Ge d n e = compares_number Ge d n (comparison_by Ge refl) e
 number_form _ d n e = absurd (numeral_none d n e)
 
 module _ (p : Prototype) where

@@ -50,12 +50,12 @@ pub record Other (op : BinOp) : Type 0 where
   pub compares_not : is_compared op ≡ false
 
 pub sort : (op : BinOp) → Comparison op ⊎ Other op
-sort Equal = inl (comparison_by Equal tt)
-sort Ne = inl (comparison_by Ne tt)
-sort Less = inl (comparison_by Less tt)
-sort AtMost = inl (comparison_by AtMost tt)
-sort Gt = inl (comparison_by Gt tt)
-sort Ge = inl (comparison_by Ge tt)
+sort Equal = inl (comparison_by Equal refl)
+sort Ne = inl (comparison_by Ne refl)
+sort Less = inl (comparison_by Less refl)
+sort AtMost = inl (comparison_by AtMost refl)
+sort Gt = inl (comparison_by Gt refl)
+sort Ge = inl (comparison_by Ge refl)
 sort _ = inr (record { tests = λ o b. refl; compares_not = refl })
 
 -- the field k of the instruction is right
