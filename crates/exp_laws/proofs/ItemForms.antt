@@ -25,7 +25,7 @@ use Rattle.exp_laws.proofs.Talking.{Agree, go_left, of_tree, of_code}
 use Rattle.exp_laws.proofs.Placing.{HasAt, has_front, has_back}
 use Rattle.exp_laws.proofs.Lists.{Holds, held_one}
 use Rattle.exp_laws.proofs.Going.{Given, Goes, GoesFilled, at_place, goes_at, goes_after}
-use Rattle.exp_laws.proofs.Operands.{ExpSame}
+use Rattle.exp_laws.proofs.Operands.{CodeSame, ExpSame}
 use Rattle.exp_laws.proofs.Rooms.{room_some}
 use Rattle.exp_laws.proofs.Tables.{items_count}
 use Rattle.exp_laws.proofs.TableForms.{fill_goes}
@@ -48,12 +48,7 @@ wants_one cs e fs t j w =
 module _ (S : Setting) (pending : List Pending) where
   -- what the code of a call or of `...` does, of which all values are wanted
   abbrev pub OpenSame : Exp → Type 0
-  OpenSame e =
-      (t j n pc opened : ℕ) (env regs : List Value) (c : Captured) (k : List Work)
-      → n ≤ S.bound → HasAt S pc (exp_code S.code.own.constants e t j 0) → IsPlaced S e (length env) j → pc + length (exp_code S.code.own.constants e t j 0) < length S.code.own.code
-      → length env ≤ t → t + room_of S.code.own.constants e 0 ≤ S.code.own.stack → Rel S.hidden S.code.own.stack pending env c regs
-      → GoesFilled S pending n 0 t env regs (pc + length (exp_code S.code.own.constants e t j 0)) k
-      → Agree S n (tree.at (evaluate e) (of_tree S pending env c) k) (before (of_code S pending pc regs opened) c)
+  OpenSame e = CodeSame S pending 0 (λ n t env regs pc k. GoesFilled S pending n 0 t env regs pc k) e
 
   -- the fields that are left, in front of which some items wait
   abbrev pub FieldsSame : Fields → Type 0

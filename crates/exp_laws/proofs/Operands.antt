@@ -37,14 +37,18 @@ local_placed S (Paren line inner) r size j e h = local_placed S inner r size j e
 local_placed S _ r size j e h = absurd (cc)
 
 module _ (S : Setting) (pending : List Pending) where
-  -- what the code of an expression does, of which one value is wanted
-  abbrev pub ExpSame : Exp → Type 0
-  ExpSame e =
+  -- what the code of an expression does whose field C is given, and which goes on in a way that is given
+  abbrev pub CodeSame : (field : ℕ) → ((n t : ℕ) → (env regs : List Value) → (pc : ℕ) → (k : List Work) → Type 0) → Exp → Type 0
+  CodeSame field Way e =
       (t j n pc opened : ℕ) (env regs : List Value) (c : Captured) (k : List Work)
-      → n ≤ S.bound → HasAt S pc (exp_code S.code.own.constants e t j 2) → IsPlaced S e (length env) j → pc + length (exp_code S.code.own.constants e t j 2) < length S.code.own.code
-      → length env ≤ t → t + room_of S.code.own.constants e 2 ≤ S.code.own.stack → Rel S.hidden S.code.own.stack pending env c regs
-      → Goes S pending n (is_open e) t env regs (pc + length (exp_code S.code.own.constants e t j 2)) k
+      → n ≤ S.bound → HasAt S pc (exp_code S.code.own.constants e t j field) → IsPlaced S e (length env) j → pc + length (exp_code S.code.own.constants e t j field) < length S.code.own.code
+      → length env ≤ t → t + room_of S.code.own.constants e field ≤ S.code.own.stack → Rel S.hidden S.code.own.stack pending env c regs
+      → Way n t env regs (pc + length (exp_code S.code.own.constants e t j field)) k
       → Agree S n (tree.at (evaluate e) (of_tree S pending env c) k) (before (of_code S pending pc regs opened) c)
+
+  -- of which one value is wanted
+  abbrev pub ExpSame : Exp → Type 0
+  ExpSame e = CodeSame 2 (λ n t env regs pc k. Goes S pending n (is_open e) t env regs pc k) e
 
   -- a local is read, whatever brackets are around it
   pub local_read : (e : Exp) (r n : ℕ) (env : List Value) (c : Captured) (k : List Work) (t : code.State) → local_of e ≡ Some r
