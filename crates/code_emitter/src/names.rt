@@ -65,6 +65,7 @@ impl Emitter {
     pub fn read_name(&mut self, name: &Name, target: usize, free: usize, line: u32) -> Allocated<()>
         ensures { OnOk result (self.new ≡ listed self.old (name_into self.old.constants name.now.place name.now.text target free line)) }
     {
+        let text = &name.text;
         match name.place {
             Place::Unset => self.put_abc(Opcode::LoadNil, target, 0, 0, line),
             Place::Local(register) => {
@@ -73,20 +74,12 @@ impl Emitter {
             Place::Upvalue(number) => {
                 self.put_abc(Opcode::GetUpval, target, usize::from(number), 0, line)
             }
-            Place::GlobalIn(register) => self.read_local_global(
-                usize::from(register),
-                &name.text,
-                target,
-                free,
-                line,
-            ),
-            Place::GlobalOf(number) => self.read_global(
-                usize::from(number),
-                &name.text,
-                target,
-                free,
-                line,
-            ),
+            Place::GlobalIn(register) => {
+                self.read_local_global(usize::from(register), text, target, free, line)
+            }
+            Place::GlobalOf(number) => {
+                self.read_global(usize::from(number), text, target, free, line)
+            }
         }
     }
 
