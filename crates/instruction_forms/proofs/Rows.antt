@@ -18,12 +18,14 @@ use Rattle.instruction_forms.specs.declared.operand.Operand.{Operand}
 use Rattle.instruction_forms.specs.declared.operand.Operand.TheVariants.{Register, Constant, Upvalue, Integer, Truth}
 use Rattle.instruction_forms.specs.declared.operand.Operands.TheVariants.{Two, Three}
 use Rattle.instruction_forms.specs.declared.operand.Operator.{Operator}
+use Rattle.instruction_forms.specs.declared.operand.Operation.{Operation}
 use Rattle.instruction_forms.specs.declared.operand.Operation.TheVariants.{Store, Arithmetic as ByOperator}
 use Rattle.instruction_forms.specs.declared.form.After.TheVariants.{ToRegisterBefore, Next as NoValue}
 use Rattle.instruction_forms.specs.declared.form.Form.{Form}
 use Rattle.instruction_forms.specs.declared.form.Form.TheVariants.{Operate}
 use Rattle.instruction_forms.specs.Forms.{event_of, text_of, with_operand}
 use Rattle.instruction_forms.specs.Choice.{IsNone, operators}
+use Rattle.instruction_forms.specs.Waiting.{compares}
 
 -- C is a constant with k
 
@@ -39,6 +41,11 @@ value_read k c o key = cond k (own (read_constant c) (λ v _. sets o key (read v
 pub stores : (p : Prototype) (pc : ℕ) (x y : Operand) (k : Bool) (c : ℕ) → text_of p pc (store_form x y k c) ≡ with_operand x (λ v. with_operand y (λ w. value_read k c v w))
 stores p pc x y true c = refl
 stores p pc x y false c = refl
+
+-- a comparison of the register A
+pub comparison_has_form : (op : Opcode) (w : Instruction) (operation : Operation) (second : Operand) (form : Form) → form ≡ compares operation (Register (a_of w)) second w
+    → ((p : Prototype) (pc : ℕ) → text_of p pc (compares operation (Register (a_of w)) second w) ≡ row_of p pc op w) → (p : Prototype) (pc : ℕ) → text_of p pc form ≡ row_of p pc op w
+comparison_has_form op w operation second form e row p pc = ap (text_of p pc) e ∙ row p pc
 
 -- handlers by their numbers
 

@@ -1,13 +1,10 @@
-use Rattle.std.proofs.Common.{rules, ◌≡◌, false, None, ap, ap₂, sym, ◌∙◌}
+use Rattle.std.proofs.Common.{rules, ◌≡◌, false, ap, ap₂, sym, ◌∙◌}
 use Rattle.code_core.specs.Instruction.{a_of, b_of, c_of, k_of, sb_of}
 use Rattle.machine_core.specs.InstructionRows.{row_of, with_loop, goes_round}
 use Rattle.instruction_forms.specs.Forms.{text_of}
 use Rattle.instruction_forms.specs.declared.operand.Operand.TheVariants.{Register, Constant, Upvalue, Integer}
-use Rattle.instruction_forms.specs.declared.operand.Operands.TheVariants.{Two}
 use Rattle.instruction_forms.specs.declared.operand.Operation.TheVariants.{Equal, Less, LessEqual}
-use Rattle.instruction_forms.specs.declared.form.After.TheVariants.{Tests}
-use Rattle.instruction_forms.specs.declared.form.Form.TheVariants.{Operate}
-use Rattle.instruction_forms.proofs.Rows.{store_form, stores, handler_choice, handler_has_form, handler_has_none}
+use Rattle.instruction_forms.proofs.Rows.{store_form, stores, comparison_has_form, handler_has_form, handler_has_none}
 use Rattle.instruction_forms.proofs.choice.form_of.Goals as goal
 
 pub returns-in-SetTabUp-clause-form : goal.returns-in-SetTabUp-clause-form
@@ -29,64 +26,34 @@ returns-in-SetField-clause-form c =
     λ p pc. ap (text_of p pc) e ∙ stores p pc (Register (a_of i)) (Constant (b_of i)) (k_of i) (c_of i) ∙ ap (λ op. row_of p pc op c.args.i) (sym c.in-SetField.is)
 
 pub returns-in-Eq-clause-form : goal.returns-in-Eq-clause-form
-returns-in-Eq-clause-form c =
-    let i = c.args.i in
-    let e : c.compare.result ≡ Operate Equal (Two (Register (a_of i)) (Register (b_of i)) false) None (Tests (k_of i)) = search rules in
-    λ p pc. ap (text_of p pc) e ∙ ap (λ op. row_of p pc op c.args.i) (sym c.in-Eq.is)
+returns-in-Eq-clause-form c = comparison_has_form c.args.op c.args.i Equal (Register (b_of c.args.i)) c.compare.result (search rules) (λ p pc. ap (λ op. row_of p pc op c.args.i) (sym c.in-Eq.is))
 
 pub returns-in-Lt-clause-form : goal.returns-in-Lt-clause-form
-returns-in-Lt-clause-form c =
-    let i = c.args.i in
-    let e : c.compare-in-Lt.result ≡ Operate Less (Two (Register (a_of i)) (Register (b_of i)) false) None (Tests (k_of i)) = search rules in
-    λ p pc. ap (text_of p pc) e ∙ ap (λ op. row_of p pc op c.args.i) (sym c.in-Lt.is)
+returns-in-Lt-clause-form c = comparison_has_form c.args.op c.args.i Less (Register (b_of c.args.i)) c.compare-in-Lt.result (search rules) (λ p pc. ap (λ op. row_of p pc op c.args.i) (sym c.in-Lt.is))
 
 pub returns-in-Le-clause-form : goal.returns-in-Le-clause-form
-returns-in-Le-clause-form c =
-    let i = c.args.i in
-    let e : c.compare-in-Le.result ≡ Operate LessEqual (Two (Register (a_of i)) (Register (b_of i)) false) None (Tests (k_of i)) = search rules in
-    λ p pc. ap (text_of p pc) e ∙ ap (λ op. row_of p pc op c.args.i) (sym c.in-Le.is)
+returns-in-Le-clause-form c = comparison_has_form c.args.op c.args.i LessEqual (Register (b_of c.args.i)) c.compare-in-Le.result (search rules) (λ p pc. ap (λ op. row_of p pc op c.args.i) (sym c.in-Le.is))
 
 pub returns-in-EqK-clause-form : goal.returns-in-EqK-clause-form
-returns-in-EqK-clause-form c =
-    let i = c.args.i in
-    let e : c.compare-in-EqK.result ≡ Operate Equal (Two (Register (a_of i)) (Constant (b_of i)) false) None (Tests (k_of i)) = search rules in
-    λ p pc. ap (text_of p pc) e ∙ ap (λ op. row_of p pc op c.args.i) (sym c.in-EqK.is)
+returns-in-EqK-clause-form c = comparison_has_form c.args.op c.args.i Equal (Constant (b_of c.args.i)) c.compare-in-EqK.result (search rules) (λ p pc. ap (λ op. row_of p pc op c.args.i) (sym c.in-EqK.is))
 
 pub returns-in-ForLoop-clause-form : goal.returns-in-ForLoop-clause-form
 returns-in-ForLoop-clause-form c = λ p pc. ap₂ (λ a bx. with_loop a (goes_round a bx)) c.a-in-ForLoop.ensures c.bx-in-ForLoop.ensures ∙ ap (λ op. row_of p pc op c.args.i) (sym c.in-ForLoop.is)
 
 pub returns-in-MmBin-clause-form : goal.returns-in-MmBin-clause-form
-returns-in-MmBin-clause-form c =
-    let i = c.args.i in
-    let e : c.handled.result ≡ handler_choice i (Register (b_of i)) false = search rules in
-    handler_has_form c.args.op i (Register (b_of i)) false c.handled.result e (λ p pc. ap (λ op. row_of p pc op i) (sym c.in-MmBin.is))
+returns-in-MmBin-clause-form c = handler_has_form c.args.op c.args.i (Register (b_of c.args.i)) false c.handled.result (search rules) (λ p pc. ap (λ op. row_of p pc op c.args.i) (sym c.in-MmBin.is))
 
 pub returns-in-MmBin-clause-none : goal.returns-in-MmBin-clause-none
-returns-in-MmBin-clause-none c =
-    let i = c.args.i in
-    let e : c.handled.result ≡ handler_choice i (Register (b_of i)) false = search rules in
-    handler_has_none c.args.op i (Register (b_of i)) false c.handled.result e (λ p pc. ap (λ op. row_of p pc op i) (sym c.in-MmBin.is))
+returns-in-MmBin-clause-none c = handler_has_none c.args.op c.args.i (Register (b_of c.args.i)) false c.handled.result (search rules) (λ p pc. ap (λ op. row_of p pc op c.args.i) (sym c.in-MmBin.is))
 
 pub returns-in-MmBinI-clause-form : goal.returns-in-MmBinI-clause-form
-returns-in-MmBinI-clause-form c =
-    let i = c.args.i in
-    let e : c.handled-in-MmBinI.result ≡ handler_choice i (Integer (sb_of i)) (k_of i) = search rules in
-    handler_has_form c.args.op i (Integer (sb_of i)) (k_of i) c.handled-in-MmBinI.result e (λ p pc. ap (λ op. row_of p pc op i) (sym c.in-MmBinI.is))
+returns-in-MmBinI-clause-form c = handler_has_form c.args.op c.args.i (Integer (sb_of c.args.i)) (k_of c.args.i) c.handled-in-MmBinI.result (search rules) (λ p pc. ap (λ op. row_of p pc op c.args.i) (sym c.in-MmBinI.is))
 
 pub returns-in-MmBinI-clause-none : goal.returns-in-MmBinI-clause-none
-returns-in-MmBinI-clause-none c =
-    let i = c.args.i in
-    let e : c.handled-in-MmBinI.result ≡ handler_choice i (Integer (sb_of i)) (k_of i) = search rules in
-    handler_has_none c.args.op i (Integer (sb_of i)) (k_of i) c.handled-in-MmBinI.result e (λ p pc. ap (λ op. row_of p pc op i) (sym c.in-MmBinI.is))
+returns-in-MmBinI-clause-none c = handler_has_none c.args.op c.args.i (Integer (sb_of c.args.i)) (k_of c.args.i) c.handled-in-MmBinI.result (search rules) (λ p pc. ap (λ op. row_of p pc op c.args.i) (sym c.in-MmBinI.is))
 
 pub returns-in-MmBinK-clause-form : goal.returns-in-MmBinK-clause-form
-returns-in-MmBinK-clause-form c =
-    let i = c.args.i in
-    let e : c.handled-in-MmBinK.result ≡ handler_choice i (Constant (b_of i)) (k_of i) = search rules in
-    handler_has_form c.args.op i (Constant (b_of i)) (k_of i) c.handled-in-MmBinK.result e (λ p pc. ap (λ op. row_of p pc op i) (sym c.in-MmBinK.is))
+returns-in-MmBinK-clause-form c = handler_has_form c.args.op c.args.i (Constant (b_of c.args.i)) (k_of c.args.i) c.handled-in-MmBinK.result (search rules) (λ p pc. ap (λ op. row_of p pc op c.args.i) (sym c.in-MmBinK.is))
 
 pub returns-in-MmBinK-clause-none : goal.returns-in-MmBinK-clause-none
-returns-in-MmBinK-clause-none c =
-    let i = c.args.i in
-    let e : c.handled-in-MmBinK.result ≡ handler_choice i (Constant (b_of i)) (k_of i) = search rules in
-    handler_has_none c.args.op i (Constant (b_of i)) (k_of i) c.handled-in-MmBinK.result e (λ p pc. ap (λ op. row_of p pc op i) (sym c.in-MmBinK.is))
+returns-in-MmBinK-clause-none c = handler_has_none c.args.op c.args.i (Constant (b_of c.args.i)) (k_of c.args.i) c.handled-in-MmBinK.result (search rules) (λ p pc. ap (λ op. row_of p pc op c.args.i) (sym c.in-MmBinK.is))
