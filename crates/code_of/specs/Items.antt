@@ -4,22 +4,18 @@ use Rattle.std.specs.Prelude.{ℕ, ◌+◌, ◌%◌, ◌==◌, Bool, true, false
 use Rattle.tree_core.specs.declared.name.Place.{Place}
 use Rattle.tree_core.specs.declared.name.Place.TheVariants.{Local as LocalPlace}
 use Rattle.tree_core.specs.declared.operator.UnOp.TheVariants.{Not as Negation}
-use Rattle.tree_core.specs.Tree.{Exp, Nil, True, False, Int, Str, Var, Unary, Paren}
+use Rattle.tree_core.specs.Tree.{Exp, Var, Unary, Paren}
+use Rattle.code_of.specs.Operands.{is_literal}
 
 abbrev pub is_own : Place → Bool
 is_own (LocalPlace r) = true
 is_own _ = false
 
 abbrev pub waits : Exp → Bool
-waits (Nil line) = true
-waits (True line) = true
-waits (False line) = true
-waits (Int line n) = true
-waits (Str line bytes) = true
 waits (Var line name) = is_own name.place
 waits (Unary line Negation e) = waits e
 waits (Paren line e) = waits e
-waits _ = false
+waits e = is_literal e
 
 abbrev pub is_full : (items : ℕ) → Bool
 is_full items = items % 50 == 0

@@ -87,18 +87,22 @@ key_operand key = second_by (numeral_of key (Some 255)) (local_of key)
 abbrev pub computes : BinOp → Bool
 computes op = not (joins op || is_compared op)
 
+-- an integer, a string, nil or a Boolean, written as such
+abbrev pub is_literal : Exp → Bool
+is_literal (Int line z) = true
+is_literal (Str line bytes) = true
+is_literal (Nil line) = true
+is_literal (True line) = true
+is_literal (False line) = true
+is_literal _ = false
+
 abbrev pub is_direct : Exp → Bool
-is_direct (Nil line) = true
-is_direct (True line) = true
-is_direct (False line) = true
-is_direct (Int line z) = true
-is_direct (Str line bytes) = true
 is_direct (Var line name) = true
 is_direct (Unary line op e) = true
 is_direct (Binary line op e d) = computes op
 is_direct (Index line object key) = true
 is_direct (Paren line e) = is_direct e
-is_direct _ = false
+is_direct e = is_literal e
 
 abbrev pub target_local : Exp → Option ℕ
 target_local (Var line name) = local_at name.place

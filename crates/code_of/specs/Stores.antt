@@ -4,14 +4,14 @@ use Rattle.std.specs.Prelude.{ℕ, ◌+◌, max, Bool, true, false, cond, nat_lt
 use Rattle.tree_core.specs.declared.name.Place.{Place}
 use Rattle.tree_core.specs.declared.name.Place.TheVariants.{Upvalue, Local as LocalPlace}
 use Rattle.tree_core.specs.declared.operator.UnOp.TheVariants.{Not as Negation}
-use Rattle.tree_core.specs.Tree.{Exp, Nil, True, False, Int, Str, Function, Var, Index, Unary, Paren, Exps, EndExps, MoreExps}
+use Rattle.tree_core.specs.Tree.{Exp, Str, Function, Var, Index, Unary, Paren, Exps, EndExps, MoreExps}
 use Rattle.code_core.specs.declared.opcode.Opcode.TheVariants.{SetTable, SetI, SetField}
 use Rattle.code_core.specs.declared.proto.Const.{Const}
 use Rattle.code_core.specs.declared.proto.Const.TheVariants.{Str as StrConst}
 use Rattle.code_core.specs.Instruction.{abc}
 use Rattle.code_of.specs.Coded.{Coded}
 use Rattle.code_of.specs.Constants.{number_in}
-use Rattle.code_of.specs.Operands.{local_of, numeral_of, seat, unless}
+use Rattle.code_of.specs.Operands.{is_literal, local_of, numeral_of, seat, unless}
 
 -- The key is the number of a string, a numeral in the instruction, a local, or made
 pub data FieldKey : Type 0 where
@@ -42,16 +42,11 @@ is_near (Upvalue u) = true
 is_near _ = false
 
 abbrev pub is_quiet : Exp → Bool
-is_quiet (Nil line) = true
-is_quiet (True line) = true
-is_quiet (False line) = true
-is_quiet (Int line n) = true
-is_quiet (Str line bytes) = true
 is_quiet (Function line body) = true
 is_quiet (Var line name) = is_near name.place
 is_quiet (Unary line Negation e) = is_quiet e
 is_quiet (Paren line e) = is_quiet e
-is_quiet _ = false
+is_quiet e = is_literal e
 
 -- a local stays where the value is quiet; any other value may call code that assigns the local
 abbrev pub beside_quiet : (quiet : Bool) → (local : Option ℕ) → Option ℕ
