@@ -168,15 +168,9 @@ pub full_wrote :
     → b.emitter ≡ led_on s6 away place → b.jumps.items ≡ u.jumps.items → b.back ≡ u.back
     → WroteStat a b (choice line (MoreArms e block arms) o) closing t
 full_wrote a p q r u b s6 e block arms o closing t line over place n away opened pj pb w r_is over_is rj rb place_is v some lands led bj bb =
-    let k = a.emitter.constants in
-    let j = a.emitter.made in
-    let pc = length a.emitter.steps in
+    let k = a.emitter.constants in let j = a.emitter.made in let pc = length a.emitter.steps in let m = made_in_block block in let m2 = made_by_stat (choice line arms o) in
     let first_test : ℕ → List Coded = λ ahead. test_code k e true ahead t j in
-    let m = made_in_block block in
-    let m2 = made_by_stat (choice line arms o) in
-    let s0 : Listing = followed a.emitter (first_test 0) (made_by e) in
-    let p0 : Writer = record p { emitter = s0 } in
-    let q0 : Writer = record q { emitter = followed s0 w.draft m } in
+    let s0 : Listing = followed a.emitter (first_test 0) (made_by e) in let p0 : Writer = record p { emitter = s0 } in let q0 : Writer = record q { emitter = followed s0 w.draft m } in
     let w0 : WroteBlock p0 q0 block closing t t = behind_other a p q first_test (made_by e) m away (block_form block closing t t) w opened in
     let size = block_size k a.back block closing t t (j + made_by e) in
     let d = length w.draft + 1 in
@@ -241,15 +235,9 @@ pub empty_wrote :
     → b.emitter ≡ led_on s6 away over → b.jumps.items ≡ take first u.jumps.items → b.back ≡ u.back
     → WroteStat a b (choice line (MoreArms e block arms) o) closing t
 empty_wrote a p q r u b s6 e block arms o closing t line over first away opened pj pb w r_is over_is rj rb first_is v none cuts led bj bb =
-    let k = a.emitter.constants in
-    let j = a.emitter.made in
-    let pc = length a.emitter.steps in
+    let k = a.emitter.constants in let j = a.emitter.made in let pc = length a.emitter.steps in let m = made_in_block block in let m2 = made_by_stat (choice line arms o) in
     let first_test : ℕ → List Coded = λ ahead. test_code k e true ahead t j in
-    let m = made_in_block block in
-    let m2 = made_by_stat (choice line arms o) in
-    let s0 : Listing = followed a.emitter (first_test 0) (made_by e) in
-    let p0 : Writer = record p { emitter = s0 } in
-    let q0 : Writer = record q { emitter = followed s0 w.draft m } in
+    let s0 : Listing = followed a.emitter (first_test 0) (made_by e) in let p0 : Writer = record p { emitter = s0 } in let q0 : Writer = record q { emitter = followed s0 w.draft m } in
     let w0 : WroteBlock p0 q0 block closing t t = behind_other a p q first_test (made_by e) m away (block_form block closing t t) w opened in
     let size = block_size k a.back block closing t t (j + made_by e) in
     let d = length w.draft in

@@ -355,9 +355,7 @@ module _ (S : Setting) (pending : List Pending) where
         let args_code = exps_code S.code.own.constants es None (t + 1) (j + made_by f) line in
         let last_code = with_abc CallCode t (list_field 0 es) field line ∷ [] in
         let behind = has_back S pc first_code (args_code ++ last_code) has in
-        let whole = length-append first_code (args_code ++ last_code) in
-        let rest = length-append args_code last_code in
-        let some = room_some S.code.own.constants f in
+        let whole = length-append first_code (args_code ++ last_code) in let rest = length-append args_code last_code in let some = room_some S.code.own.constants f in
         go_left S n _ (tree.at (evaluate f) (of_tree S pending env c) (callee_of line false es ∷ k)) _ refl
         (one_same f (all_same f) t j n pc opened env regs c (callee_of line false es ∷ k) bound (has_front S pc first_code (args_code ++ last_code) has) ok.0 (omega (arith, inside, whole)) le (omega (arith, room)) rel
         (λ vs env1 regs1 c1 o1 af eq one. go_left S n _ (tree.at (collect (for_call line false) (first vs ∷ []) es) (of_tree S pending env1 c1) k) _ refl

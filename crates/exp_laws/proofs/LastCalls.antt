@@ -73,9 +73,7 @@ module _ (S : Setting) (pending : List Pending) where
       let args_code = exps_code S.code.own.constants es None (t + 1) (j + made_by f) line in
       let last_code = leaving_by TailCall t (list_field 0 es) back line ∷ [] in
       let behind = has_back S pc first_code (args_code ++ last_code) has in
-      let whole = length-append first_code (args_code ++ last_code) in
-      let rest = length-append args_code last_code in
-      let some = room_some S.code.own.constants f in
+      let whole = length-append first_code (args_code ++ last_code) in let rest = length-append args_code last_code in let some = room_some S.code.own.constants f in
       exp_same S pending f t j n pc opened env regs c (callee_of line true es ∷ k) bound (has_front S pc first_code (args_code ++ last_code) has) f_ok (omega (arith, inside, whole)) le f_room rel
       (λ vs env1 regs1 c1 o1 af eq one. go_left S n _ (tree.at (collect (for_call line true) (first vs ∷ []) es) (of_tree S pending env1 c1) k) _ refl
       (exps_same S pending es (for_call line true) None t 1 (j + made_by f) line n (pc + length first_code) o1 (first vs ∷ []) env1 regs1 c1 k bound tt (has_front S (pc + length first_code) args_code last_code behind) tt (placed_all S pending es _ _ _ af.size es_ok)
