@@ -1,6 +1,6 @@
 -- What is read by what permanents stand for: the reader, the code, and that what is accepted leaves a sound world.
 use Rattle.std.proofs.Common.{◌≡◌, ◌<◌, ◌+◌, ◌++◌, length, ℕ, zero, suc, length-append, List, [], ◌∷◌, Option, Some, None, Bool, true, false, cond, map, refl, ap, ap₂, sym, subst, ◌∙◌, arith}
-use Rattle.std.specs.Prelude.{slice_get, Result, Ok, Err, IsTrue, nat_eq}
+use Rattle.std.specs.Prelude.{is_some, slice_get, Result, Ok, Err, IsTrue, nat_eq}
 use Rattle.std.specs.List.{list_any}
 use Rattle.std.proofs.Math.Path.{fun_ext}
 use Rattle.chunk_check.specs.Faults.{first_fault}
@@ -15,7 +15,7 @@ use Rattle.machine_core.specs.World.{Function, World}
 use Rattle.machine_sound.specs.Sound.{Each, Sizes, sizes, Valid, Solid}
 use Rattle.image_core.specs.Image.{PermKey, Perm, Item, plain, numbered, permanent, environment, Image, Record}
 use Rattle.image_core.specs.Loading.{Target, kind_in, is_of, rank, new_number, numbered_value, value_made, table_made, function_made, coroutine_made, chosen, loaded}
-use Rattle.image_core.proofs.Making.{table_yes, table_no, table_makes, function_yes, function_no, function_makes, coroutine_yes, coroutine_no, coroutine_makes}
+use Rattle.image_core.proofs.Making.{table_told, table_makes, function_told, function_makes, coroutine_told, coroutine_makes}
 use Rattle.image_bytes.specs.Bytes.{Reader, is_sort, sort_at, sort_byte, with_sorts, read_image}
 use Rattle.image_bytes.specs.Format.{read}
 use Rattle.image_sound.specs.Fitting.{IsReaderOf, reads}
@@ -117,10 +117,10 @@ sound_image primitives V perms I roots met bytes there e =
     accepted_is_sound (reader perms V.prelude_environment) (code_named V perms) (host primitives V perms I) roots met I bytes (is_reader primitives V perms I there) refl e
 
 -- what is made of a record stands behind what was there
-below_new : {B : Type 0} (rs : List Record) (made : Record → Option B) (is : Record → Bool) → ((r : Record) (t : B) → made r ≡ Some t → is r ≡ true) → ((r : Record) → made r ≡ None → is r ≡ false)
+below_new : {B : Type 0} (rs : List Record) (made : Record → Option B) (is : Record → Bool) → ((r : Record) → is r ≡ is_some (made r))
     → (old : List B) (count n : ℕ) (r : Record) → count ≡ length old → slice_get rs n ≡ Some r → (t : B) × (made r ≡ Some t) → count + rank is rs n < length (old ++ chosen made rs)
-below_new rs made is made_is else_not old count n r same g t =
-    let w = get_within (chosen made rs) (rank is rs n) t.0 (chosen_get is made made_is else_not rs n r t.0 g t.1) in
+below_new rs made is told old count n r same g t =
+    let w = get_within (chosen made rs) (rank is rs n) t.0 (chosen_get is made told rs n r t.0 g t.1) in
     let l = length-append old (chosen made rs) in
     omega (arith, w, l, same)
 
@@ -128,9 +128,9 @@ below_new rs made is made_is else_not old count n r same g t =
 
 module _ (primitives : ℕ) (V : World) (T : Target) (rs : List Record) (is : IsTarget T V) (solid : Solid primitives V) where
   new_there : (n : ℕ) (r : Record) (kind : Kind) → slice_get rs n ≡ Some r → kind_in r ≡ Some kind → Valid (sizes primitives (loaded T rs V)) (object kind (new_number T rs kind n))
-  new_there n r a_table g e = below_new rs (table_made T rs) (is_of a_table) (table_yes T rs) (table_no T rs) V.heap.tables T.tables n r is.tables g (table_makes T rs r e)
-  new_there n r a_function g e = below_new rs (function_made T rs) (is_of a_function) (function_yes T rs) (function_no T rs) V.functions T.functions n r is.functions g (function_makes T rs r e)
-  new_there n r a_coroutine g e = below_new rs (coroutine_made T rs) (is_of a_coroutine) (coroutine_yes T rs) (coroutine_no T rs) V.coroutines T.coroutines n r is.coroutines g (coroutine_makes T rs r e)
+  new_there n r a_table g e = below_new rs (table_made T rs) (is_of a_table) (table_told T rs) V.heap.tables T.tables n r is.tables g (table_makes T rs r e)
+  new_there n r a_function g e = below_new rs (function_made T rs) (is_of a_function) (function_told T rs) V.functions T.functions n r is.functions g (function_makes T rs r e)
+  new_there n r a_coroutine g e = below_new rs (coroutine_made T rs) (is_of a_coroutine) (coroutine_told T rs) V.coroutines T.coroutines n r is.coroutines g (coroutine_makes T rs r e)
 
   old_there : (v : Value) → Valid (sizes primitives V) v → Valid (sizes primitives (loaded T rs V)) v
   old_there (known p) h = h

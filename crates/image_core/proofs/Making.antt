@@ -1,9 +1,9 @@
 -- What is made of the records of one sort.
-use Rattle.std.proofs.Common.{ℕ, ◌+◌, ◌≡◌, List, ◌++◌, Option, Some, None, refl, sym, ◌∙◌, length, Bool, true, false}
-use Rattle.std.specs.Prelude.{slice_get}
+use Rattle.std.proofs.Common.{ℕ, ◌+◌, ◌≡◌, List, ◌++◌, Option, Some, refl, sym, ◌∙◌, length, Bool}
+use Rattle.std.specs.Prelude.{is_some, slice_get}
 use Rattle.int_core.specs.Value.{a_table, a_function, a_coroutine}
 use Rattle.int_core.specs.Heap.{Table}
-use Rattle.machine_core.specs.World.{Function, Cell, open_at, Coroutine}
+use Rattle.machine_core.specs.World.{Function, open_at, Coroutine}
 use Rattle.image_core.specs.Image.{Record, table_record, function_record, closed_record, open_record, fresh_record, suspended_record, dead_record, failed_record}
 use Rattle.image_core.specs.Loading.{is_of, is_cell, rank, Target, new_number, table_made, function_made, coroutine_made, cell_made, chosen, kind_in}
 use Rattle.image_core.proofs.Lists.{get_right}
@@ -12,46 +12,22 @@ use Rattle.image_core.proofs.Lists.{get_right}
 pub after_old : {A B : Type 0} (f : A → Option B) (is : A → Bool) (records : List A) (ys : List B) (c n m : ℕ) (y : B) → c ≡ length ys → n ≡ m → slice_get (chosen f records) (rank is records m) ≡ Some y → slice_get (ys ++ chosen f records) (c + rank is records n) ≡ Some y
 after_old f is records ys c n m y d e h = rw (d, e) (get_right ys (chosen f records) (rank is records m) ∙ h)
 
--- a record of a sort is made into an object of that sort
-pub table_yes : (T : Target) (records : List Record) (r : Record) (t : Table) → table_made T records r ≡ Some t → is_of a_table r ≡ true
-table_yes T records (table_record rows m) t h = refl
-table_yes T records _ t h = absurd (cc)
+-- of a record of a sort, and of no other, an object of that sort is made
+pub table_told : (T : Target) (records : List Record) (r : Record) → is_of a_table r ≡ is_some (table_made T records r)
+table_told T records (table_record rows m) = refl
+table_told T records _ = refl
 
-pub table_no : (T : Target) (records : List Record) (r : Record) → table_made T records r ≡ None → is_of a_table r ≡ false
-table_no T records (table_record rows m) h = absurd (cc)
-table_no T records _ h = refl
+pub function_told : (T : Target) (records : List Record) (r : Record) → is_of a_function r ≡ is_some (function_made T records r)
+function_told T records (function_record c cs) = refl
+function_told T records _ = refl
 
-pub function_yes : (T : Target) (records : List Record) (r : Record) (t : Function) → function_made T records r ≡ Some t → is_of a_function r ≡ true
-function_yes T records (function_record c cs) t h = refl
-function_yes T records _ t h = absurd (cc)
+pub coroutine_told : (T : Target) (records : List Record) (r : Record) → is_of a_coroutine r ≡ is_some (coroutine_made T records r)
+coroutine_told T records (fresh_record i) = refl
+coroutine_told T records _ = refl
 
-pub function_no : (T : Target) (records : List Record) (r : Record) → function_made T records r ≡ None → is_of a_function r ≡ false
-function_no T records (function_record c cs) h = absurd (cc)
-function_no T records _ h = refl
-
-pub coroutine_yes : (T : Target) (records : List Record) (r : Record) (t : Coroutine) → coroutine_made T records r ≡ Some t → is_of a_coroutine r ≡ true
-coroutine_yes T records (fresh_record i) t h = refl
-coroutine_yes T records (suspended_record fs) t h = refl
-coroutine_yes T records dead_record t h = refl
-coroutine_yes T records (failed_record e vs) t h = refl
-coroutine_yes T records _ t h = absurd (cc)
-
-pub coroutine_no : (T : Target) (records : List Record) (r : Record) → coroutine_made T records r ≡ None → is_of a_coroutine r ≡ false
-coroutine_no T records (fresh_record i) h = absurd (cc)
-coroutine_no T records (suspended_record fs) h = absurd (cc)
-coroutine_no T records dead_record h = absurd (cc)
-coroutine_no T records (failed_record e vs) h = absurd (cc)
-coroutine_no T records _ h = refl
-
-pub cell_yes : (T : Target) (records : List Record) (r : Record) (t : Cell) → cell_made T records r ≡ Some t → is_cell r ≡ true
-cell_yes T records (closed_record i) t h = refl
-cell_yes T records (open_record a b c) t h = refl
-cell_yes T records _ t h = absurd (cc)
-
-pub cell_no : (T : Target) (records : List Record) (r : Record) → cell_made T records r ≡ None → is_cell r ≡ false
-cell_no T records (closed_record i) h = absurd (cc)
-cell_no T records (open_record a b c) h = absurd (cc)
-cell_no T records _ h = refl
+pub cell_told : (T : Target) (records : List Record) (r : Record) → is_cell r ≡ is_some (cell_made T records r)
+cell_told T records (closed_record i) = refl
+cell_told T records _ = refl
 
 -- and each record of a sort makes an object of it
 pub table_makes : (T : Target) (records : List Record) (r : Record) → kind_in r ≡ Some a_table → (t : Table) × (table_made T records r ≡ Some t)

@@ -14,7 +14,7 @@ use Rattle.image_core.specs.Records.{Part, an_object, a_cell, same_part, Field, 
 use Rattle.image_core.specs.Loading.{kind_in, is_kind, is_of, is_cell, rank, Target, count_in, new_number, new_cell, numbered_value, value_made, table_number, function_number, row_made, table_made, function_made, wait_made, lua_frame_made, frame_made, coroutine_made, cell_made, chosen, loaded, or_number, loading}
 use Rattle.image_load.specs.Loads.{CanLoad, LoadedAlike, LoadedAgrees}
 use Rattle.image_core.proofs.Visits.{order_closed, order_roots}
-use Rattle.image_core.proofs.Making.{after_old, table_yes, table_no, function_yes, function_no, coroutine_yes, coroutine_no, cell_yes, cell_no, open_made}
+use Rattle.image_core.proofs.Making.{after_old, table_told, function_told, coroutine_told, cell_told, open_made}
 use Rattle.image_core.proofs.Parts.{part_tells, kind_self, part_self}
 use Rattle.image_core.proofs.Lists.{Every, every_at, every_get, every_front, every_flat, every_in_flat, every_map, zip_made, get_split, map_some, none_some, chosen_get, chosen_from, rank_one, place_met, place_get, placed_met, get_met, order_within, order_once}
 
@@ -181,7 +181,7 @@ module _ (base : Pairs) (W V : World) (T : Target) (name : Value → Option Item
       let h : Every Had (table_fields t.0) = subst (λ o. Every Had (if_there table_fields o)) t.1 (closed_order (an_object a_table i) m) in
       let e : slice_get records r.0 ≡ Some (record_of_table N t.0) = r.2 ∙ ap (λ o. Some (or_none (record_of_table N) o)) t.1 in
       both_from (SameTable q) _ _ t.0 (table_copy t.0) t.1
-      (after_old (table_made T records) (is_of a_table) records V.heap.tables T.tables _ r.0 _ can.tables n (chosen_get (is_of a_table) (table_made T records) (table_yes T records) (table_no T records) records r.0 _ _ e refl))
+      (after_old (table_made T records) (is_of a_table) records V.heap.tables T.tables _ r.0 _ can.tables n (chosen_get (is_of a_table) (table_made T records) (table_told T records) records r.0 _ _ e refl))
       (table_copied t.0 h)
 
   function_at : (i : ℕ) → Met (an_object a_function i) → Both (SameFunction q) (slice_get W.functions i) (slice_get (V.functions ++ chosen (function_made T records) records) (new_number T records a_function (N.number (an_object a_function i))))
@@ -192,7 +192,7 @@ module _ (base : Pairs) (W V : World) (T : Target) (name : Value → Option Item
       let h : Every Had (map of_cell t.0.cells) = subst (λ o. Every Had (if_there (λ f. map of_cell f.cells) o)) t.1 (closed_order (an_object a_function i) m) in
       let e : slice_get records r.0 ≡ Some (record_of_function N t.0) = r.2 ∙ ap (λ o. Some (or_none (record_of_function N) o)) t.1 in
       both_from (SameFunction q) _ _ t.0 (function_copy t.0) t.1
-      (after_old (function_made T records) (is_of a_function) records V.functions T.functions _ r.0 _ can.functions n (chosen_get (is_of a_function) (function_made T records) (function_yes T records) (function_no T records) records r.0 _ _ e refl))
+      (after_old (function_made T records) (is_of a_function) records V.functions T.functions _ r.0 _ can.functions n (chosen_get (is_of a_function) (function_made T records) (function_told T records) records r.0 _ _ e refl))
       (function_copied t.0 h)
 
   coroutine_at : (i : ℕ) → Met (an_object a_coroutine i) → Both (SameCoroutine q) (slice_get W.coroutines i) (slice_get (V.coroutines ++ chosen (coroutine_made T records) records) (new_number T records a_coroutine (N.number (an_object a_coroutine i))))
@@ -205,7 +205,7 @@ module _ (base : Pairs) (W V : World) (T : Target) (name : Value → Option Item
       let e : slice_get records r.0 ≡ Some (record_of_coroutine N t.0) = r.2 ∙ ap (λ o. Some (or_none (record_of_coroutine N) o)) t.1 in
       let c = coroutine_copied i t.0 t.1 k h in
       both_from (SameCoroutine q) _ _ t.0 c.0 t.1
-      (after_old (coroutine_made T records) (is_of a_coroutine) records V.coroutines T.coroutines _ r.0 _ can.coroutines n (chosen_get (is_of a_coroutine) (coroutine_made T records) (coroutine_yes T records) (coroutine_no T records) records r.0 _ _ e c.1))
+      (after_old (coroutine_made T records) (is_of a_coroutine) records V.coroutines T.coroutines _ r.0 _ can.coroutines n (chosen_get (is_of a_coroutine) (coroutine_made T records) (coroutine_told T records) records r.0 _ _ e c.1))
       c.2
 
   number_of : (kind : Kind) (i : ℕ) → Met (an_object kind i) → SameNumber q kind i (new_number T records kind (N.number (an_object kind i)))
@@ -389,7 +389,7 @@ module _ (base : Pairs) (W V : World) (T : Target) (name : Value → Option Item
       let e : slice_get records r.0 ≡ Some (record_of_cell N W t.0) = r.2 ∙ ap (λ o. Some (or_none (record_of_cell N W) o)) t.1 in
       let c = cell_copied i t.0 m t.1 h in
       both_from (SameCell q W.coroutines X.coroutines) _ _ t.0 c.0 t.1
-      (after_old (cell_made T records) is_cell records V.cells T.cells _ r.0 _ can.cells n (chosen_get is_cell (cell_made T records) (cell_yes T records) (cell_no T records) records r.0 _ _ e c.1))
+      (after_old (cell_made T records) is_cell records V.cells T.cells _ r.0 _ can.cells n (chosen_get is_cell (cell_made T records) (cell_told T records) records r.0 _ _ e c.1))
       c.2
 
   -- a cell that the permanents reach
@@ -482,7 +482,7 @@ module _ (base : Pairs) (W V : World) (T : Target) (name : Value → Option Item
 
   new_open : (i m co f r : ℕ) → i ≡ length V.cells + m → slice_get (chosen (cell_made T records) records) m ≡ Some (open_at co f r) → NewOpen i co f r
   new_open i m co f r e h =
-      let a = chosen_from is_cell (cell_made T records) (cell_yes T records) (cell_no T records) records m (open_at co f r) h in
+      let a = chosen_from is_cell (cell_made T records) (cell_told T records) records m (open_at co f r) h in
       let b = open_made T records a.1 co f r a.3 in
       let c = os_of_records a.0 a.1 a.2 in
       let d = open_from c.0 b.0 f r (c.2 ∙ b.1) in

@@ -12,7 +12,7 @@ use Rattle.image_core.specs.Image.{Item, plain, numbered, permanent, environment
 use Rattle.image_core.specs.Loading.{kind_in, is_of, is_cell, rank, Target, count_in, new_number, new_cell, numbered_value, value_made, table_number, function_number, row_made, table_made, function_made, wait_made, frame_made, coroutine_made, cell_made, chosen, loaded}
 use Rattle.image_load.specs.Both.{shifted, count_made, both_loading, CanBothLoad, BothAlike, BothLoadedAgree}
 use Rattle.image_core.proofs.Lists.{get_right, chosen_get, none_some}
-use Rattle.image_core.proofs.Making.{table_yes, table_no, function_yes, function_no, coroutine_yes, coroutine_no, cell_yes, cell_no, table_makes, function_makes, coroutine_makes}
+use Rattle.image_core.proofs.Making.{table_told, function_told, coroutine_told, cell_told, table_makes, function_makes, coroutine_makes}
 
 lower : (m c : ℕ) → m < c → nat_lt m c ≡ true
 lower m c h = search (arith, h)
@@ -114,17 +114,17 @@ module _ (p : Pairs) (W X : World) (T U : Target) (rs : List Record) (can : CanB
   made_below : (kind : Kind) (n : ℕ) (r : Record) → slice_get rs n ≡ Some r → kind_in r ≡ Some kind → rank (is_of kind) rs n < count_made T rs kind
   made_below a_table n r h e =
       let t = table_makes T rs r e in
-      slice_get_within _ _ _ (chosen_get (is_of a_table) (table_made T rs) (table_yes T rs) (table_no T rs) rs n r t.0 h t.1)
+      slice_get_within _ _ _ (chosen_get (is_of a_table) (table_made T rs) (table_told T rs) rs n r t.0 h t.1)
   made_below a_function n r h e =
       let t = function_makes T rs r e in
-      slice_get_within _ _ _ (chosen_get (is_of a_function) (function_made T rs) (function_yes T rs) (function_no T rs) rs n r t.0 h t.1)
+      slice_get_within _ _ _ (chosen_get (is_of a_function) (function_made T rs) (function_told T rs) rs n r t.0 h t.1)
   made_below a_coroutine n r h e =
       let t = coroutine_makes T rs r e in
-      slice_get_within _ _ _ (chosen_get (is_of a_coroutine) (coroutine_made T rs) (coroutine_yes T rs) (coroutine_no T rs) rs n r t.0 h t.1)
+      slice_get_within _ _ _ (chosen_get (is_of a_coroutine) (coroutine_made T rs) (coroutine_told T rs) rs n r t.0 h t.1)
 
   cell_below : (n : ℕ) (r : Record) → slice_get rs n ≡ Some r → is_cell r ≡ true → rank is_cell rs n < length (chosen (cell_made T rs) rs)
-  cell_below n (closed_record i) h e = slice_get_within _ _ _ (chosen_get is_cell (cell_made T rs) (cell_yes T rs) (cell_no T rs) rs n (closed_record i) _ h refl)
-  cell_below n (open_record a b c) h e = slice_get_within _ _ _ (chosen_get is_cell (cell_made T rs) (cell_yes T rs) (cell_no T rs) rs n (open_record a b c) _ h refl)
+  cell_below n (closed_record i) h e = slice_get_within _ _ _ (chosen_get is_cell (cell_made T rs) (cell_told T rs) rs n (closed_record i) _ h refl)
+  cell_below n (open_record a b c) h e = slice_get_within _ _ _ (chosen_get is_cell (cell_made T rs) (cell_told T rs) rs n (open_record a b c) _ h refl)
   cell_below n _ h e = absurd (cc)
 
   number_both : (kind : Kind) (n : ℕ) (r : Record) → slice_get rs n ≡ Some r → kind_in r ≡ Some kind → SameNumber q kind (new_number T rs kind n) (new_number U rs kind n)

@@ -13,7 +13,7 @@ use Rattle.machine_sound.proofs.Lists.{each_on, each_append, each_cons, get_push
 use Rattle.image_core.specs.Image.{Item, plain, numbered, permanent, environment, LuaFrameItem, FrameItem, lua_item, pcall_item, xpcall_item, handler_item, closing_item, Record, table_record, function_record, closed_record, open_record, fresh_record, suspended_record, dead_record, failed_record}
 use Rattle.image_core.specs.Loading.{kind_in, is_of, is_cell, rank, Target, new_number, new_cell, numbered_value, value_made, table_number, function_number, row_made, table_made, function_made, wait_made, lua_frame_made, frame_made, coroutine_made, cell_made, chosen, loaded}
 use Rattle.image_core.proofs.Lists.{get_split, chosen_get, chosen_from, rank_one}
-use Rattle.image_core.proofs.Making.{table_yes, table_no, function_yes, function_no, coroutine_yes, coroutine_no, cell_yes, cell_no, after_old, open_made, table_makes, function_makes, coroutine_makes}
+use Rattle.image_core.proofs.Making.{table_told, function_told, coroutine_told, cell_told, after_old, open_made, table_makes, function_makes, coroutine_makes}
 use Rattle.image_sound.specs.SoundImage.{Host, PlainFits, ItemFits, CodeIs, WaitFits, LuaFits, FrameFits, OpenFits, IsSoundImage, IsTarget, LoadedSound}
 
 -- what holds of what is chosen
@@ -52,16 +52,16 @@ module _ (H : Host) (target : IsTarget H.target H.world) (old : Solid H.primitiv
 
   -- what was made of a record of a sort is there
   table_there : (n : ℕ) (r : Record) (t : Table) → slice_get rs n ≡ Some r → table_made T rs r ≡ Some t → slice_get X.heap.tables (new_number T rs a_table n) ≡ Some t
-  table_there n r t h e = after_old (table_made T rs) (is_of a_table) rs V.heap.tables T.tables n n t target.tables refl (chosen_get (is_of a_table) (table_made T rs) (table_yes T rs) (table_no T rs) rs n r t h e)
+  table_there n r t h e = after_old (table_made T rs) (is_of a_table) rs V.heap.tables T.tables n n t target.tables refl (chosen_get (is_of a_table) (table_made T rs) (table_told T rs) rs n r t h e)
 
   function_there : (n : ℕ) (r : Record) (t : Function) → slice_get rs n ≡ Some r → function_made T rs r ≡ Some t → slice_get X.functions (new_number T rs a_function n) ≡ Some t
-  function_there n r t h e = after_old (function_made T rs) (is_of a_function) rs V.functions T.functions n n t target.functions refl (chosen_get (is_of a_function) (function_made T rs) (function_yes T rs) (function_no T rs) rs n r t h e)
+  function_there n r t h e = after_old (function_made T rs) (is_of a_function) rs V.functions T.functions n n t target.functions refl (chosen_get (is_of a_function) (function_made T rs) (function_told T rs) rs n r t h e)
 
   coroutine_there : (n : ℕ) (r : Record) (t : Coroutine) → slice_get rs n ≡ Some r → coroutine_made T rs r ≡ Some t → slice_get X.coroutines (new_number T rs a_coroutine n) ≡ Some t
-  coroutine_there n r t h e = after_old (coroutine_made T rs) (is_of a_coroutine) rs V.coroutines T.coroutines n n t target.coroutines refl (chosen_get (is_of a_coroutine) (coroutine_made T rs) (coroutine_yes T rs) (coroutine_no T rs) rs n r t h e)
+  coroutine_there n r t h e = after_old (coroutine_made T rs) (is_of a_coroutine) rs V.coroutines T.coroutines n n t target.coroutines refl (chosen_get (is_of a_coroutine) (coroutine_made T rs) (coroutine_told T rs) rs n r t h e)
 
   cell_there : (n : ℕ) (r : Record) (t : Cell) → slice_get rs n ≡ Some r → cell_made T rs r ≡ Some t → slice_get X.cells (new_cell T rs n) ≡ Some t
-  cell_there n r t h e = after_old (cell_made T rs) is_cell rs V.cells T.cells n n t target.cells refl (chosen_get is_cell (cell_made T rs) (cell_yes T rs) (cell_no T rs) rs n r t h e)
+  cell_there n r t h e = after_old (cell_made T rs) is_cell rs V.cells T.cells n n t target.cells refl (chosen_get is_cell (cell_made T rs) (cell_told T rs) rs n r t h e)
 
   -- a record of a cell makes one
   cell_makes : (r : Record) → is_cell r ≡ true → (t : Cell) × (cell_made T rs r ≡ Some t)
@@ -266,7 +266,7 @@ module _ (H : Host) (target : IsTarget H.target H.world) (old : Solid H.primitiv
 
   new_open : (i m co f r : ℕ) → i ≡ length V.cells + m → slice_get (chosen (cell_made T rs) rs) m ≡ Some (open_at co f r) → NewOpen i co f r
   new_open i m co f r e h =
-      let a = chosen_from is_cell (cell_made T rs) (cell_yes T rs) (cell_no T rs) rs m (open_at co f r) h in
+      let a = chosen_from is_cell (cell_made T rs) (cell_told T rs) rs m (open_at co f r) h in
       let b = open_made T rs a.1 co f r a.3 in
       (a.0, b.0, a.2 ∙ ap Some b.1, b.2, e ∙ ap (λ n. length V.cells + n) a.4)
 
@@ -306,7 +306,7 @@ module _ (H : Host) (target : IsTarget H.target H.world) (old : Solid H.primitiv
       let a = map_get standing X.coroutines co s h in
       ⊎_elim
       (λ t. get_standing V.coroutines co a.0 t.0 ∙ ap Some a.2)
-      (λ t. let c = chosen_from (is_of a_coroutine) (coroutine_made T rs) (coroutine_yes T rs) (coroutine_no T rs) rs t.0 a.0 t.2 in absurd (ne (sym a.2 ∙ new_apart c.1 a.0 c.3)))
+      (λ t. let c = chosen_from (is_of a_coroutine) (coroutine_made T rs) (coroutine_told T rs) rs t.0 a.0 t.2 in absurd (ne (sym a.2 ∙ new_apart c.1 a.0 c.3)))
       (get_split V.coroutines (chosen (coroutine_made T rs) rs) co a.0 a.1)
 
   -- who is in the chain stands as before

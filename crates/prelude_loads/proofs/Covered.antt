@@ -1,6 +1,6 @@
 -- What is loaded from the image of a world is paired with what it was.
-use Rattle.std.proofs.Common.{ℕ, ◌+◌, ◌≡◌, ◌⊎◌, inl, inr, ⊎_elim, List, ◌++◌, Option, Some, None, subst, sym, ap, ◌∙◌, length, true, false}
-use Rattle.std.specs.Prelude.{slice_get, flat_map, option_map}
+use Rattle.std.proofs.Common.{ℕ, ◌+◌, ◌≡◌, ◌⊎◌, inl, inr, ⊎_elim, List, ◌++◌, Option, Some, subst, sym, ap, ◌∙◌, length, true}
+use Rattle.std.specs.Prelude.{slice_get, flat_map, is_some, option_map}
 use Rattle.std.proofs.lemmas.Option.{slice_get-map}
 use Rattle.int_core.specs.Value.{Kind, a_table, a_function, a_coroutine, Value, object}
 use Rattle.int_core.specs.Heap.{Table}
@@ -10,8 +10,8 @@ use Rattle.image_core.specs.Visit.{place, IsMet, greatest_count}
 use Rattle.image_core.specs.Image.{Item, Record, closed_record}
 use Rattle.image_core.specs.Records.{Part, an_object, a_cell, same_part, of_value, field_parts, parts, is_reached, parts_in_order, record_of, naming, image_by}
 use Rattle.image_core.specs.Loading.{is_kind, is_of, is_cell, rank, Target, count_in, new_number, table_made, function_made, coroutine_made, chosen, or_number, loading}
-use Rattle.image_core.proofs.Lists.{get_split, map_some, chosen_from, place_met, place_get, get_met, order_once}
-use Rattle.image_core.proofs.Making.{table_yes, table_no, function_yes, function_no, coroutine_yes, coroutine_no}
+use Rattle.image_core.proofs.Lists.{get_split, map_some, chosen_from, is_made, place_met, place_get, get_met, order_once}
+use Rattle.image_core.proofs.Making.{table_told, function_told, coroutine_told}
 use Rattle.image_core.proofs.Parts.{part_tells, part_self}
 use Rattle.image_load.specs.Loads.{CanLoad, IsWritten}
 use Rattle.int_core.proofs.Equality.{kind_is}
@@ -54,20 +54,20 @@ module _ (base : Pairs) (W V : World) (T : Target) (name : Value → Option Item
       (k.0, ap (λ (b : Option ℕ). or_number b (option_map number (place same_part os part))) (can.new_objects kind k.0 met) ∙ ap (option_map number) (l.1 ∙ ap Some same))
 
   -- what was made of a record of its sort
-  made_paired : {A : Type 0} (kind : Kind) (made : Record → Option A) → ((r : Record) (x : A) → made r ≡ Some x → is_of kind r ≡ true) → ((r : Record) → made r ≡ None → is_of kind r ≡ false)
+  made_paired : {A : Type 0} (kind : Kind) (made : Record → Option A) → ((r : Record) → is_of kind r ≡ is_some (made r))
       → (old : List A) → count_in T kind ≡ length old → (j : ℕ) (x : A) → slice_get (old ++ chosen made records) j ≡ Some x → (slice_get old j ≡ Some x) ⊎ ((i : ℕ) × SameNumber q kind i j)
-  made_paired kind made made_is else_not old count j x e = ⊎_elim (λ t. inl t.0)
-      (λ t. let c = chosen_from (is_of kind) made made_is else_not records t.0 x t.2 in
-      let k = paired kind c.0 c.1 c.2 (made_is c.1 x c.3) in
+  made_paired kind made told old count j x e = ⊎_elim (λ t. inl t.0)
+      (λ t. let c = chosen_from (is_of kind) made told records t.0 x t.2 in
+      let k = paired kind c.0 c.1 c.2 (is_made (is_of kind) made told c.1 x c.3) in
       let number : new_number T records kind c.0 ≡ j = ap (λ n. n + rank (is_of kind) records c.0) count ∙ ap (λ m. length old + m) (sym c.4) ∙ sym t.1 in
       inr (k.0, subst (SameNumber q kind k.0) number k.1))
       (get_split old (chosen made records) j x e)
 
   pub function_paired : (j : ℕ) (f : Function) → slice_get (V.functions ++ chosen (function_made T records) records) j ≡ Some f → (slice_get V.functions j ≡ Some f) ⊎ ((i : ℕ) × SameNumber q a_function i j)
-  function_paired j f e = made_paired a_function (function_made T records) (function_yes T records) (function_no T records) V.functions can.functions j f e
+  function_paired j f e = made_paired a_function (function_made T records) (function_told T records) V.functions can.functions j f e
 
   pub table_paired : (j : ℕ) (t : Table) → slice_get (V.heap.tables ++ chosen (table_made T records) records) j ≡ Some t → (slice_get V.heap.tables j ≡ Some t) ⊎ ((i : ℕ) × SameNumber q a_table i j)
-  table_paired j t e = made_paired a_table (table_made T records) (table_yes T records) (table_no T records) V.heap.tables can.tables j t e
+  table_paired j t e = made_paired a_table (table_made T records) (table_told T records) V.heap.tables can.tables j t e
 
   pub coroutine_paired : (j : ℕ) (c : Coroutine) → slice_get (V.coroutines ++ chosen (coroutine_made T records) records) j ≡ Some c → (slice_get V.coroutines j ≡ Some c) ⊎ ((i : ℕ) × SameNumber q a_coroutine i j)
-  coroutine_paired j c e = made_paired a_coroutine (coroutine_made T records) (coroutine_yes T records) (coroutine_no T records) V.coroutines can.coroutines j c e
+  coroutine_paired j c e = made_paired a_coroutine (coroutine_made T records) (coroutine_told T records) V.coroutines can.coroutines j c e

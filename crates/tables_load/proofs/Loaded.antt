@@ -14,7 +14,7 @@ use Rattle.machine_runs.specs.Opening.{prelude_function, opening}
 use Rattle.image_core.specs.Image.{PermKey, Perm, Record, table_record, Image}
 use Rattle.image_core.specs.Loading.{is_of, Target, count_in, value_made, row_made, table_made, chosen, loaded}
 use Rattle.image_core.proofs.Lists.{get_split, chosen_from}
-use Rattle.image_core.proofs.Making.{table_yes, table_no}
+use Rattle.image_core.proofs.Making.{table_told}
 use Rattle.image_bytes.specs.Bytes.{Reader, sort_byte, with_sorts, read_image}
 use Rattle.image_load.specs.Session.{with_roots}
 use Rattle.image_reading.specs.Reader.{reader}
@@ -51,7 +51,7 @@ module _ (perms : List Perm) (env : ℕ) (T : Target) (V : World) (home : IsHome
 
   made_is : (j : ℕ) (t : Table) → slice_get (chosen (table_made T I.records) I.records) j ≡ Some t → AreRows table_values t.rows
   made_is j t e =
-      let c = chosen_from (is_of a_table) (table_made T I.records) (table_yes T I.records) (table_no T I.records) I.records j t e in
+      let c = chosen_from (is_of a_table) (table_made T I.records) (table_told T I.records) I.records j t e in
       record_is c.1 t (all_at (RecordRead R) I.records c.0 c.1 known.right.records_read c.2) (all_at (RowsNew R) I.records c.0 c.1 known.new c.2) c.3
 
   tables_loaded : AreTables (loaded T I.records V).heap
