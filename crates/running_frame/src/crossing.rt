@@ -22,7 +22,7 @@ use crate::place::{Here, here_at, is_none};
 use crate::returning::{return_none, return_single, return_values};
 use crate::stack::{Stop, closed_from, run_round};
 use crate::storing::store_at;
-use crate::upvalues::read_open;
+use crate::upvalues::read_once;
 use code_core::{Instruction, Opcode};
 use lua_heap::law::checked_code_is_there;
 use lua_heap::{Cell, Codes, Func, Strings};
@@ -422,29 +422,6 @@ fn may_ask(i: Instruction) -> bool {
         Some(Opcode::MmBin) => true,
         _ => false,
     }
-}
-
-/// One more GETUPVAL of a variable of a frame below, where there was none such since the frame came on top: one that reads more of them goes on where their values
-/// are remembered.
-#[inline(always)]
-fn read_once(
-    stack: &mut Stack,
-    closure: Closure,
-    cells: &Pool<Cell>,
-    co: CoroId,
-    again: bool,
-    pc: usize,
-) -> Option<usize>
-    ghost g: { Running }
-    requires runs { RunsOver g (code closure g.around.texts) stack.old cells.now.objects pc }
-    requires own { co.0 ≡ g.around.context.coroutine }
-    ensures goes { IfSome result (λ to. GoesOver g (code closure.entry g.around.texts) stack.old stack.new cells.now.objects pc to) }
-    ensures kept { IfNone result (stack.new ≡ stack.old) }
-{
-    if again {
-        return None;
-    }
-    read_open(stack, closure, cells, co, pc)
 }
 
 /// Leaves the frame, if it can be left: no variable was read then.

@@ -12,7 +12,7 @@ use crate::closing::pass_close;
 use crate::inherited::read_inherited;
 use crate::place::{Here, here_at, is_none};
 use crate::remembering::remember;
-use crate::upvalues::read_open;
+use crate::upvalues::{read_once, read_open};
 use lua_heap::{Cell, Strings};
 use lua_stack::{OpenCell, Stack};
 use machine_arms_tables::Closure;
@@ -20,8 +20,8 @@ use machine_loop::{Memo, run_frame};
 use object_pool::Pool;
 use table_core::{CoroId, Table, TableId};
 
-/// How many variables of frames below a frame reads one by one, before their values are remembered.
-const READS: u64 = 4;
+/// How many rounds of the loop over instructions a frame makes, with a variable of a frame below read between two, before the values of such are remembered.
+const ROUNDS: u64 = 5;
 
 /// Where the frame on top stops, and from which register on nothing of it is open or to be closed, where that is known.
 #[derive(Clone, Copy, Debug)]
@@ -313,9 +313,10 @@ pub(crate) fn run_round(
     ensures listed { stack.new.open_cells ≡ stack.old.open_cells }
 {
     let mut pc = start;
-    for _ in 0..READS {
+    for round in 0..ROUNDS {
         let at = run_once(stack, closure, strings, tables, cells, budget, memo, pc);
-        let Some(to) = read_open(stack, closure, cells, co, at) else {
+        let is_last = round == ROUNDS - 1;
+        let Some(to) = read_once(stack, closure, cells, co, is_last, at) else {
             return at;
         };
         pc = to;

@@ -40,6 +40,28 @@ pub(crate) fn read_open(
     Some(to)
 }
 
+/// Does so, but not `again`: a frame that reads more of them goes on where their values are remembered.
+#[inline(always)]
+pub(crate) fn read_once(
+    stack: &mut Stack,
+    closure: Closure,
+    cells: &Pool<Cell>,
+    co: CoroId,
+    again: bool,
+    pc: usize,
+) -> Option<usize>
+    ghost g: { Running }
+    requires runs { RunsOver g (code closure g.around.texts) stack.old cells.now.objects pc }
+    requires own { co.0 ≡ g.around.context.coroutine }
+    ensures goes { IfSome result (λ to. GoesOver g (code closure.entry g.around.texts) stack.old stack.new cells.now.objects pc to) }
+    ensures kept { IfNone result (stack.new ≡ stack.old) }
+{
+    if again {
+        return None;
+    }
+    read_open(stack, closure, cells, co, pc)
+}
+
 /// The value of an upvalue whose variable stands in a register of this coroutine.
 #[inline(always)]
 fn open_value(

@@ -21,8 +21,8 @@ pub run_once-at-requires : goal.run_once-at-requires
 run_once-at-requires g c =
     (c.loop.invariant.runs, still_hold g.g.around c.args.closure.upvalues.now c.args.cells.now.objects c.loop.cells.objects c.loop.invariant.opened c.args.memo.now c.requires.1.0)
 
-pub read_open-requires : goal.read_open-requires
-read_open-requires g c =
+pub read_once-requires : goal.read_once-requires
+read_once-requires g c =
     let x = c.run_once-at.ensures.runs in (
       record {
         tables = c.run_once-at.new.tables.objects;
@@ -34,13 +34,13 @@ read_open-requires g c =
 
 pub returns-in_default-clause-reaches : goal.returns-in_default-clause-reaches
 returns-in_default-clause-reaches g c =
-    let kept : c.read_open.new.stack ≡ c.run_once-at.new.stack = search rules in
+    let kept : c.read_once.new.stack ≡ c.run_once-at.new.stack = search rules in
     subst (λ (s : KeptStack). Reaches g.g.around.rows (standing g.g c.args.stack.now c.args.tables.now.objects c.args.cells.now.objects c.args.budget.now) (standing g.g s c.run_once-at.new.tables.objects c.run_once-at.new.cells.objects c.run_once-at.new.budget))
     (sym kept) (reaches_then g.g.around.rows c.loop.invariant.reaches c.run_once-at.ensures.reaches)
 
 pub returns-in_default-clause-runs : goal.returns-in_default-clause-runs
 returns-in_default-clause-runs g c =
-    let kept : c.read_open.new.stack ≡ c.run_once-at.new.stack = search rules in
+    let kept : c.read_once.new.stack ≡ c.run_once-at.new.stack = search rules in
     subst (λ (s : KeptStack). RunsAt g.g (code c.args.closure c.args.strings.now) s c.run_once-at.new.tables.objects c.run_once-at.new.cells.objects c.run_once-at.new.budget c.run_once-at.result) (sym kept) c.run_once-at.ensures.runs
 
 pub returns-in_default-clause-opened : goal.returns-in_default-clause-opened
@@ -48,14 +48,14 @@ returns-in_default-clause-opened g c = c.loop.invariant.opened ∙ c.run_once-at
 
 pub returns-in_default-clause-listed : goal.returns-in_default-clause-listed
 returns-in_default-clause-listed g c =
-    let kept : c.read_open.new.stack ≡ c.run_once-at.new.stack = search rules in
+    let kept : c.read_once.new.stack ≡ c.run_once-at.new.stack = search rules in
     ap (λ (s : KeptStack). s.open_cells) kept ∙ c.run_once-at.ensures.listed ∙ c.loop.invariant.listed
 
 pub loop-preserved : goal.loop-preserved
 loop-preserved g c =
     let r = c.run_once-at.ensures in
     let fuel = c.run_once-at.new.budget in
-    let o : GoesWith g.g (code c.args.closure c.args.strings.now) c.run_once-at.new.stack c.read_open.new.stack c.run_once-at.new.tables.objects c.run_once-at.new.cells.objects c.run_once-at.result c.in-Some.to =
+    let o : GoesWith g.g (code c.args.closure c.args.strings.now) c.run_once-at.new.stack c.read_once.new.stack c.run_once-at.new.tables.objects c.run_once-at.new.cells.objects c.run_once-at.result c.in-Some.to =
     over_goes r.runs.may.closure.texts_are c.in-Some.ensures.goes in
     record {
       reaches = reaches_then g.g.around.rows (reaches_then g.g.around.rows c.loop.invariant.reaches r.reaches) (o.reaches fuel r.runs);
