@@ -28,7 +28,7 @@ no_string _ h = refl
 pub returns-in_default : goal.returns-in_default
 returns-in_default c =
     let l1 = picked (starts string_argument 0 c.args.cursor.now) c.peek.ensures.more in
-    record { reads = record { tells = refused (turned l1 (ap (string_move (first c.args.cursor.now).1) (ap string_of (sym c.peek.ensures.is) ∙ no_string c.peek.result.now c.in_default.not-Str))) c.peek.ensures.more }; low = tt; taken = tt }
+    record { reads = record { tells = refused (turned l1 (ap (string_move (first c.args.cursor.now).1) (ap string_of (sym c.peek.ensures.is) ∙ no_string c.peek.result.now c.in_default.not-Str))) c.peek.ensures.more }; bound = tt }
 
 pub returns-clause-reads : goal.returns-clause-reads
 returns-clause-reads c =
