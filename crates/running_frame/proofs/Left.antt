@@ -1,11 +1,8 @@
 -- What a frame is left by is some steps of the machine.
-use Rattle.std.proofs.Common.{◌≡◌, inl, inr, ℕ, Bool, List, Option, Some, None, ap, sym, subst}
+use Rattle.std.proofs.Common.{◌≡◌, inl, inr, ℕ, List, Option, Some, None, sym, subst}
 use Rattle.std.specs.Prelude.{◌⊎◌, IfNone, IfSome}
 use Rattle.machine_focus.specs.Focus.{Reaches}
-use Rattle.code_core.specs.declared.instruction.Instruction.{Instruction}
 use Rattle.table_core.specs.Table.{Contents}
-use Rattle.table_core.specs.declared.value.CellId.{CellId}
-use Rattle.table_core.specs.declared.value.Value.{Value as Kept}
 use Rattle.lua_stack.specs.Frames.{KeptStack}
 use Rattle.lua_heap.specs.declared.codes.Codes.{Codes}
 use Rattle.lua_heap.specs.declared.world.Cell.{Cell as KeptCell}
@@ -17,7 +14,6 @@ use Rattle.running_frame.specs.Crossing.{LeavesFrame}
 use Rattle.running_frame.specs.Spreading.{CrossesOver}
 use Rattle.running_frame.specs.Standing.{RunsAt, standing}
 use Rattle.running_frame.specs.Storing.{StoresOpen}
-use Rattle.running_frame.specs.Upvalues.{GoesOver}
 use Rattle.running_frame.proofs.Chained.{reaches_none}
 use Rattle.running_frame.proofs.SpreadCalls.{crossed_over_or_not}
 use Rattle.running_frame.proofs.Stored.{stored_so}
@@ -35,22 +31,8 @@ left_so g k s ts cs fuel pc r u size funcs codes left co a e own x = by x.leaves
 
 pub left_or_not : (g : Running) (k : Code) (s : KeptStack) (ts : List Contents) (cs : List KeptCell) (fuel pc : ℕ) → RunsAt g k s ts cs fuel pc → (u : KeptStack) (size : ℕ) (funcs : List Func) (codes : Codes) (left co : ℕ)
     → AreFunctions g.around.context.base.functions funcs codes → size ≡ g.around.context.closure.code.own.stack → co ≡ g.around.context.coroutine
-    → (o : Option Bool) → IfSome o (λ _. LeavesFrame co k.upvalues k.words s u cs size funcs codes pc fuel left) → IfNone o ((u ≡ s) × (left ≡ fuel)) → Reaches g.around.rows (standing g s ts cs fuel) (standing g u ts cs left)
+    → (o : Option (Unit {0})) → IfSome o (λ _. LeavesFrame co k.upvalues k.words s u cs size funcs codes pc fuel left) → IfNone o ((u ≡ s) × (left ≡ fuel)) → Reaches g.around.rows (standing g s ts cs fuel) (standing g u ts cs left)
 left_or_not g k s ts cs fuel pc r u size funcs codes left co a e own None x y =
     subst (λ (n : ℕ). Reaches g.around.rows (standing g s ts cs fuel) (standing g u ts cs n)) (sym y.1)
     (subst (λ (u : KeptStack). Reaches g.around.rows (standing g s ts cs fuel) (standing g u ts cs fuel)) (sym y.0) (reaches_none g.around.rows (standing g s ts cs fuel)))
 left_or_not g k s ts cs fuel pc r u size funcs codes left co a e own (Some o) x y = left_so g k s ts cs fuel pc r u size funcs codes left co a e own x
-
--- so is a read of a variable of a frame below, or none
-pub read_or_not : (g : Running) (words : List Instruction) (constants : List Kept) (upvalues : List CellId) (texts : List (List ℕ)) (s u : KeptStack) (ts : List Contents) (cs : List KeptCell) (fuel pc : ℕ)
-    → RunsAt g (record { words = words; constants = constants; upvalues = upvalues; texts = texts }) s ts cs fuel pc → (o : Option ℕ)
-    → IfSome o (λ to. GoesOver g (record { words = words; constants = constants; upvalues = upvalues; texts = g.around.texts }) s u cs pc to) → IfNone o (u ≡ s)
-    → Reaches g.around.rows (standing g s ts cs fuel) (standing g u ts cs fuel) × (u.open_cells ≡ s.open_cells)
-read_or_not g words constants upvalues texts s u ts cs fuel pc r None x y = (
-  subst (λ (u : KeptStack). Reaches g.around.rows (standing g s ts cs fuel) (standing g u ts cs fuel)) (sym y) (reaches_none g.around.rows (standing g s ts cs fuel)),
-  ap (λ (u : KeptStack). u.open_cells) y,
-)
-read_or_not g words constants upvalues texts s u ts cs fuel pc r (Some to) x y = (
-  x.reaches ts fuel (subst (λ (texts : List (List ℕ)). RunsAt g (record { words = words; constants = constants; upvalues = upvalues; texts = texts }) s ts cs fuel pc) (sym r.may.closure.texts_are) r),
-  x.listed,
-)

@@ -21,8 +21,7 @@ use crate::inherited::read_inherited;
 use crate::place::{Here, here_at, is_none};
 use crate::returning::{return_none, return_single, return_values};
 use crate::stack::{Stop, closed_from, run_round};
-use crate::storing::store_at;
-use crate::upvalues::read_once;
+use crate::storing::store_open;
 use code_core::{Instruction, Opcode};
 use lua_heap::law::checked_code_is_there;
 use lua_heap::{Cell, Codes, Func, Strings};
@@ -94,9 +93,8 @@ fn cross_all(
     ensures reaches { Reaches outside.rows (plain (world_with outside stack.old strings.now funcs.now codes.now tables.old cells.old) budget.old) (plain (world_with outside stack.new strings.now funcs.now codes.now tables.new cells.new) budget.new) }
     ensures may { MayCross outside (world_with outside stack.new strings.now funcs.now codes.now tables.new cells.new) stack.new }
 {
-    let mut again = false;
     for _ in 0..u64::MAX {
-        let Some(was_read) = cross_next(
+        let Some(()) = cross_next(
             stack,
             co,
             strings,
@@ -107,16 +105,14 @@ fn cross_all(
             memo,
             budget,
             string_meta,
-            again,
         ) else {
             return;
         };
-        again = was_read;
     }
 }
 
-/// Runs the frame on top as far as it needs nothing but its own registers, and does the call, the return or the store that stands there, or reads a variable of a
-/// frame below: told is whether it was such a read. `again` says that the frame has read one already. `None` where the frame waits, or something else stands there.
+/// Runs the frame on top as far as it needs nothing but its own registers and a few variables of frames below, and does the call, the return or the store that stands
+/// there. `None` where the frame waits, or something else stands there.
 #[inline(always)]
 fn cross_next(
     stack: &mut Stack,
@@ -129,8 +125,7 @@ fn cross_next(
     memo: &Memo,
     budget: &mut u64,
     string_meta: Option<TableId>,
-    again: bool,
-) -> Option<bool>
+) -> Option<()>
     ghost outside: { Ground }
     requires may { MayCross outside (world_with outside stack.old strings.now funcs.now codes.now tables.old cells.old) stack.old }
     requires own { co ≡ runs_on outside }
@@ -161,7 +156,6 @@ fn cross_next(
         co,
         memo,
         string_meta,
-        again,
     )
 }
 
@@ -180,8 +174,7 @@ fn cross_frame(
     co: CoroId,
     memo: &Memo,
     string_meta: Option<TableId>,
-    again: bool,
-) -> Option<bool>
+) -> Option<()>
     ghost g: { Running }
     requires may { MayRun g (code closure strings.now) stack.old tables.old.objects cells.old.objects budget.old }
     requires functions { AreFunctions g.around.context.base.functions funcs.now.objects codes.now }
@@ -211,7 +204,6 @@ fn cross_frame(
         co,
         memo,
         string_meta,
-        again,
         start,
     )
 }
@@ -231,9 +223,8 @@ fn run_and_cross(
     co: CoroId,
     memo: &Memo,
     string_meta: Option<TableId>,
-    again: bool,
     start: usize,
-) -> Option<bool>
+) -> Option<()>
     ghost g: { Running }
     requires runs { RunsAt g (code closure strings.now) stack.old tables.old.objects cells.old.objects budget.old start }
     requires functions { AreFunctions g.around.context.base.functions funcs.now.objects codes.now }
@@ -245,33 +236,28 @@ fn run_and_cross(
     ensures opened { AreOpenAlike cells.old.objects cells.new.objects }
     ensures listed { stack.new.open_cells ≡ stack.old.open_cells }
 {
-    let at = run_round(
+    let pc = run_round(
         stack, closure, strings, tables, cells, budget, co, memo, start,
     );
-    match read_once(stack, closure, cells, co, again, at) {
-        Some(_) => Some(true),
-        None => leave_or_read(
-            stack,
-            closure,
-            size,
-            strings,
-            funcs,
-            codes,
-            tables,
-            cells,
-            budget,
-            co,
-            string_meta,
-            again,
-            at,
-        ),
-    }
+    leave_or_go_on(
+        stack,
+        closure,
+        size,
+        strings,
+        funcs,
+        codes,
+        tables,
+        cells,
+        budget,
+        co,
+        string_meta,
+        pc,
+    )
 }
 
-/// Reads a field that handlers of `__index` lead to without a call, as a method of a string, or leaves the frame. Told is whether it has read a variable of a frame
-/// below already.
+/// Leaves the frame, which is what most frames stop for, or does what it can without.
 #[inline(always)]
-fn leave_or_read(
+fn leave_or_go_on(
     stack: &mut Stack,
     closure: Closure,
     size: usize,
@@ -283,9 +269,8 @@ fn leave_or_read(
     budget: &mut u64,
     co: CoroId,
     string_meta: Option<TableId>,
-    again: bool,
     pc: usize,
-) -> Option<bool>
+) -> Option<()>
     ghost g: { Running }
     requires runs { RunsAt g (code closure strings.now) stack.old tables.now.objects cells.now.objects budget.old pc }
     requires functions { AreFunctions g.around.context.base.functions funcs.now.objects codes.now }
@@ -295,12 +280,22 @@ fn leave_or_read(
     ensures reaches { Reaches g.around.rows (standing g stack.old tables.now.objects cells.now.objects budget.old) (standing g stack.new tables.now.objects cells.now.objects budget.new) }
     ensures listed { stack.new.open_cells ≡ stack.old.open_cells }
 {
-    match read_inherited(stack, closure, strings, tables, string_meta, pc) {
-        Some(_) => Some(again),
-        None => leave_or_ask(
+    match leave_frame(
+        stack,
+        closure.words,
+        closure.upvalues,
+        size,
+        funcs,
+        codes,
+        cells,
+        budget,
+        co,
+        pc,
+    ) {
+        Some(()) => Some(()),
+        None => read_or_ask(
             stack,
             closure,
-            size,
             strings,
             funcs,
             codes,
@@ -314,12 +309,11 @@ fn leave_or_read(
     }
 }
 
-/// Leaves the frame, or calls the handler of a read or an operator over it. No variable was read then.
+/// Reads a field that handlers of `__index` lead to without a call, as a method of a string, or calls the handler of a read or an operator.
 #[inline(always)]
-fn leave_or_ask(
+fn read_or_ask(
     stack: &mut Stack,
     closure: Closure,
-    size: usize,
     strings: &Strings,
     funcs: &Pool<Func>,
     codes: &Codes,
@@ -329,29 +323,17 @@ fn leave_or_ask(
     co: CoroId,
     string_meta: Option<TableId>,
     pc: usize,
-) -> Option<bool>
+) -> Option<()>
     ghost g: { Running }
     requires runs { RunsAt g (code closure strings.now) stack.old tables.now.objects cells.now.objects budget.old pc }
     requires functions { AreFunctions g.around.context.base.functions funcs.now.objects codes.now }
-    requires size { size ≡ g.around.context.closure.code.own.stack }
     requires own { co.0 ≡ g.around.context.coroutine }
     requires meta { metatable_number string_meta ≡ g.string_metatable }
     ensures reaches { Reaches g.around.rows (standing g stack.old tables.now.objects cells.now.objects budget.old) (standing g stack.new tables.now.objects cells.now.objects budget.new) }
     ensures listed { stack.new.open_cells ≡ stack.old.open_cells }
 {
-    match leave_over(
-        stack,
-        closure.words,
-        closure.upvalues,
-        size,
-        funcs,
-        codes,
-        cells,
-        budget,
-        co,
-        pc,
-    ) {
-        Some(was_read) => Some(was_read),
+    match read_inherited(stack, closure, strings, tables, string_meta, pc) {
+        Some(_) => Some(()),
         None => ask_next(
             stack,
             closure,
@@ -382,7 +364,7 @@ fn ask_next(
     co: CoroId,
     string_meta: Option<TableId>,
     pc: usize,
-) -> Option<bool>
+) -> Option<()>
     ghost g: { Running }
     requires runs { RunsAt g (code closure strings.now) stack.old tables.now.objects cells.now.objects budget.old pc }
     requires functions { AreFunctions g.around.context.base.functions funcs.now.objects codes.now }
@@ -408,7 +390,7 @@ fn ask_next(
         string_meta,
         here,
     ) {
-        None => Some(false),
+        None => Some(()),
         Some(_) => None,
     }
 }
@@ -421,36 +403,6 @@ fn may_ask(i: Instruction) -> bool {
         Some(Opcode::GetField) => true,
         Some(Opcode::MmBin) => true,
         _ => false,
-    }
-}
-
-/// Leaves the frame, if it can be left: no variable was read then.
-#[inline(always)]
-fn leave_over(
-    stack: &mut Stack,
-    words: &[Instruction],
-    upvalues: &[CellId],
-    size: usize,
-    funcs: &Pool<Func>,
-    codes: &Codes,
-    cells: &Pool<Cell>,
-    budget: &mut u64,
-    co: CoroId,
-    pc: usize,
-) -> Option<bool>
-    requires top { HasLuaTop stack.old }
-    requires codes { HaveCode funcs.now.objects codes.now }
-    requires cells { ListsOpen co.0 stack.old cells.now.objects }
-    requires there { pc < length words.now }
-    ensures leaves { IfSome result (λ _. LeavesFrame co.0 upvalues.now words.now stack.old stack.new cells.now.objects size funcs.now.objects codes.now pc budget.old budget.new) }
-    ensures kept { IfNone result ((stack.new ≡ stack.old) × (budget.new ≡ budget.old)) }
-    ensures listed { stack.new.open_cells ≡ stack.old.open_cells }
-{
-    match leave_frame(
-        stack, words, upvalues, size, funcs, codes, cells, budget, co, pc,
-    ) {
-        Some(()) => Some(false),
-        None => None,
     }
 }
 
@@ -478,9 +430,9 @@ fn leave_frame(
     ensures listed { stack.new.open_cells ≡ stack.old.open_cells }
 {
     let here = here_at(words, pc, true);
-    match cross_over_at(stack, size, funcs, codes, words, budget, pc, here.word) {
+    match store_open(stack, words, upvalues, cells, co, here) {
         Some(()) => Some(()),
-        None => store_at(stack, words, upvalues, cells, co, here),
+        None => cross_over_at(stack, size, funcs, codes, words, budget, pc, here.word),
     }
 }
 

@@ -21,7 +21,7 @@ use object_pool::Pool;
 use table_core::{CoroId, Table, TableId};
 
 /// How many rounds of the loop over instructions a frame makes, with a variable of a frame below read between two, before the values of such are remembered.
-const ROUNDS: u64 = 5;
+const ROUNDS: u64 = 10;
 
 /// Where the frame on top stops, and from which register on nothing of it is open or to be closed, where that is known.
 #[derive(Clone, Copy, Debug)]

@@ -17,6 +17,7 @@ use table_core::{CellId, CoroId};
 
 /// SETUPVAL of a variable that stands in a register of a frame below: UpValue[B] := R[A], and the frame on top goes on after it. `None`, with all as before, at
 /// any other instruction, and where the variable stands elsewhere.
+#[inline(always)]
 pub(crate) fn store_open(
     stack: &mut Stack,
     words: &[Instruction],
@@ -42,35 +43,8 @@ pub(crate) fn store_open(
     Some(())
 }
 
-/// Does so where frames are gone over one after another. The opcode is looked at here, and what is told of the place is put together anew, so that at all other
-/// instructions nothing is called and nothing is put into memory.
-#[inline(always)]
-pub(crate) fn store_at(
-    stack: &mut Stack,
-    words: &[Instruction],
-    upvalues: &[CellId],
-    cells: &Pool<Cell>,
-    co: CoroId,
-    here: Here,
-) -> Option<()>
-    requires top { HasLuaTop stack.old }
-    requires cells { ListsOpen co.0 stack.old cells.now.objects }
-    ensures stores { IfSome result (λ _. StoresOpen co.0 upvalues.now words.now stack.old stack.new cells.now.objects here.pc here.word) }
-    ensures kept { IfNone result (stack.new ≡ stack.old) }
-    ensures listed { stack.new.open_cells ≡ stack.old.open_cells }
-{
-    if !is_store(here.word) {
-        return None;
-    }
-    let place = Here {
-        pc: here.pc,
-        word: here.word,
-        runs: here.runs,
-    };
-    store_open(stack, words, upvalues, cells, co, place)
-}
-
 /// The register of an upvalue's variable, where that stands in this coroutine, in a frame below the last of `depth`.
+#[inline(always)]
 pub(crate) fn open_below(
     depth: usize,
     upvalues: &[CellId],
@@ -106,6 +80,7 @@ pub(crate) fn open_below(
 }
 
 /// Whether it is a SETUPVAL.
+#[inline(always)]
 fn is_store(i: Instruction) -> bool
     ensures { result ≡ is_store (opcode_of i) }
 {
