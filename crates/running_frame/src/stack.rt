@@ -20,8 +20,9 @@ use machine_loop::{Memo, run_frame};
 use object_pool::Pool;
 use table_core::{CoroId, Table, TableId};
 
-/// How many rounds of the loop over instructions a frame makes, with a variable of a frame below read between two, before the values of such are remembered.
-const ROUNDS: u64 = 10;
+/// How many rounds of the loop over instructions a frame makes, with a variable of a frame below read between two, before the values of such are remembered. Many:
+/// to go on where they are costs as much as a dozen reads, and most frames come to a call before it pays.
+const ROUNDS: u64 = 128;
 
 /// Where the frame on top stops, and from which register on nothing of it is open or to be closed, where that is known.
 #[derive(Clone, Copy, Debug)]
@@ -289,8 +290,8 @@ fn run_round_apart(
     run_once(stack, closure, strings, tables, cells, budget, memo, start)
 }
 
-/// Some rounds of that loop: after a GETUPVAL of a variable of a frame below, which is read between two of them, the frame goes on. One that reads many goes on
-/// where their values are remembered, so a few rounds do.
+/// Some rounds of that loop: after a GETUPVAL of a variable of a frame below, which is read between two of them, the frame goes on. One that reads very many, as a loop
+/// may, goes on where their values are remembered.
 #[inline(always)]
 pub(crate) fn run_round(
     stack: &mut Stack,
