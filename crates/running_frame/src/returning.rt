@@ -281,8 +281,8 @@ fn wanted(words: &[Instruction], pc: usize, i: Instruction, wait: Wait, to: usiz
     }
 }
 
-/// What it wants where the frame waits for no call. Out of line, since most frames wait for one.
-#[inline(never)]
+/// What it wants where the frame waits for no call. Only what is called here is out of line: else the wait would be put into memory for each return.
+#[inline(always)]
 fn wanted_otherwise(
     words: &[Instruction],
     pc: usize,
@@ -318,6 +318,7 @@ fn wanted_by_call(i: Instruction, to: usize) -> Option<Taker>
 }
 
 /// What a TFORCALL wants.
+#[inline(never)]
 fn wanted_by_iterator(i: Instruction, to: usize) -> Option<Taker>
     ensures { IfSome result (λ t. WantsAnywhere i t ForIterator × (t.to ≡ to)) }
 {
@@ -370,6 +371,7 @@ fn wanted_by_operator(
 }
 
 /// What a store wants whose handler was called.
+#[inline(never)]
 fn wanted_by_store(i: Instruction, to: usize) -> Option<Taker>
     ensures { IfSome result (λ t. WantsAnywhere i t Dropped × (t.to ≡ to)) }
 {
