@@ -19,7 +19,7 @@ use crate::calling::{call_function, callee, is_call, one_less};
 use crate::frames::{cross, reach_out};
 use crate::inherited::read_inherited;
 use crate::place::{Here, here_at, is_none};
-use crate::returning::{return_none, return_single, return_values};
+use crate::returning::{return_few, return_single, return_values};
 use crate::stack::{Stop, closed_from, run_round};
 use crate::storing::store_open;
 use code_core::{Instruction, Opcode};
@@ -600,7 +600,7 @@ fn return_at(stack: &mut Stack, funcs: &Pool<Func>, codes: &Codes, i: Instructio
     }
 }
 
-/// A RETURN of one value to a frame that wants one, or of none: paths of their own.
+/// A RETURN from a frame of which nothing is open: of one value to a frame that wants one, or of none or two.
 #[inline(always)]
 fn return_one(stack: &mut Stack, funcs: &Pool<Func>, codes: &Codes, i: Instruction) -> Option<()>
     requires top { HasLuaTop stack.old }
@@ -613,10 +613,7 @@ fn return_one(stack: &mut Stack, funcs: &Pool<Func>, codes: &Codes, i: Instructi
     if count == 1 {
         return return_single(stack, funcs, codes, i);
     }
-    if count == 0 {
-        return return_none(stack, funcs, codes, i);
-    }
-    None
+    return_few(stack, funcs, codes, i, count)
 }
 
 /// Another return. The opcode is looked at here, so that at all other instructions nothing is called.

@@ -227,6 +227,7 @@ fn store(
 }
 
 /// Calls a function, returns to a frame below, or writes extra arguments, where this changes nothing but the stack.
+#[inline(always)]
 pub(crate) fn cross(
     stack: &mut Stack,
     size: usize,

@@ -119,16 +119,18 @@ pub(crate) fn return_single(
     Some(())
 }
 
-/// The return of nothing from a frame of which nothing is open or to be closed, as most functions end that are called for what they do.
+/// The return of so many values from a frame of which nothing is open or to be closed: of none, as most functions end that are called for what they do, or of the two
+/// that an iterator gives.
 #[inline(always)]
-pub(crate) fn return_none(
+pub(crate) fn return_few(
     stack: &mut Stack,
     funcs: &Pool<Func>,
     codes: &Codes,
     i: Instruction,
+    count: usize,
 ) -> Option<()>
     requires top { HasLuaTop stack.old }
-    requires says { count_of (opcode_of i) (b_of i) ≡ Some 0 }
+    requires says { count_of (opcode_of i) (b_of i) ≡ Some count }
     requires codes { HaveCode funcs.now.objects codes.now }
     ensures returns { IfSome result (λ _. ReturnsIn stack.old stack.new funcs.now.objects codes.now i) }
     ensures kept { IfNone result (stack.new ≡ stack.old) }
@@ -138,7 +140,7 @@ pub(crate) fn return_none(
     if !bare {
         return None;
     }
-    return_counted(stack, funcs, codes, i, 0, Some(0))
+    return_counted(stack, funcs, codes, i, count, Some(0))
 }
 
 /// The value of a register that is there.

@@ -8,7 +8,5 @@ return_single-requires-clause-says c =
     let one : c.in_ok-count.count ≡ 1 = search rules in
     said_counts (opcode_of c.args.i) (b_of c.args.i) 1 (sym c.in_ok-count.ensures ∙ ap (λ n. Some n) one)
 
-pub return_none-requires-clause-says : goal.return_none-requires-clause-says
-return_none-requires-clause-says c =
-    let nothing : c.in_ok-count.count ≡ 0 = search rules in
-    said_counts (opcode_of c.args.i) (b_of c.args.i) 0 (sym c.in_ok-count.ensures ∙ ap (λ n. Some n) nothing)
+pub return_few-requires-clause-says : goal.return_few-requires-clause-says
+return_few-requires-clause-says c = said_counts (opcode_of c.args.i) (b_of c.args.i) c.in_ok-count.count (sym c.in_ok-count.ensures)
