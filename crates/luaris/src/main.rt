@@ -5,6 +5,7 @@ mod words;
 
 use io_edge::{HostFiles, HostSink, HostSource, OutputStream};
 use program::{luaris, report};
+use std::mem::forget;
 use std::process::ExitCode;
 
 /// Runs the program over the system's files and streams.
@@ -21,7 +22,7 @@ fn main(rt: HostRuntime) -> ExitCode {
     let mut input = HostSource::new(rt);
     let mut out = HostSink::new(rt, OutputStream::Output);
     let mut last = None;
-    ExitCode::from(luaris(
+    let status = luaris(
         rt.alloc(),
         words.as_slice(),
         &mut files,
@@ -29,5 +30,9 @@ fn main(rt: HostRuntime) -> ExitCode {
         &mut out,
         &mut err,
         &mut last,
-    ))
+    );
+    // The program ends here, and the system takes the session's memory back as a whole: giving back each table and each string takes up to a fifth of the time of a
+    // script.
+    forget(last);
+    ExitCode::from(status)
 }
