@@ -10,8 +10,8 @@ ghost-run_once g a = g.g
 abbrev pub ghost-read_once : goal.ghost-read_once
 ghost-read_once g a = g.g
 
-abbrev pub invariant-loop : goal.invariant-loop
-invariant-loop g l = record {
+abbrev pub invariant-loop-round : goal.invariant-loop-round
+invariant-loop-round g l = record {
   reaches : Reaches g.g.around.rows (standing g.g l.initial.stack l.initial.tables.objects l.initial.cells.objects l.initial.budget) (standing g.g l.stack l.tables.objects l.cells.objects l.budget);
   runs : RunsAt g.g (code l.closure l.strings) l.stack l.tables.objects l.cells.objects l.budget l.pc;
   opened : AreOpenAlike l.initial.cells.objects l.cells.objects;
