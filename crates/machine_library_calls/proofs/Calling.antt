@@ -44,7 +44,7 @@ use Rattle.step_laws.proofs.Stepping.{primitive_is_step}
 use Rattle.running_frame.specs.declared.place.Here.{Here}
 use Rattle.running_frame.specs.Here.{IsHere, IsAtWord, RunsIf, is_none}
 use Rattle.machine_step.specs.Places.{RunsForm, GoesOnSo, IsAwake, WaitsHere}
-use Rattle.machine_step.proofs.Again.{solid_with, wakes_with}
+use Rattle.machine_step.proofs.Again.{solid_with as solid_given, wakes_with}
 use Rattle.machine_step.proofs.Awake.{awake, goes_on}
 use Rattle.machine_step.proofs.ByForm.{does}
 use Rattle.machine_step.proofs.Steps.{waits_here}
@@ -250,7 +250,7 @@ module _ {b : Begun} {R : Memory} {here : Here} {iterates : Bool} {number : ℕ}
           wakes = wakes_with X results nothing_N again wait Q place_X (same_wait (value N.strings) (value W.strings) iterates wait k.calls.wait w k.calls.waits) set kept
 
           pub woken_solid_so : IsSolid again
-          woken_solid_so = solid_with X results nothing_N ready_N answered_order wakes kept listed_on
+          woken_solid_so = solid_given X results nothing_N ready_N answered_order wakes kept listed_on
 
           pub woken_with : IsAwake again here.pc here.word wait results.items
           woken_with = awake waits_at wakes sound_N woken_solid_so.order

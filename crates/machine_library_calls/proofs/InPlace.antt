@@ -44,7 +44,7 @@ use Rattle.step_laws.proofs.Stepping.{primitive_is_step}
 use Rattle.running_frame.specs.declared.place.Here.{Here}
 use Rattle.running_frame.specs.Here.{IsHere}
 use Rattle.machine_step.specs.Places.{GoesOnSo, IsAwake, WaitsHere}
-use Rattle.machine_step.proofs.Again.{ready_without, solid_with, waits_with, wakes_with}
+use Rattle.machine_step.proofs.Again.{ready_without, solid_with as solid_given, waits_with, wakes_with}
 use Rattle.machine_step.proofs.Awake.{awake, goes_on}
 use Rattle.machine_step.proofs.ByForm.{does}
 use Rattle.machine_call_rows.specs.Primitives.{TailCallsPrimitive}
@@ -256,7 +256,7 @@ module _ {b : Begun} {R : Memory} {number : ℕ} {few : List Kept} (k : IsTailCa
           wakes = let f = frame_there in wakes_with X results nothing_N again wait f.place f.is (waited.is f.place f.is) set kept
 
           pub solid_again : IsSolid again
-          solid_again = solid_with X results nothing_N ready_N answered_order wakes kept listed_on
+          solid_again = solid_given X results nothing_N ready_N answered_order wakes kept listed_on
 
           pub awake_again : IsAwake again here.pc here.word wait results.items
           awake_again = awake waits_at wakes sound_N solid_again.order
