@@ -7,6 +7,7 @@ use std::process::Abort;
 use std::test::Fail;
 
 /// A script in `s.lua`, the options of the call, the bytes of the input, and what the call gives.
+#[derive(Clone, Copy)]
 pub(crate) struct Case {
     pub options: &'static str,
     pub script: &'static str,
