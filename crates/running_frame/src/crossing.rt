@@ -9,6 +9,7 @@ ghost use Rattle.machine_loop.specs.Running.{Running};
 ghost use Rattle.running_frame.specs.Calling.{AreFunctions, CallsIn, HaveCode};
 ghost use Rattle.running_frame.specs.Crossing.{Ground, LeavesFrame, MayCross, runs_on, world_with};
 ghost use Rattle.running_frame.specs.Inheriting.{metatable_number};
+ghost use Rattle.running_frame.specs.Listing.{WritesVarargs};
 ghost use Rattle.running_frame.specs.Remembering.{KnowsNothing};
 ghost use Rattle.running_frame.specs.Returning.{CallsOrReturns, ReturnsIn, said_of};
 ghost use Rattle.running_frame.specs.Spreading.{CrossesOver};
@@ -18,6 +19,7 @@ ghost use Rattle.running_frame.specs.Upvalues.{GoesOver, ListsOpen, RunsOver};
 use crate::calling::{call_function, callee, is_call, one_less};
 use crate::frames::{cross, reach_out};
 use crate::inherited::read_inherited;
+use crate::listing::write_varargs;
 use crate::place::{Here, here_at, is_none};
 use crate::returning::{return_few, return_single, return_values};
 use crate::stack::{Stop, closed_from, run_round};
@@ -478,10 +480,29 @@ fn cross_otherwise(
     ensures kept { IfNone result ((stack.new ≡ stack.old) × (budget.new ≡ budget.old)) }
     ensures listed { stack.new.open_cells ≡ stack.old.open_cells }
 {
+    if is_vararg(i) {
+        return write_there(stack, words, pc, i);
+    }
     if !may_cross(stack, i) {
         return None;
     }
     cross_there(stack, size, funcs, codes, words, budget, pc, i)
+}
+
+/// A VARARG, for which nothing has to be known of what is open.
+#[inline(never)]
+fn write_there(stack: &mut Stack, words: &[Instruction], pc: usize, i: Instruction) -> Option<()>
+    requires { HasLuaTop stack.old }
+    ensures writes { IfSome result (λ _. WritesVarargs stack.old stack.new words.now pc i) }
+    ensures kept { IfNone result (stack.new ≡ stack.old) }
+    ensures listed { stack.new.open_cells ≡ stack.old.open_cells }
+{
+    let here = Here {
+        pc,
+        word: i,
+        runs: true,
+    };
+    write_varargs(stack, words, here)
 }
 
 /// Does so.
@@ -514,8 +535,8 @@ fn cross_there(
     cross(stack, size, funcs, codes, words, budget, stop)
 }
 
-/// Whether an instruction may be one of these: a call of a Lua function, over the frame or in its place, or of an iterator, a VARARG, or a return, which may open a
-/// list.
+/// Whether an instruction may be one of these: a call of a Lua function, over the frame or in its place, or of an iterator, or a return, which may open a list or
+/// give one.
 #[inline(always)]
 fn may_cross(stack: &Stack, i: Instruction) -> bool
     requires { HasLuaTop stack.now }
@@ -524,8 +545,16 @@ fn may_cross(stack: &Stack, i: Instruction) -> bool
         Some(Opcode::Call) => names_function(stack, i),
         Some(Opcode::TailCall) => names_function(stack, i),
         Some(Opcode::TForCall) => names_function(stack, i),
+        _ => may_return(stack, i),
+    }
+}
+
+/// Whether it is a VARARG.
+#[inline(always)]
+fn is_vararg(i: Instruction) -> bool {
+    match i.opcode() {
         Some(Opcode::VarArg) => true,
-        _ => is_return(i),
+        _ => false,
     }
 }
 
@@ -630,7 +659,7 @@ fn return_otherwise(
     ensures kept { IfNone result (stack.new ≡ stack.old) }
     ensures listed { stack.new.open_cells ≡ stack.old.open_cells }
 {
-    if !is_return(i) {
+    if !may_return(stack, i) {
         return None;
     }
     return_from(stack, funcs, codes, i)
@@ -658,6 +687,17 @@ fn count_said(i: Instruction) -> Option<usize>
         Some(Opcode::Return) => one_less(i.b()),
         _ => None,
     }
+}
+
+/// Whether it is a return from a frame of which nothing is open or to be closed: any other return takes more than the stack.
+#[inline(always)]
+fn may_return(stack: &Stack, i: Instruction) -> bool
+    requires { HasLuaTop stack.now }
+{
+    if !is_return(i) {
+        return false;
+    }
+    stack.is_bare()
 }
 
 /// Whether it is a return.
