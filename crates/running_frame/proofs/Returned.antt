@@ -30,7 +30,7 @@ use Rattle.lua_heap.specs.Reading.{value}
 use Rattle.machine_arms_tables.specs.Frame.{Code}
 use Rattle.machine_loop.specs.Running.{Running}
 use Rattle.running_frame.specs.Calling.{AreFunctions, KnownFunction}
-use Rattle.running_frame.specs.Returning.{CallsOrReturns, Crosses, ReturnsIn, count_of}
+use Rattle.running_frame.specs.Returning.{CallsOrReturns, Crosses, GivesBack, ReturnsIn, count_of}
 use Rattle.running_frame.specs.Standing.{RunsAt, standing}
 use Rattle.running_frame.proofs.BelowTop.{below_waits, nothing_closed, nothing_pending, popped_waits, top_registers, values_there}
 use Rattle.running_frame.proofs.Calls.{less_is}
@@ -74,7 +74,7 @@ row_returns c s h w count there (Some Return1) e = record {
 row_returns c s h w count there _ e = absurd (cc)
 
 module _ (g : Running) (k : Code) (s : KeptStack) (ts : List Contents) (cs : List KeptCell) (fuel pc : ℕ) (r : RunsAt g k s ts cs fuel pc) (u : KeptStack) (funcs : List Func) (codes : Codes) (w : Instruction)
-    (x : ReturnsIn s u funcs codes w) (a : AreFunctions g.around.context.base.functions funcs codes) where
+    (count : ℕ) (x : GivesBack s u funcs codes w count) (a : AreFunctions g.around.context.base.functions funcs codes) where
   abbrev read : Kept → Value
   read = value g.around.texts
 
@@ -139,8 +139,8 @@ module _ (g : Running) (k : Code) (s : KeptStack) (ts : List Contents) (cs : Lis
   registers_are : map read x.registers ≡ own.registers
   registers_are = top_registers g k s ts cs fuel pc r x.registers x.are
 
-  there : nat_le (behind (a_of w) x.count) (length own.registers) ≡ true
-  there = values_there g k s ts cs fuel pc r x.registers x.are (a_of w) x.count x.gives.room
+  there : nat_le (behind (a_of w) count) (length own.registers) ≡ true
+  there = values_there g k s ts cs fuel pc r x.registers x.are (a_of w) count x.gives.room
 
   -- what both steps come to
 
@@ -151,34 +151,43 @@ module _ (g : Running) (k : Code) (s : KeptStack) (ts : List Contents) (cs : Lis
   popped_is : frames read x.popped ≡ lower ++ lua waiting ∷ []
   popped_is = popped_waits g k s ts cs fuel pc r x.caller x.calls x.popped x.pops
 
-  values_are : range 0 x.taker.count (read x.given.first ∷ read x.given.second ∷ []) ≡ range 0 x.taker.count (range (a_of w) x.count own.registers)
+  values_are : range 0 x.taker.count (read x.given.first ∷ read x.given.second ∷ []) ≡ range 0 x.taker.count (range (a_of w) count own.registers)
   values_are =
-      sym (two_range (range (a_of w) x.count (map read x.registers)) (read x.given.first) (read x.given.second) (x.gives.two read refl) x.taker.count x.takes.takes.few)
-      ∙ ap (λ rs. range 0 x.taker.count (range (a_of w) x.count rs)) registers_are
+      sym (two_range (range (a_of w) count (map read x.registers)) (read x.given.first) (read x.given.second) (x.gives.two read refl) x.taker.count x.takes.takes.few)
+      ∙ ap (λ rs. range 0 x.taker.count (range (a_of w) count rs)) registers_are
 
-  standing_after : standing g u ts cs fuel ≡ after number x.taker.register (range 0 x.taker.count (range (a_of w) x.count own.registers)) (waiting.own.pc + 1)
+  standing_after : standing g u ts cs fuel ≡ after number x.taker.register (range 0 x.taker.count (range (a_of w) count own.registers)) (waiting.own.pc + 1)
   standing_after =
       ap (λ fs. stacked ctx.base ctx.coroutine fs (heap g.around.texts ts g.string_metatable) (map (cell g.around.texts) cs) fuel []) (x.hands.top read refl lower waiting popped_is)
       ∙ ap (λ (id : FuncId). after id.0 x.taker.register (range 0 x.taker.count (read x.given.first ∷ read x.given.second ∷ [])) x.taker.to) x.calls.knows.function
       ∙ ap (λ vs. after number x.taker.register vs x.taker.to) values_are
-      ∙ ap (after number x.taker.register (range 0 x.taker.count (range (a_of w) x.count own.registers))) to_is
+      ∙ ap (after number x.taker.register (range 0 x.taker.count (range (a_of w) count own.registers))) to_is
 
-  pub returned_so : slice_get k.words pc ≡ Some w → Reaches g.around.rows (standing g s ts cs fuel) (standing g u ts cs fuel)
-  returned_so word =
+  pub given_back_so : slice_get k.words pc ≡ Some w → RowReturns ctx (held_on g k s ts cs fuel pc r fuel own) w count (opcode_of w) → Reaches g.around.rows (standing g s ts cs fuel) (standing g u ts cs fuel)
+  given_back_so word o =
       let stands = (ready_held g k s ts cs fuel pc r).stands in
       let h = held_on g k s ts cs fuel pc r fuel own in
-      let o = row_returns ctx stands h w x.count there (opcode_of w) x.is in
       let d = outer ctx lower number known_function.function in
       let held : Held = record { heap = h.heap; cells = h.cells; fuel = h.fuel; own = waiting.own } in
-      let given_values = range (a_of w) x.count own.registers in (
+      let given_values = range (a_of w) count own.registers in (
         2,
         ap (steps g.around.rows 2 go) (standing_is g k s ts cs fuel pc r)
-            ∙ return_steps ctx stands h w o.op (word_is g k s ts cs fuel pc r w word) o.is (a_of w) x.count o.env o.row
+            ∙ return_steps ctx stands h w o.op (word_is g k s ts cs fuel pc r w word) o.is (a_of w) count o.env o.row
             (nothing_pending g k s ts cs fuel pc r x.closed) there (nothing_closed g k s ts cs fuel pc r x.closed) lower number known_function.function waiting.own wait_is (still_waits read x.takes.takes.wants) below_is known_function.is
             (handed d x.taker held given_values) (takes_all read given_values x.takes.takes.wants)
             (takes d x.taker held x.takes.code.words.items words_are call_word at_call x.caller.pc read x.calls.knows.pc x.takes.takes.wants given_values behind_call.0 room at_next) g.around.rows
             ∙ ap (ends go) (sym standing_after),
       )
+
+-- an instruction does so that says how many values it returns
+
+returned_so : (g : Running) (k : Code) (s : KeptStack) (ts : List Contents) (cs : List KeptCell) (fuel pc : ℕ) → RunsAt g k s ts cs fuel pc → (u : KeptStack) (funcs : List Func) (codes : Codes) (w : Instruction) → ReturnsIn s u funcs codes w
+    → AreFunctions g.around.context.base.functions funcs codes → slice_get k.words pc ≡ Some w → Reaches g.around.rows (standing g s ts cs fuel) (standing g u ts cs fuel)
+returned_so g k s ts cs fuel pc r u funcs codes w x a word =
+    let b = x.gives_back in
+    let h = held_on g k s ts cs fuel pc r fuel (own_now g k s ts cs fuel pc r) in
+    let room = values_there g k s ts cs fuel pc r b.registers b.are (a_of w) x.count b.gives.room in
+    given_back_so g k s ts cs fuel pc r u funcs codes w x.count b a word (row_returns g.around.context (ready_held g k s ts cs fuel pc r).stands h w x.count room (opcode_of w) x.is)
 
 -- a call or a return, or neither
 

@@ -1,24 +1,24 @@
 -- A call with an open list on a stack is a step of the machine, over the frame on top or in its place.
 use Rattle.std.proofs.Common.{◌≡◌, inl, inr, ℕ, suc, ◌+◌, ◌-◌, List, [], ◌∷◌, ◌++◌, length, map, Option, Some, None, refl, ap, sym, subst, ◌∙◌, arith, true}
-use Rattle.std.specs.Prelude.{◌==◌, IfNone, IfSome, if◌then◌else◌, nat_le, nat_lt, option_and_then, slice_get}
+use Rattle.std.specs.Prelude.{◌==◌, IfNone, IfSome, cond, if◌then◌else◌, nat_le, nat_lt, option_and_then, slice_get}
 use Rattle.std.proofs.lemmas.List.{append_assoc}
 use Rattle.code_core.specs.Check.{Mark, at, fixed, in_front, leaves, left_by, mark, open_from, opened}
 use Rattle.code_core.specs.Fields.{opens}
 use Rattle.code_core.specs.Instruction.{a_of, b_of, c_of, opcode_of}
 use Rattle.code_core.specs.declared.instruction.Instruction.{Instruction}
 use Rattle.code_core.specs.declared.opcode.Opcode.{Opcode}
-use Rattle.code_core.specs.declared.opcode.Opcode.TheVariants.{Call, TailCall, VarArg}
+use Rattle.code_core.specs.declared.opcode.Opcode.TheVariants.{Call, Return, TailCall, VarArg}
 use Rattle.int_core.specs.Limits.{greatest_depth}
 use Rattle.int_core.specs.Value.{Value, a_function, nth, object, range}
 use Rattle.machine_core.specs.World.{Function, Cell as PlainCell, for_call, Activation, LuaFrame, Frame, lua, close_from}
 use Rattle.machine_core.specs.Text.{Own, Text, call, cut_from, drop_pending, fits, is_there, list_end, list_values, own, read, read_list, read_register, tail_call}
 use Rattle.machine_core.specs.FrameRows.{expand}
-use Rattle.machine_core.specs.InstructionRows.{read_values}
+use Rattle.machine_core.specs.InstructionRows.{counted, read_values, returns, row_of}
 use Rattle.machine_core.specs.MachineStep.{and_then, from_world, step, steps}
 use Rattle.machine_core.specs.Moves.{Row, ends, go, new_frame, run}
 use Rattle.machine_focus.specs.Focus.{Context, Held, Reaches, Stands, stacked, world}
 use Rattle.machine_focus.proofs.Calls.{began, call_is, inner}
-use Rattle.machine_sound.proofs.Values.{le_true}
+use Rattle.machine_sound.proofs.Values.{le_true, length_range}
 use Rattle.table_core.specs.Table.{Contents}
 use Rattle.lua_stack.specs.Frames.{IsShapeOf, KeptStack, frames, given_up, with_wait}
 use Rattle.lua_heap.specs.declared.codes.Codes.{Codes}
@@ -30,13 +30,13 @@ use Rattle.machine_arms_tables.specs.Frame.{Code}
 use Rattle.machine_loop.specs.Running.{Running}
 use Rattle.machine_loop.proofs.Closing.{stays}
 use Rattle.running_frame.specs.Calling.{AreFunctions}
-use Rattle.running_frame.specs.Spreading.{CrossesOver, ListEnds, Spreads, SpreadsIn, TailSpreadsIn}
+use Rattle.running_frame.specs.Spreading.{CrossesOver, ListEnds, ReturnsOpen, ReturnsSpread, Spreads, SpreadsIn, TailSpreadsIn}
 use Rattle.running_frame.specs.Standing.{RunsAt, standing}
 use Rattle.running_frame.proofs.Called.{callee_is, depth_is, held_on, own_now, ready_held, shape_known, standing_is, there, word_is}
 use Rattle.running_frame.proofs.Closed.{closes_nothing}
 use Rattle.running_frame.proofs.FrameRows.{giving, in_place, own_runs, row_is, tail_is}
 use Rattle.running_frame.proofs.ListReturned.{list_returned_so}
-use Rattle.running_frame.proofs.Returned.{crossed_or_not}
+use Rattle.running_frame.proofs.Returned.{crossed_or_not, given_back_so}
 
 -- what a test of an instruction says
 
@@ -67,6 +67,23 @@ module _ (c : Context) (s : Stands c) (h : Held) where
       own_runs c s h (read_list from) (λ v _. t v) env ends_there
       ∙ ap (λ (o : Option ℕ). run (expand (t (length env))) (env ++ list_values from h.own.registers o) (world c h)) e
       ∙ ap (λ n. run (expand (t (length env))) (env ++ range from n h.own.registers) (world c h)) many
+
+  -- a return of them all reads them first
+  abbrev list_counts : (a n : ℕ) → Text
+  list_counts a n = read_values a n (λ _ s. returns a (cond (n == 0) (counted s) (n - 1)))
+
+  open_row : (w : Instruction) (count end : ℕ) → b_of w ≡ 0 → list_end c.closure.code h.own ≡ Some end → end ≡ a_of w + count
+      → run (expand (row_of c.closure.code h.own.pc Return w)) [] (world c h) ≡ run (expand (returns (a_of w) count)) (range (a_of w) count h.own.registers) (world c h)
+  open_row w count end b e n =
+      let from = a_of w in
+      let rs = h.own.registers in
+      let ends_there : fits (read_list from) c.closure.code h.own ≡ true = ap is_there e in
+      let many : end - from ≡ count = omega (arith, n) in
+      ap (λ n. run (expand (list_counts from n)) [] (world c h)) b
+      ∙ own_runs c s h (read_list from) (λ _ s. returns from (counted s)) [] ends_there
+      ∙ ap (λ (o : Option ℕ). run (expand (returns from (length (list_values from rs o)))) (list_values from rs o) (world c h)) e
+      ∙ ap (λ n. run (expand (returns from (length (range from n rs)))) (range from n rs) (world c h)) many
+      ∙ ap (λ n. run (expand (returns from n)) (range from count rs) (world c h)) (length_range from count rs)
 
   module _ (w : Instruction) (at_pc : at c.closure.code h.own.pc ≡ Some w) (given end id : ℕ) (q : Function) (left : ℕ) (takes_all : b_of w ≡ 0) (ending : list_end c.closure.code h.own ≡ Some end) (all : end ≡ a_of w + 1 + given)
       (holds : nat_lt (a_of w) (length h.own.registers) ≡ true) (is : nth h.own.registers (a_of w) ≡ object a_function id) (fn : slice_get c.base.functions id ≡ Some q) (pay : h.fuel ≡ suc left) where
@@ -192,7 +209,23 @@ module _ (g : Running) (k : Code) (s : KeptStack) (ts : List Contents) (cs : Lis
               ∙ ap (ends go) (sym (ap (λ fs. stacked ctx.base ctx.coroutine fs (heap g.around.texts ts g.string_metatable) (map (cell g.around.texts) cs) left []) follower_on_top)),
         )
 
+  -- all values of the list go to the frame below
+  module _ (u : KeptStack) (funcs : List Func) (codes : Codes) (w : Instruction) (x : ReturnsOpen s u funcs codes k.words pc w) (a : AreFunctions ctx.base.functions funcs codes) where
+    open_returned_so : slice_get k.words pc ≡ Some w → Reaches g.around.rows (standing g s ts cs fuel) (standing g u ts cs fuel)
+    open_returned_so word =
+        given_back_so g k s ts cs fuel pc r u funcs codes w x.count x.gives_back a word (record {
+          op = Return;
+          is = x.is_return;
+          env = range (a_of w) x.count mine.registers;
+          row = open_row ctx (ready_held g k s ts cs fuel pc r).stands (held_on g k s ts cs fuel pc r fuel mine) w x.count x.end x.takes_all (list_ends x.end x.list) x.all;
+        })
+
 -- one of these
+
+spread_back_so : (g : Running) (k : Code) (s : KeptStack) (ts : List Contents) (cs : List Cell) (fuel pc : ℕ) → RunsAt g k s ts cs fuel pc → (u : KeptStack) (funcs : List Func) (codes : Codes) (w : Instruction)
+    → AreFunctions g.around.context.base.functions funcs codes → slice_get k.words pc ≡ Some w → ReturnsSpread s u funcs codes k.words pc w → Reaches g.around.rows (standing g s ts cs fuel) (standing g u ts cs fuel)
+spread_back_so g k s ts cs fuel pc r u funcs codes w a word (inl x) = list_returned_so g k s ts cs fuel pc r u funcs codes w x a word
+spread_back_so g k s ts cs fuel pc r u funcs codes w a word (inr x) = open_returned_so g k s ts cs fuel pc r u funcs codes w x a word
 
 spreads_so : (g : Running) (k : Code) (s : KeptStack) (ts : List Contents) (cs : List Cell) (fuel pc : ℕ) → RunsAt g k s ts cs fuel pc → (u : KeptStack) (size : ℕ) (funcs : List Func) (codes : Codes) (w : Instruction) (left : ℕ)
     → AreFunctions g.around.context.base.functions funcs codes → size ≡ g.around.context.closure.code.own.stack → slice_get k.words pc ≡ Some w → Spreads s u size funcs codes k.words pc w fuel left
@@ -204,7 +237,7 @@ spreads_so g k s ts cs fuel pc r u size funcs codes w left a e word (inr (inl x)
     let q = shape_known g.around.context.base.functions funcs codes a x.enters.call.id x.enters.call.shape x.enters.is.has in
     spread_in_place_so g k s ts cs fuel pc r u funcs codes w left x q.0 q.1 q.2 word
 spreads_so g k s ts cs fuel pc r u size funcs codes w left a e word (inr (inr x)) =
-    subst (λ (n : ℕ). Reaches g.around.rows (standing g s ts cs fuel) (standing g u ts cs n)) (sym x.1) (list_returned_so g k s ts cs fuel pc r u funcs codes w x.0 a word)
+    subst (λ (n : ℕ). Reaches g.around.rows (standing g s ts cs fuel) (standing g u ts cs n)) (sym x.1) (spread_back_so g k s ts cs fuel pc r u funcs codes w a word x.0)
 
 -- one of these, a call or a return where no open list is taken, or neither
 pub crossed_over_or_not : (g : Running) (k : Code) (s : KeptStack) (ts : List Contents) (cs : List Cell) (fuel pc : ℕ) → RunsAt g k s ts cs fuel pc → (u : KeptStack) (size : ℕ) (funcs : List Func) (codes : Codes) (w : Instruction) (left : ℕ)

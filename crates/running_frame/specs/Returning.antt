@@ -115,10 +115,9 @@ pub record HasKept (s : KeptStack) (count : ℕ) : Type 0 where
 abbrev pub taken : Taker → (first second : Value) → LuaFrame → LuaFrame
 taken taker v w t = with_pc taker.to (with_wait running (with_registers (write_all taker.register (range 0 taker.count (v ∷ w ∷ [])) t.own.registers) t))
 
--- the frame on top, in which nothing is open or to be closed, is gone, and the one below has taken its values
-pub record ReturnsIn (s u : KeptStack) (funcs : List Func) (codes : Codes) (w : Instruction) : Type 0 where
-  pub count : ℕ
-  pub is : count_of (opcode_of w) (b_of w) ≡ Some count
+-- the frame on top, in which nothing is open or to be closed, is gone, and the one below has taken what it wants of so many of its values, from the register on that
+-- the instruction names
+pub record GivesBack (s u : KeptStack) (funcs : List Func) (codes : Codes) (w : Instruction) (count : ℕ) : Type 0 where
   pub closed : IsClosedFrom s 0
   pub registers : List Kept
   pub are : OnTop s (λ f t. map f registers ≡ t.own.registers)
@@ -132,6 +131,12 @@ pub record ReturnsIn (s u : KeptStack) (funcs : List Func) (codes : Codes) (w : 
   pub pops : popped.frames ≡ without_last s.frames
   pub hands : TopBecomes popped u (λ f t. taken taker (f given.first) (f given.second) t)
   pub listed : u.open_cells ≡ s.open_cells
+
+-- an instruction does so that says how many values it returns
+pub record ReturnsIn (s u : KeptStack) (funcs : List Func) (codes : Codes) (w : Instruction) : Type 0 where
+  pub count : ℕ
+  pub is : count_of (opcode_of w) (b_of w) ≡ Some count
+  pub gives_back : GivesBack s u funcs codes w count
 
 -- a tail call or a return
 abbrev pub Leaves : (s u : KeptStack) → List Func → Codes → Instruction → (fuel left : ℕ) → Type 0

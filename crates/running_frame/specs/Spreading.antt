@@ -1,7 +1,7 @@
 -- Calls of Lua functions with all values of an open list, as changes of a stack.
 use Rattle.std.specs.Prelude.{◌≡◌, ◌⊎◌, ◌+◌, ◌≤◌, ℕ, suc, List, Some, length, map}
 use Rattle.code_core.specs.declared.instruction.Instruction.{Instruction}
-use Rattle.code_core.specs.declared.opcode.Opcode.TheVariants.{Call, TailCall}
+use Rattle.code_core.specs.declared.opcode.Opcode.TheVariants.{Call, Return, TailCall}
 use Rattle.code_core.specs.Check.{leaves, open_from}
 use Rattle.code_core.specs.Instruction.{a_of, b_of, opcode_of}
 use Rattle.int_core.specs.Limits.{greatest_depth}
@@ -13,7 +13,7 @@ use Rattle.lua_heap.specs.declared.world.Func.{Func}
 use Rattle.running_frame.specs.declared.spreading.SpreadCall.{SpreadCall}
 use Rattle.running_frame.specs.Calling.{HasShapeIn, HoldsCallee}
 use Rattle.running_frame.specs.Opening.{ReturnsList}
-use Rattle.running_frame.specs.Returning.{Crosses, IsInFront}
+use Rattle.running_frame.specs.Returning.{Crosses, GivesBack, IsInFront}
 use Rattle.running_frame.specs.Standing.{IsClosedFrom}
 
 -- the open list that the instruction in front of a place leaves ends there, at the register behind its last value
@@ -65,9 +65,23 @@ pub record TailSpreadsIn (s u : KeptStack) (funcs : List Func) (codes : Codes) (
   pub paid : fuel ≡ suc left
   pub enters : ReplacesOver s u funcs codes words pc w
 
+-- a RETURN gives all values from a register up to the end of the list to a frame that wants at most two
+pub record ReturnsOpen (s u : KeptStack) (funcs : List Func) (codes : Codes) (words : List Instruction) (pc : ℕ) (w : Instruction) : Type 0 where
+  pub is_return : opcode_of w ≡ Some Return
+  pub takes_all : b_of w ≡ 0
+  pub end : ℕ
+  pub list : ListEnds s words pc end
+  pub count : ℕ
+  pub all : end ≡ a_of w + count
+  pub gives_back : GivesBack s u funcs codes w count
+
 -- that, or a return to a frame that opens a list
+abbrev pub ReturnsSpread : (s u : KeptStack) → List Func → Codes → List Instruction → (pc : ℕ) → Instruction → Type 0
+ReturnsSpread s u funcs codes words pc w = ReturnsList s u funcs codes w ⊎ ReturnsOpen s u funcs codes words pc w
+
+-- one of these, or such a TAILCALL
 abbrev pub SpreadsInPlace : (s u : KeptStack) → List Func → Codes → List Instruction → (pc : ℕ) → Instruction → (fuel left : ℕ) → Type 0
-SpreadsInPlace s u funcs codes words pc w fuel left = TailSpreadsIn s u funcs codes words pc w fuel left ⊎ (ReturnsList s u funcs codes w × (left ≡ fuel))
+SpreadsInPlace s u funcs codes words pc w fuel left = TailSpreadsIn s u funcs codes words pc w fuel left ⊎ (ReturnsSpread s u funcs codes words pc w × (left ≡ fuel))
 
 -- one of these, or a call over the frame
 abbrev pub Spreads : (s u : KeptStack) (size : ℕ) → List Func → Codes → List Instruction → (pc : ℕ) → Instruction → (fuel left : ℕ) → Type 0

@@ -7,7 +7,7 @@ ghost use Rattle.lua_stack.specs.Frames.{HasLuaTop, HasRegisters, TopBecomes, wi
 ghost use Rattle.table_core.specs.declared.value.Value.TheVariants.{Nil};
 ghost use Rattle.lua_stack.specs.declared.frame.Wait.TheVariants.{Dropped, ForCall, ForIterator, ForValue};
 ghost use Rattle.running_frame.specs.Calling.{HaveCode};
-ghost use Rattle.running_frame.specs.Returning.{HasKept, IsCaller, IsGiven, IsInFront, IsTaker, ReturnsIn, TakesIn, Wants, WantsAnywhere, count_of, is_operator, taken};
+ghost use Rattle.running_frame.specs.Returning.{GivesBack, HasKept, IsCaller, IsGiven, IsInFront, IsTaker, ReturnsIn, TakesIn, Wants, WantsAnywhere, count_of, is_operator, taken};
 ghost use Rattle.running_frame.specs.Standing.{IsClosedFrom};
 
 use crate::calling::{is_call, one_less, register_of};
@@ -54,9 +54,9 @@ pub(crate) fn return_values(
     return_counted(stack, funcs, codes, i, count, closed)
 }
 
-/// The return of so many values.
+/// The return of so many values from the register that the instruction names.
 #[inline(always)]
-fn return_counted(
+pub(crate) fn return_counted(
     stack: &mut Stack,
     funcs: &Pool<Func>,
     codes: &Codes,
@@ -65,10 +65,9 @@ fn return_counted(
     closed: Option<usize>,
 ) -> Option<()>
     requires top { HasLuaTop stack.old }
-    requires says { count_of (opcode_of i) (b_of i) ≡ Some count }
     requires closed { IfSome closed (λ register. IsClosedFrom stack.old register) }
     requires codes { HaveCode funcs.now.objects codes.now }
-    ensures returns { IfSome result (λ _. ReturnsIn stack.old stack.new funcs.now.objects codes.now i) }
+    ensures gives { IfSome result (λ _. GivesBack stack.old stack.new funcs.now.objects codes.now i count) }
     ensures kept { IfNone result (stack.new ≡ stack.old) }
     ensures listed { stack.new.open_cells ≡ stack.old.open_cells }
 {

@@ -1,15 +1,16 @@
 // Calls of Lua functions with all values of an open list, which change nothing but the stack (OP_CALL and OP_TAILCALL of lvm.c, where B is 0).
-ghost use Rattle.std.specs.Prelude.{◌≡◌, IfNone, IfSome, true};
+ghost use Rattle.std.specs.Prelude.{◌≡◌, IfNone, IfSome, Some, true};
 ghost use Rattle.code_core.specs.Check.{leaves, open_from};
 ghost use Rattle.code_core.specs.Instruction.{b_of, opcode_of};
+ghost use Rattle.code_core.specs.declared.opcode.Opcode.TheVariants.{Return};
 ghost use Rattle.lua_stack.specs.Frames.{HasLuaTop};
 ghost use Rattle.running_frame.specs.Calling.{HaveCode, is_call, is_tail_call};
-ghost use Rattle.running_frame.specs.Spreading.{IsSpread, ListEnds, ReplacesOver, SpreadsIn, SpreadsInPlace, SpreadsOver, TailSpreadsIn, Spreads};
+ghost use Rattle.running_frame.specs.Spreading.{IsSpread, ListEnds, ReplacesOver, ReturnsOpen, ReturnsSpread, SpreadsIn, SpreadsInPlace, SpreadsOver, TailSpreadsIn, Spreads};
 ghost use Rattle.running_frame.specs.Standing.{IsClosedFrom};
 
 use crate::calling::{callee, may_give_up, shape_of};
 use crate::opening::return_list;
-use crate::returning::{in_front, is_first};
+use crate::returning::{in_front, is_first, return_counted};
 use crate::stack::Stop;
 use code_core::{Instruction, Opcode};
 use lua_heap::{Codes, Func};
@@ -68,8 +69,53 @@ fn spread_in_place(
 {
     match tail_call_with_list(stack, funcs, codes, words, budget, stop) {
         Some(()) => Some(()),
-        None => return_list(stack, funcs, codes, stop.here.word, stop.closed),
+        None => return_spread(stack, funcs, codes, words, stop),
     }
+}
+
+/// Returns to a frame that opens a list, or with the values of one.
+fn return_spread(
+    stack: &mut Stack,
+    funcs: &Pool<Func>,
+    codes: &Codes,
+    words: &[Instruction],
+    stop: Stop,
+) -> Option<()>
+    requires top { HasLuaTop stack.old }
+    requires codes { HaveCode funcs.now.objects codes.now }
+    requires closed { IfSome stop.closed (λ register. IsClosedFrom stack.old register) }
+    ensures returns { IfSome result (λ _. ReturnsSpread stack.old stack.new funcs.now.objects codes.now words.now stop.here.pc stop.here.word) }
+    ensures kept { IfNone result (stack.new ≡ stack.old) }
+    ensures listed { stack.new.open_cells ≡ stack.old.open_cells }
+{
+    match return_list(stack, funcs, codes, stop.here.word, stop.closed) {
+        Some(()) => Some(()),
+        None => return_open(stack, funcs, codes, words, stop),
+    }
+}
+
+/// A RETURN of all values from a register up to the end of the open list, to a Lua frame that wants at most two.
+fn return_open(
+    stack: &mut Stack,
+    funcs: &Pool<Func>,
+    codes: &Codes,
+    words: &[Instruction],
+    stop: Stop,
+) -> Option<()>
+    requires top { HasLuaTop stack.old }
+    requires codes { HaveCode funcs.now.objects codes.now }
+    requires closed { IfSome stop.closed (λ register. IsClosedFrom stack.old register) }
+    ensures returns { IfSome result (λ _. ReturnsOpen stack.old stack.new funcs.now.objects codes.now words.now stop.here.pc stop.here.word) }
+    ensures kept { IfNone result (stack.new ≡ stack.old) }
+    ensures listed { stack.new.open_cells ≡ stack.old.open_cells }
+{
+    if !is_list_return(stop.here.word) {
+        return None;
+    }
+    let register = stop.here.word.a() as usize;
+    let end = list_end(stack, words, stop.here.pc)?;
+    let count = end.checked_sub(register)?;
+    return_counted(stack, funcs, codes, stop.here.word, count, stop.closed)
 }
 
 /// A CALL with an open list: the function's frame is on top.
@@ -255,6 +301,16 @@ fn is_tail_list_call(i: Instruction) -> bool
 {
     match i.opcode() {
         Some(Opcode::TailCall) => i.b() == 0,
+        _ => false,
+    }
+}
+
+/// Whether it is a RETURN with one.
+fn is_list_return(i: Instruction) -> bool
+    ensures { result ≡ true → (opcode_of i ≡ Some Return) × (b_of i ≡ 0) }
+{
+    match i.opcode() {
+        Some(Opcode::Return) => i.b() == 0,
         _ => false,
     }
 }

@@ -14,12 +14,10 @@ pop-requires c =
 pub hand-requires : goal.hand-requires
 hand-requires c = record { few = c.in_ok-taker.ensures.takes.few; room = caller_kept _ c.in_ok-caller.ensures c.pop.ensures.frames c.in_ok-taker.ensures.takes.room }
 
-pub returns-clause-returns : goal.returns-clause-returns
-returns-clause-returns c =
+pub returns-clause-gives : goal.returns-clause-gives
+returns-clause-gives c =
     let yes : c.is_first.result ≡ true = search rules in
     record {
-      count = c.args.count;
-      is = c.requires.says;
       closed = subst (λ o. IfSome o (λ register. IsClosedFrom c.args.stack.now register)) (c.is_first.ensures yes) c.requires.closed;
       registers = c.registers.result.now;
       are = c.registers.ensures;

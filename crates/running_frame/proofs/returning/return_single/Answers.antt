@@ -16,17 +16,19 @@ returns-clause-returns c =
     record {
       count = 1;
       is = c.requires.says;
-      closed = record { none = c.is_bare-bare.ensures.cells c.if-not-bare.false; pending = c.is_bare-bare.ensures.pending c.if-not-bare.false };
-      registers = c.registers-registers.result.now;
-      are = c.registers-registers.ensures;
-      given = both c.value_in-value.result Nil;
-      gives = subst (λ a. IsGiven c.registers-registers.result.now a 1 (both c.value_in-value.result Nil)) c.a-register.ensures (given_one c.registers-registers.result.now c.a-register.result 1 c.value_in-value.result refl room c.value_in-value.ensures);
-      caller = c.in_ok-caller.caller;
-      calls = c.in_ok-caller.ensures;
-      taker = c.in_ok-taker.taker;
-      takes = c.in_ok-taker.ensures;
-      popped = c.pop.new.self;
-      pops = c.pop.ensures.frames;
-      hands = c.give.ensures;
-      listed = c.give.ensures.cells ∙ c.pop.ensures.cells;
+      gives_back = record {
+        closed = record { none = c.is_bare-bare.ensures.cells c.if-not-bare.false; pending = c.is_bare-bare.ensures.pending c.if-not-bare.false };
+        registers = c.registers-registers.result.now;
+        are = c.registers-registers.ensures;
+        given = both c.value_in-value.result Nil;
+        gives = subst (λ a. IsGiven c.registers-registers.result.now a 1 (both c.value_in-value.result Nil)) c.a-register.ensures (given_one c.registers-registers.result.now c.a-register.result 1 c.value_in-value.result refl room c.value_in-value.ensures);
+        caller = c.in_ok-caller.caller;
+        calls = c.in_ok-caller.ensures;
+        taker = c.in_ok-taker.taker;
+        takes = c.in_ok-taker.ensures;
+        popped = c.pop.new.self;
+        pops = c.pop.ensures.frames;
+        hands = c.give.ensures;
+        listed = c.give.ensures.cells ∙ c.pop.ensures.cells;
+      };
     }

@@ -1,5 +1,8 @@
 use Rattle.std.proofs.Common.{sym}
+use Rattle.std.proofs.lemmas.Option.{IfSome_then}
 use Rattle.running_frame.proofs.returning.return_values.Goals as goal
 
-pub return_counted-requires-clause-says : goal.return_counted-requires-clause-says
-return_counted-requires-clause-says c = sym c.in_ok-count.ensures
+pub returns-clause-returns : goal.returns-clause-returns
+returns-clause-returns c =
+    IfSome_then c.return_counted.result c.return_counted.ensures.gives
+    (λ o x. record { count = c.in_ok-count.count; is = sym c.in_ok-count.ensures; gives_back = x })
