@@ -43,12 +43,12 @@ range_behind : (from count : ℕ) (v : Value) (vs : List Value) → range (suc f
 range_behind from zero v vs = refl
 range_behind from (suc count) v vs = ap (λ ws. nth vs from ∷ ws) (range_behind (suc from) count v vs)
 
-range_whole : (vs : List Value) → range 0 (length vs) vs ≡ vs
+pub range_whole : (vs : List Value) → range 0 (length vs) vs ≡ vs
 range_whole [] = refl
 range_whole (v ∷ vs) = ap (λ ws. v ∷ ws) (range_behind 0 (length vs) v vs ∙ range_whole vs)
 
 -- a frame that waits for a call is no frame that runs
-call_waits : ◌≡◌ {A = Wait Value} for_call running → ⊥
+pub call_waits : ◌≡◌ {A = Wait Value} for_call running → ⊥
 call_waits e = absurd (cc)
 
 -- what is left of its CALL: the values that came are an open list from its register on

@@ -44,7 +44,12 @@ pub(crate) fn return_list(
 }
 
 /// What a frame that waits takes of so many values, where it takes all.
-fn list_taker_of(funcs: &Pool<Func>, codes: &Codes, caller: LuaState, count: usize) -> Option<Taker>
+pub(crate) fn list_taker_of(
+    funcs: &Pool<Func>,
+    codes: &Codes,
+    caller: LuaState,
+    count: usize,
+) -> Option<Taker>
     requires { HaveCode funcs.now.objects codes.now }
     ensures { IfSome result (λ t. TakesListIn funcs.now.objects codes.now caller count t) }
 {

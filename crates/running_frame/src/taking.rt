@@ -9,9 +9,10 @@ ghost use Rattle.move_laws.specs.Memory.{InOrder};
 ghost use Rattle.step_laws.specs.Steps.{IsReady};
 ghost use Rattle.running_frame.specs.Calling.{HaveCode};
 ghost use Rattle.running_frame.specs.Returning.{AreFirst, ReadsAt};
-ghost use Rattle.running_frame.specs.Taking.{IsWaiting, Takes, TakesOnTop};
+ghost use Rattle.running_frame.specs.Taking.{IsWaiting, Takes, TakesAll, TakesOnTop, TakesSo};
 
 use crate::calling::register_of;
+use crate::opening::list_taker_of;
 use crate::place::{is_none, is_running};
 use crate::returning::{Given, hand, taker_of};
 use lua_heap::law::checked_code_is_there;
@@ -49,8 +50,8 @@ fn is_still(world: &World) -> bool
     true
 }
 
-/// The Lua frame on top takes the first values that move, nil where there are fewer, and runs on; nothing moves then. `None`, with all as before, where it does not
-/// wait for a call, or wants more than two values.
+/// The Lua frame on top takes the first values that move, nil where there are fewer, or all that move as an open list, and runs on; nothing moves then. `None`, with
+/// all as before, where it waits for nothing of that, or wants more than two values.
 fn take_moving(world: &mut World) -> Option<()>
     requires ready { IsReady (length all_entries) go world.old }
     ensures reaches { IfSome result (λ _. (rows : ℕ → Row) (fuel : ℕ) → Reaches rows (plain world.old fuel) (plain world.new fuel)) }
@@ -60,7 +61,8 @@ fn take_moving(world: &mut World) -> Option<()>
 {
     checked_code_is_there();
     let given = first_two(&world.moving);
-    take_on_top(world, given)?;
+    let count = world.moving.len();
+    take_on_top(world, given, count)?;
     world.moving.clear();
     Some(())
 }
@@ -84,32 +86,81 @@ fn value_or_nil(values: &[Value], at: usize) -> Value
     }
 }
 
-/// The frame on top of the stack that runs takes what it wants of two values.
-fn take_on_top(world: &mut World, given: Given) -> Option<()>
+/// The frame on top of the stack that runs takes what it wants of so many values, of which these are the first two.
+fn take_on_top(world: &mut World, given: Given, count: usize) -> Option<()>
     requires ready { IsReady (length all_entries) go world.old }
-    ensures takes { IfSome result (λ _. TakesOnTop world.old world.new given) }
+    ensures takes { IfSome result (λ _. TakesOnTop world.old world.new given count) }
     ensures kept { IfNone result (world.new ≡ world.old) }
     ensures order { InOrder world.new }
 {
     checked_code_is_there();
     let co = running(world);
     match world.coros.get_mut(co.0) {
-        Coro::Running(stack) => take_values(stack, &world.funcs, &world.codes, given),
+        Coro::Running(stack) => take_waiting(stack, &world.funcs, &world.codes, given, count),
         _ => unreachable!(),
     }
 }
 
-/// The frame on top of a stack takes them.
-fn take_values(stack: &mut Stack, funcs: &Pool<Func>, codes: &Codes, given: Given) -> Option<()>
+/// The frame on top of a stack, where it waits, takes them.
+fn take_waiting(
+    stack: &mut Stack,
+    funcs: &Pool<Func>,
+    codes: &Codes,
+    given: Given,
+    count: usize,
+) -> Option<()>
     requires top { HasLuaTop stack.old }
+    requires codes { HaveCode funcs.now.objects codes.now }
+    ensures takes { IfSome result (λ _. TakesSo stack.old stack.new funcs.now.objects codes.now given count) }
+    ensures kept { IfNone result (stack.new ≡ stack.old) }
+    ensures listed { stack.new.open_cells ≡ stack.old.open_cells }
+{
+    let caller = waiting_top(stack)?;
+    match take_values(stack, funcs, codes, caller, given) {
+        Some(()) => Some(()),
+        None => take_list(stack, funcs, codes, caller, given, count),
+    }
+}
+
+/// It takes those that it wants.
+fn take_values(
+    stack: &mut Stack,
+    funcs: &Pool<Func>,
+    codes: &Codes,
+    caller: LuaState,
+    given: Given,
+) -> Option<()>
+    requires top { HasLuaTop stack.old }
+    requires waits { IsWaiting stack.old caller }
     requires codes { HaveCode funcs.now.objects codes.now }
     ensures takes { IfSome result (λ _. Takes stack.old stack.new funcs.now.objects codes.now given) }
     ensures kept { IfNone result (stack.new ≡ stack.old) }
     ensures listed { stack.new.open_cells ≡ stack.old.open_cells }
 {
-    let caller = waiting_top(stack)?;
     let taker = taker_of(funcs, codes, caller)?;
     hand(stack, taker, given);
+    Some(())
+}
+
+/// It takes all of them as an open list.
+fn take_list(
+    stack: &mut Stack,
+    funcs: &Pool<Func>,
+    codes: &Codes,
+    caller: LuaState,
+    given: Given,
+    count: usize,
+) -> Option<()>
+    requires top { HasLuaTop stack.old }
+    requires waits { IsWaiting stack.old caller }
+    requires codes { HaveCode funcs.now.objects codes.now }
+    ensures takes { IfSome result (λ _. TakesAll stack.old stack.new funcs.now.objects codes.now given count) }
+    ensures kept { IfNone result (stack.new ≡ stack.old) }
+    ensures listed { stack.new.open_cells ≡ stack.old.open_cells }
+{
+    let taker = list_taker_of(funcs, codes, caller, count)?;
+    hand(stack, taker, given);
+    stack.set_opened(count);
     Some(())
 }
 

@@ -12,7 +12,8 @@ returns-clause-reaches c =
     let V : Memory = record U { moving = c.clear.new.self } in
     let none : V.moving.items ≡ [] = search rules in
     let given : AreFirst (λ f. map f W.moving.items) c.first_two-given.result = subst (λ values. AreFirst (λ f. map f values) c.first_two-given.result) c.deref.ensures.value c.first_two-given.ensures in
-    taken_reaches (length all_entries) W c.requires.ready c.checked_code_is_there.ensures U V c.first_two-given.result given c.in_ok-take_on_top.ensures.takes refl none
+    let many : c.len-count.result ≡ length W.moving.items = search rules in
+    taken_reaches (length all_entries) W c.requires.ready c.checked_code_is_there.ensures U V c.first_two-given.result c.len-count.result given many c.in_ok-take_on_top.ensures.takes refl none
 
 pub returns-clause-order : goal.returns-clause-order
 returns-clause-order c = let o = c.take_on_top.ensures.order in record { codes = o.codes; listed = o.listed }

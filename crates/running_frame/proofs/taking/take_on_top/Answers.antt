@@ -21,8 +21,8 @@ running-co-requires c =
 pub get_mut-requires : goal.get_mut-requires
 get_mut-requires c = within c.running-co.ensures
 
-pub take_values-requires : goal.take_values-requires
-take_values-requires c =
+pub take_waiting-requires : goal.take_waiting-requires
+take_waiting-requires c =
     let f = go_has_frame (length all_entries) c.args.world.now c.requires.ready in
     record {
       top = top_found c.running-co.ensures c.get_mut.ensures.value c.in-Running.is f.place f.is;
@@ -32,8 +32,8 @@ take_values-requires c =
 pub returns-clause-takes : goal.returns-clause-takes
 returns-clause-takes c =
     let r = found c.running-co.ensures c.get_mut.ensures.value c.in-Running.is in
-    IfSome_then c.take_values.result c.take_values.ensures.takes
-    (λ o t. record { co = c.running-co.result; stack = c.in-Running.stack; runs = r; after = c.take_values.new.stack; changes = record { rest = refl; objects = refl }; takes = t })
+    IfSome_then c.take_waiting.result c.take_waiting.ensures.takes
+    (λ o t. record { co = c.running-co.result; stack = c.in-Running.stack; runs = r; after = c.take_waiting.new.stack; changes = record { rest = refl; objects = refl }; takes = t })
 
 pub returns-clause-kept : goal.returns-clause-kept
 returns-clause-kept c =
@@ -41,18 +41,18 @@ returns-clause-kept c =
     let co = c.running-co.result in
     let s = c.in-Running.stack in
     let r = found c.running-co.ensures c.get_mut.ensures.value c.in-Running.is in
-    none_then c.take_values.result
-    (λ (e : c.take_values.new.stack ≡ s).
+    none_then c.take_waiting.result
+    (λ (e : c.take_waiting.new.stack ≡ s).
     ap (λ (u : KeptStack). with_stack W co u) e
     ∙ ap (λ objects. record W { coros = record W.coros { objects = objects } }) (set_same W.coros.objects co.0 (Running s) r.there))
-    c.take_values.ensures.kept
+    c.take_waiting.ensures.kept
 
 pub returns-clause-order : goal.returns-clause-order
 returns-clause-order c =
     let W = c.args.world.now in
     let s = c.in-Running.stack in
-    let u = c.take_values.new.stack in
+    let u = c.take_waiting.new.stack in
     let V = with_stack W c.running-co.result u in
     let r = found c.running-co.ensures c.get_mut.ensures.value c.in-Running.is in
     let o = c.requires.ready.order in
-    order_after o refl refl (listed_after W V c.running-co.result s u r (record { rest = refl; objects = refl }) c.take_values.ensures.listed o.listed)
+    order_after o refl refl (listed_after W V c.running-co.result s u r (record { rest = refl; objects = refl }) c.take_waiting.ensures.listed o.listed)
