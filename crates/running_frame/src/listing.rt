@@ -13,6 +13,7 @@ use lua_stack::Stack;
 
 /// A VARARG: the arguments beyond the parameters are written to registers, all as an open list or at most two of them, and the frame goes on after it. `None`, with
 /// all as before, at any other instruction, where more are wanted, and where memory runs out.
+#[inline(always)]
 pub(crate) fn write_varargs(stack: &mut Stack, words: &[Instruction], here: Here) -> Option<()>
     requires top { HasLuaTop stack.old }
     ensures writes { IfSome result (λ _. WritesVarargs stack.old stack.new words.now here.pc here.word) }

@@ -257,6 +257,7 @@ fn spread_callee(
 }
 
 /// Behind which register the open list ends that the instruction in front of a place leaves.
+#[inline(always)]
 fn list_end(stack: &Stack, words: &[Instruction], pc: usize) -> Option<usize>
     requires { HasLuaTop stack.now }
     ensures { IfSome result (λ end. ListEnds stack.now words.now pc end) }
