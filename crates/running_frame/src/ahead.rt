@@ -63,7 +63,7 @@ fn run_frames(world: &mut World, budget: &mut u64) -> Here
     find_here(world)
 }
 
-/// Whether nothing more is done here with a frame that has gone from frame to frame as far as it could: it waits, or does not stand at one of the three instructions
+/// Whether nothing more is done here with a frame that has gone from frame to frame as far as it could: it waits, or does not stand at one of the two instructions
 /// that `run_frame` alone does.
 fn is_left(here: Here) -> bool {
     if !here.runs {
@@ -72,7 +72,6 @@ fn is_left(here: Here) -> bool {
     match here.word.opcode() {
         Some(Opcode::GetUpval) => false,
         Some(Opcode::Close) => false,
-        Some(Opcode::SetList) => here.word.b() != 1,
         _ => true,
     }
 }

@@ -14,10 +14,10 @@ ghost use Rattle.running_frame.specs.Remembering.{KnowsNothing};
 ghost use Rattle.running_frame.specs.Returning.{CallsOrReturns, ReturnsIn, said_of};
 ghost use Rattle.running_frame.specs.Spreading.{CrossesOver};
 ghost use Rattle.running_frame.specs.Standing.{MayRun, RunsAt, standing};
-ghost use Rattle.running_frame.specs.Upvalues.{GoesOver, ListsOpen, RunsOver};
+ghost use Rattle.running_frame.specs.Upvalues.{ListsOpen};
 
 use crate::calling::{call_function, callee, is_call, one_less};
-use crate::frames::{cross, reach_out};
+use crate::frames::{cross, write};
 use crate::inherited::read_inherited;
 use crate::listing::write_varargs;
 use crate::place::{Here, here_at, is_none};
@@ -266,7 +266,7 @@ fn leave_or_go_on(
     strings: &Strings,
     funcs: &Pool<Func>,
     codes: &Codes,
-    tables: &Pool<Table>,
+    tables: &mut Pool<Table>,
     cells: &Pool<Cell>,
     budget: &mut u64,
     co: CoroId,
@@ -274,12 +274,12 @@ fn leave_or_go_on(
     pc: usize,
 ) -> Option<()>
     ghost g: { Running }
-    requires runs { RunsAt g (code closure strings.now) stack.old tables.now.objects cells.now.objects budget.old pc }
+    requires runs { RunsAt g (code closure strings.now) stack.old tables.old.objects cells.now.objects budget.old pc }
     requires functions { AreFunctions g.around.context.base.functions funcs.now.objects codes.now }
     requires size { size ≡ g.around.context.closure.code.own.stack }
     requires own { co.0 ≡ g.around.context.coroutine }
     requires meta { metatable_number string_meta ≡ g.string_metatable }
-    ensures reaches { Reaches g.around.rows (standing g stack.old tables.now.objects cells.now.objects budget.old) (standing g stack.new tables.now.objects cells.now.objects budget.new) }
+    ensures reaches { Reaches g.around.rows (standing g stack.old tables.old.objects cells.now.objects budget.old) (standing g stack.new tables.new.objects cells.now.objects budget.new) }
     ensures listed { stack.new.open_cells ≡ stack.old.open_cells }
 {
     match leave_frame(
@@ -298,6 +298,7 @@ fn leave_or_go_on(
         None => read_or_ask(
             stack,
             closure,
+            size,
             strings,
             funcs,
             codes,
@@ -311,15 +312,16 @@ fn leave_or_go_on(
     }
 }
 
-/// Reads a field that handlers of `__index` lead to without a call, as a method of a string, or calls the handler of a read or an operator.
+/// Reads a field that handlers of `__index` lead to without a call, as a method of a string, or puts a value of a constructor into its table, or calls a handler.
 #[inline(always)]
 fn read_or_ask(
     stack: &mut Stack,
     closure: Closure,
+    size: usize,
     strings: &Strings,
     funcs: &Pool<Func>,
     codes: &Codes,
-    tables: &Pool<Table>,
+    tables: &mut Pool<Table>,
     cells: &Pool<Cell>,
     budget: &mut u64,
     co: CoroId,
@@ -327,11 +329,12 @@ fn read_or_ask(
     pc: usize,
 ) -> Option<()>
     ghost g: { Running }
-    requires runs { RunsAt g (code closure strings.now) stack.old tables.now.objects cells.now.objects budget.old pc }
+    requires runs { RunsAt g (code closure strings.now) stack.old tables.old.objects cells.now.objects budget.old pc }
     requires functions { AreFunctions g.around.context.base.functions funcs.now.objects codes.now }
+    requires size { size ≡ g.around.context.closure.code.own.stack }
     requires own { co.0 ≡ g.around.context.coroutine }
     requires meta { metatable_number string_meta ≡ g.string_metatable }
-    ensures reaches { Reaches g.around.rows (standing g stack.old tables.now.objects cells.now.objects budget.old) (standing g stack.new tables.now.objects cells.now.objects budget.new) }
+    ensures reaches { Reaches g.around.rows (standing g stack.old tables.old.objects cells.now.objects budget.old) (standing g stack.new tables.new.objects cells.now.objects budget.new) }
     ensures listed { stack.new.open_cells ≡ stack.old.open_cells }
 {
     match read_inherited(stack, closure, strings, tables, string_meta, pc) {
@@ -339,6 +342,7 @@ fn read_or_ask(
         None => ask_next(
             stack,
             closure,
+            size,
             strings,
             funcs,
             codes,
@@ -352,15 +356,17 @@ fn read_or_ask(
     }
 }
 
-/// Calls the handler of a read or an operator. The opcode is looked at here, so that at all other instructions nothing is called.
+/// Puts a value of a constructor into its table, or calls the handler of a read or an operator. The opcode is looked at here, so that at all other instructions
+/// nothing is called.
 #[inline(always)]
 fn ask_next(
     stack: &mut Stack,
     closure: Closure,
+    size: usize,
     strings: &Strings,
     funcs: &Pool<Func>,
     codes: &Codes,
-    tables: &Pool<Table>,
+    tables: &mut Pool<Table>,
     cells: &Pool<Cell>,
     budget: &mut u64,
     co: CoroId,
@@ -368,20 +374,24 @@ fn ask_next(
     pc: usize,
 ) -> Option<()>
     ghost g: { Running }
-    requires runs { RunsAt g (code closure strings.now) stack.old tables.now.objects cells.now.objects budget.old pc }
+    requires runs { RunsAt g (code closure strings.now) stack.old tables.old.objects cells.now.objects budget.old pc }
     requires functions { AreFunctions g.around.context.base.functions funcs.now.objects codes.now }
+    requires size { size ≡ g.around.context.closure.code.own.stack }
     requires own { co.0 ≡ g.around.context.coroutine }
     requires meta { metatable_number string_meta ≡ g.string_metatable }
-    ensures reaches { Reaches g.around.rows (standing g stack.old tables.now.objects cells.now.objects budget.old) (standing g stack.new tables.now.objects cells.now.objects budget.new) }
+    ensures reaches { Reaches g.around.rows (standing g stack.old tables.old.objects cells.now.objects budget.old) (standing g stack.new tables.new.objects cells.now.objects budget.new) }
     ensures listed { stack.new.open_cells ≡ stack.old.open_cells }
 {
     let here = here_at(closure.words, pc, true);
     if !may_ask(here.word) {
         return None;
     }
-    match reach_out(
+    let closed = closed_from(stack);
+    let stop = Stop { here, closed };
+    match write(
         stack,
         closure,
+        size,
         strings,
         funcs,
         codes,
@@ -390,20 +400,21 @@ fn ask_next(
         budget,
         co,
         string_meta,
-        here,
+        stop,
     ) {
         None => Some(()),
         Some(_) => None,
     }
 }
 
-/// Whether a handler that is a function may be called at an instruction.
+/// Whether an instruction may call a handler that is a function, or puts one value of a constructor into its table.
 #[inline(always)]
 fn may_ask(i: Instruction) -> bool {
     match i.opcode() {
         Some(Opcode::GetTable) => true,
         Some(Opcode::GetField) => true,
         Some(Opcode::MmBin) => true,
+        Some(Opcode::SetList) => i.b() == 1,
         _ => false,
     }
 }

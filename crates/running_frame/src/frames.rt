@@ -93,7 +93,8 @@ pub(crate) fn run_frame_on_top(
 
 /// Puts a value into a table of a constructor, or does what changes no table, where the frame on top is at such an instruction: `None`. Else all reads as before, and
 /// told is where the frame is.
-fn write(
+#[inline(never)]
+pub(crate) fn write(
     stack: &mut Stack,
     closure: Closure,
     size: usize,
@@ -136,7 +137,7 @@ fn write(
 /// Stores to a variable of a frame below, or calls the handler of a read, where the frame on top is at such an instruction: `None`. Else all reads as before, and told
 /// is where the frame is.
 #[inline(never)]
-pub(crate) fn reach_out(
+fn reach_out(
     stack: &mut Stack,
     closure: Closure,
     strings: &Strings,

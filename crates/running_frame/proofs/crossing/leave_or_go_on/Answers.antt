@@ -41,7 +41,7 @@ read_or_ask-requires g c =
     let cs = c.args.cells.now.objects in (
       subst (λ (s : KeptStack). RunsAt g.g k s ts cs c.leave_frame.new.budget c.args.pc) (sym kept.0)
           (subst (λ (n : ℕ). RunsAt g.g k c.args.stack.now ts cs n c.args.pc) (sym kept.1) c.requires.0),
-      (c.requires.1.0, c.requires.1.1.1),
+      c.requires.1,
     )
 
 pub returns-in-None-clause-reaches : goal.returns-in-None-clause-reaches
@@ -49,8 +49,8 @@ returns-in-None-clause-reaches g c =
     let kept = subst (λ o. IfNone o ((c.leave_frame.new.stack ≡ c.args.stack.now) × (c.leave_frame.new.budget ≡ c.args.budget.now))) c.in-None.is c.leave_frame.ensures.kept in
     let ts = c.args.tables.now.objects in
     let cs = c.args.cells.now.objects in
-    subst (λ (s : KeptStack). Reaches g.g.around.rows (standing g.g s ts cs c.args.budget.now) (standing g.g c.read_or_ask.new.stack ts cs c.read_or_ask.new.budget)) kept.0
-    (subst (λ (n : ℕ). Reaches g.g.around.rows (standing g.g c.leave_frame.new.stack ts cs n) (standing g.g c.read_or_ask.new.stack ts cs c.read_or_ask.new.budget)) kept.1 c.read_or_ask.ensures.reaches)
+    subst (λ (s : KeptStack). Reaches g.g.around.rows (standing g.g s ts cs c.args.budget.now) (standing g.g c.read_or_ask.new.stack c.read_or_ask.new.tables.objects cs c.read_or_ask.new.budget)) kept.0
+    (subst (λ (n : ℕ). Reaches g.g.around.rows (standing g.g c.leave_frame.new.stack ts cs n) (standing g.g c.read_or_ask.new.stack c.read_or_ask.new.tables.objects cs c.read_or_ask.new.budget)) kept.1 c.read_or_ask.ensures.reaches)
 
 pub returns-in-None-clause-listed : goal.returns-in-None-clause-listed
 returns-in-None-clause-listed g c = c.read_or_ask.ensures.listed ∙ c.leave_frame.ensures.listed

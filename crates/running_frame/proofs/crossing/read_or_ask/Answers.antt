@@ -8,7 +8,7 @@ use Rattle.running_frame.specs.Standing.{RunsAt, standing}
 use Rattle.running_frame.proofs.crossing.read_or_ask.Goals as goal
 
 pub read_inherited-requires : goal.read_inherited-requires
-read_inherited-requires g c = (record { cells = c.args.cells.now.objects; fuel = c.args.budget.now; runs = c.requires.0 }, c.requires.1.1.1)
+read_inherited-requires g c = (record { cells = c.args.cells.now.objects; fuel = c.args.budget.now; runs = c.requires.0 }, c.requires.1.1.1.1)
 
 pub returns-in-Some-clause-reaches : goal.returns-in-Some-clause-reaches
 returns-in-Some-clause-reaches g c =
@@ -35,7 +35,7 @@ returns-in-None-clause-reaches g c =
     let kept : c.read_inherited.new.stack ≡ c.args.stack.now = search rules in
     let ts = c.args.tables.now.objects in
     let cs = c.args.cells.now.objects in
-    subst (λ (s : KeptStack). Reaches g.g.around.rows (standing g.g s ts cs c.args.budget.now) (standing g.g c.ask_next.new.stack ts cs c.ask_next.new.budget)) kept c.ask_next.ensures.reaches
+    subst (λ (s : KeptStack). Reaches g.g.around.rows (standing g.g s ts cs c.args.budget.now) (standing g.g c.ask_next.new.stack c.ask_next.new.tables.objects cs c.ask_next.new.budget)) kept c.ask_next.ensures.reaches
 
 pub returns-in-None-clause-listed : goal.returns-in-None-clause-listed
 returns-in-None-clause-listed g c =
