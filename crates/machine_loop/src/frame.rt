@@ -72,7 +72,7 @@ fn go_on(
 /// step of the machine comes nearer to the end of the turn. The world's frame stands there, and is ready for a step of any kind: what the loop did is some
 /// steps. Of variables in frames below, of which it has no registers, it reads those whose values are known, of fields those that handlers which are tables lead
 /// to as well, and it stores to those of tables whose metatables have no handler for stores.
-#[inline(always)]
+#[inline(never)]
 pub fn run_frame(
     closure: Closure,
     strings: &Strings,

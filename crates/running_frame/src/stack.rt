@@ -162,7 +162,7 @@ fn run_rounds(
         ) else {
             return pc;
         };
-        let at = run_round_apart(stack, closure, strings, tables, cells, budget, &memo, next);
+        let at = run_once(stack, closure, strings, tables, cells, budget, &memo, next);
         pc = at;
         again = true;
     }
@@ -267,30 +267,7 @@ fn read_between(
     }
 }
 
-/// One round of the loop over instructions, out of line: most frames run in another copy of that loop, where calls and returns are gone over.
-#[inline(never)]
-fn run_round_apart(
-    stack: &mut Stack,
-    closure: Closure,
-    strings: &Strings,
-    tables: &mut Pool<Table>,
-    cells: &mut Pool<Cell>,
-    budget: &mut u64,
-    memo: &Memo,
-    start: usize,
-) -> usize
-    ghost g: { Running }
-    requires runs { RunsAt g (code closure strings.now) stack.old tables.old.objects cells.old.objects budget.old start }
-    requires known { AllHold g.around closure.upvalues.now cells.old.objects memo.now }
-    ensures reaches { Reaches g.around.rows (standing g stack.old tables.old.objects cells.old.objects budget.old) (standing g stack.new tables.new.objects cells.new.objects budget.new) }
-    ensures runs { RunsAt g (code closure.entry strings.now) stack.new tables.new.objects cells.new.objects budget.new result }
-    ensures opened { AreOpenAlike cells.old.objects cells.new.objects }
-    ensures listed { stack.new.open_cells ≡ stack.old.open_cells }
-{
-    run_once(stack, closure, strings, tables, cells, budget, memo, start)
-}
-
-/// Some rounds of that loop: after a GETUPVAL of a variable of a frame below, which is read between two of them, the frame goes on. One that reads very many, as a loop
+/// Some rounds of the loop over instructions: after a GETUPVAL of a variable of a frame below, which is read between two of them, the frame goes on. One that reads very many, as a loop
 /// may, goes on where their values are remembered.
 #[inline(always)]
 pub(crate) fn run_round(
@@ -325,7 +302,7 @@ pub(crate) fn run_round(
     pc
 }
 
-/// One round of that loop. It needs no limit: between two units of the budget a frame goes ahead in its code. The loop becomes part of whoever calls this.
+/// One round of that loop. It needs no limit: between two units of the budget a frame goes ahead in its code.
 #[inline(always)]
 fn run_once(
     stack: &mut Stack,

@@ -42,12 +42,12 @@ returns-in_default-clause-listed g c =
     let kept : c.go_between.new.stack ≡ c.loop.stack = search rules in
     ap (λ (s : KeptStack). s.open_cells) kept ∙ c.loop.invariant.listed
 
-pub run_round_apart-at-requires : goal.run_round_apart-at-requires
-run_round_apart-at-requires g c = (c.in-Some.ensures.goes.runs c.loop.budget c.loop.invariant.runs, c.go_between.ensures.known)
+pub run_once-at-requires : goal.run_once-at-requires
+run_once-at-requires g c = (c.in-Some.ensures.goes.runs c.loop.budget c.loop.invariant.runs, c.go_between.ensures.known)
 
 pub loop-preserved : goal.loop-preserved
 loop-preserved g c =
-    let r = c.run_round_apart-at.ensures in
+    let r = c.run_once-at.ensures in
     let o = c.in-Some.ensures.goes in
     let fuel = c.loop.budget in
     record {
@@ -55,5 +55,5 @@ loop-preserved g c =
       runs = r.runs;
       opened = c.loop.invariant.opened ∙ r.opened;
       listed = r.listed ∙ o.listed ∙ c.loop.invariant.listed;
-      known = still_hold g.g.around c.args.closure.upvalues.now c.loop.cells.objects c.run_round_apart-at.new.cells.objects r.opened c.go_between.new.memo c.go_between.ensures.known;
+      known = still_hold g.g.around c.args.closure.upvalues.now c.loop.cells.objects c.run_once-at.new.cells.objects r.opened c.go_between.new.memo c.go_between.ensures.known;
     }

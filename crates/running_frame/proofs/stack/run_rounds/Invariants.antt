@@ -5,8 +5,8 @@ use Rattle.machine_loop.specs.Knowing.{AllHold}
 use Rattle.running_frame.specs.Standing.{RunsAt, standing}
 use Rattle.running_frame.proofs.stack.run_rounds.Given as goal
 
-abbrev pub ghost-run_round_apart : goal.ghost-run_round_apart
-ghost-run_round_apart g a = g.g
+abbrev pub ghost-run_once : goal.ghost-run_once
+ghost-run_once g a = g.g
 
 abbrev pub ghost-go_between : goal.ghost-go_between
 ghost-go_between g a = g.g
