@@ -8,6 +8,7 @@ both are printed. With --damage: an image of about a million bytes is cut at 1,0
 end in a refusal of the image, or to go on and end by itself, never otherwise.
 """
 import collections
+import contextlib
 import os
 import pathlib
 import random
@@ -40,8 +41,11 @@ def timed(program, words, given):
     """Output, status, seconds and peak memory of one process."""
     began = time.monotonic()
     process = subprocess.Popen([program, *words], stdin=subprocess.PIPE, stdout=subprocess.PIPE, stderr=subprocess.PIPE)
-    process.stdin.write(given)
-    process.stdin.close()
+    # A program that refuses its image ends without a look at its input.
+    with contextlib.suppress(BrokenPipeError):
+        process.stdin.write(given)
+    with contextlib.suppress(BrokenPipeError):
+        process.stdin.close()
     printed = process.stdout.read()
     _, status, used = os.wait4(process.pid, 0)
     process.returncode = os.waitstatus_to_exitcode(status)
