@@ -23,7 +23,7 @@ use Rattle.source_builds.specs.Readings.{AsRead}
 use Rattle.source_builds.proofs.Knowing.{read_all}
 use Rattle.machine_library_calls.specs.Calls.{Comes}
 use Rattle.step_laws.specs.Steps.{Does, IsReady}
-use Rattle.running_frame.proofs.Chained.{steps_then}
+use Rattle.frame_calls.proofs.Chained.{steps_then}
 use Rattle.machine_step.specs.Step.{Goes}
 use Rattle.lua_driver.specs.Turns.{GoesFurther, Reaches}
 use Rattle.lua_driver.proofs.Reaching.{distance, comes_nearer, differ, reached_more, reached_none}

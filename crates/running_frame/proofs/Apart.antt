@@ -36,12 +36,13 @@ use Rattle.machine_moves.proofs.OfCode.{function_kept, code_is}
 use Rattle.step_laws.specs.Steps.{IsReady}
 use Rattle.step_laws.proofs.Ready.{ready_by_fuel}
 use Rattle.running_frame.specs.declared.place.Here.{Here}
-use Rattle.running_frame.specs.Calling.{AreFunctions}
+use Rattle.frame_calls.specs.Calling.{AreFunctions}
 use Rattle.running_frame.specs.Here.{is_none, IsHere}
-use Rattle.running_frame.specs.Standing.{standing, MayRun, IsHereIn, apart, IsApart}
+use Rattle.frame_calls.specs.Standing.{standing, MayRun}
+use Rattle.running_frame.specs.Apart.{IsHereIn, apart, IsApart}
 use Rattle.running_frame.proofs.Words.{few_words}
 use Rattle.running_frame.proofs.Places.{has_word}
-use Rattle.running_frame.proofs.Held.{reaches_by, stands_at, stacked_same, world_same}
+use Rattle.frame_calls.proofs.Held.{reaches_by, stands_at, stacked_same, world_same}
 
 -- and of a world
 

@@ -30,9 +30,10 @@ use Rattle.machine_moves.proofs.OnTop.{kept_whole, runs_after}
 use Rattle.machine_moves.proofs.Stacks.{with_stack}
 use Rattle.step_laws.specs.Steps.{IsReady}
 use Rattle.step_laws.proofs.Ready.{go_has_frame}
-use Rattle.running_frame.specs.Calling.{AreFunctions}
+use Rattle.frame_calls.specs.Calling.{AreFunctions}
 use Rattle.running_frame.specs.Crossing.{Ground, Grounds, MayCross, one_or_any, runs_on, world_with}
-use Rattle.running_frame.specs.Standing.{IsApart, MayRun, apart, held_apart, place_or_any, standing}
+use Rattle.frame_calls.specs.Standing.{MayRun, standing}
+use Rattle.running_frame.specs.Apart.{IsApart, apart, held_apart, place_or_any}
 use Rattle.running_frame.proofs.Apart.{are_functions, cells_are, code_says, listed_alike, may_run, number_there, of_held, ready_there, went, with_parts}
 
 module _ (n : Ground) (texts : List (List ℕ)) (funcs : Pool Func) (codes : Codes) (tables : Pool Contents) (cells : Pool Cell) (s : KeptStack) (m : MayCross n (world_with n s texts funcs codes tables cells) s) where

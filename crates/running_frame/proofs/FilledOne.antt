@@ -39,13 +39,13 @@ use Rattle.machine_arms_tables.specs.Fields.{with_field}
 use Rattle.machine_arms_tables.specs.Frame.{Code}
 use Rattle.machine_loop.specs.Running.{Running}
 use Rattle.running_frame.specs.Asking.{ReadSame}
-use Rattle.running_frame.specs.Calling.{AreFunctions}
+use Rattle.frame_calls.specs.Calling.{AreFunctions}
 use Rattle.running_frame.specs.Filling.{FillsOne, FillsTable, WritesOn, is_set_list}
-use Rattle.running_frame.specs.Standing.{RunsAt, standing}
-use Rattle.running_frame.proofs.Called.{held_on, own_now, ready_held, standing_is, word_is}
-use Rattle.running_frame.proofs.FrameRows.{own_runs, row_is}
+use Rattle.frame_calls.specs.Standing.{RunsAt, standing}
+use Rattle.frame_calls.proofs.Called.{held_on, own_now, ready_held, standing_is, word_is}
+use Rattle.frame_calls.proofs.FrameRows.{own_runs, row_is}
 use Rattle.running_frame.proofs.Handlers.{reached_or_not}
-use Rattle.running_frame.proofs.Held.{frame_is}
+use Rattle.frame_calls.proofs.Held.{frame_is}
 
 pub set_list_is : (o : Option Opcode) → is_set_list o ≡ true → o ≡ Some SetList
 set_list_is (Some SetList) h = refl

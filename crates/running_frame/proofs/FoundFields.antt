@@ -40,9 +40,9 @@ use Rattle.machine_arms_tables.specs.Frame.{Code, IsReadyAt, Moment, RunsTo, mom
 use Rattle.machine_arms_tables.proofs.Steps.{at_opcode}
 use Rattle.machine_loop.specs.Running.{Running}
 use Rattle.running_frame.specs.Inheriting.{Finds, GoesAmid, GoesWith}
-use Rattle.running_frame.specs.Standing.{RunsAt}
+use Rattle.frame_calls.specs.Standing.{RunsAt}
 use Rattle.running_frame.specs.Upvalues.{GoesOver}
-use Rattle.running_frame.proofs.FrameRows.{own_runs, row_is}
+use Rattle.frame_calls.proofs.FrameRows.{own_runs, row_is}
 use Rattle.running_frame.proofs.OnStack.{round_reaches, round_runs}
 use Rattle.running_frame.proofs.OpenRead.{ready_at}
 

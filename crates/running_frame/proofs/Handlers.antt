@@ -41,13 +41,14 @@ use Rattle.meta_ops.specs.Events.{event_of}
 use Rattle.meta_ops.specs.declared.event.Event.{Event as Variant}
 use Rattle.running_frame.specs.Asking.{AsksOver, EntersOver, IsAsked, Names, ReachesOut, ReadSame, by_name, by_operands, by_register, handled_events, operation_at}
 use Rattle.running_frame.specs.declared.asking.Asked.{Asked}
-use Rattle.running_frame.specs.Calling.{AreFunctions}
-use Rattle.running_frame.specs.Standing.{IsHereIn, RunsAt, standing}
+use Rattle.frame_calls.specs.Calling.{AreFunctions}
+use Rattle.frame_calls.specs.Standing.{RunsAt, standing}
+use Rattle.running_frame.specs.Apart.{IsHereIn}
 use Rattle.running_frame.specs.Storing.{StoresOpen}
 use Rattle.running_frame.specs.declared.place.Here.{Here}
-use Rattle.running_frame.proofs.Called.{depth_is, held_on, own_now, ready_held, shape_known, standing_is, word_is}
-use Rattle.running_frame.proofs.Chained.{reaches_none}
-use Rattle.running_frame.proofs.FrameRows.{own_runs, row_is}
+use Rattle.frame_calls.proofs.Called.{depth_is, held_on, own_now, ready_held, shape_known, standing_is, word_is}
+use Rattle.frame_calls.proofs.Chained.{reaches_none}
+use Rattle.frame_calls.proofs.FrameRows.{own_runs, row_is}
 use Rattle.running_frame.proofs.Places.{none_is}
 use Rattle.running_frame.proofs.Stored.{stored_so}
 

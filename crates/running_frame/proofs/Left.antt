@@ -9,13 +9,13 @@ use Rattle.lua_heap.specs.declared.world.Cell.{Cell as KeptCell}
 use Rattle.lua_heap.specs.declared.world.Func.{Func}
 use Rattle.machine_arms_tables.specs.Frame.{Code}
 use Rattle.machine_loop.specs.Running.{Running}
-use Rattle.running_frame.specs.Calling.{AreFunctions}
+use Rattle.frame_calls.specs.Calling.{AreFunctions}
 use Rattle.running_frame.specs.Crossing.{LeavesFrame}
-use Rattle.running_frame.specs.Spreading.{CrossesOver}
-use Rattle.running_frame.specs.Standing.{RunsAt, standing}
+use Rattle.frame_calls.specs.Spreading.{CrossesOver}
+use Rattle.frame_calls.specs.Standing.{RunsAt, standing}
 use Rattle.running_frame.specs.Storing.{StoresOpen}
-use Rattle.running_frame.proofs.Chained.{reaches_none}
-use Rattle.running_frame.proofs.SpreadCalls.{crossed_over_or_not}
+use Rattle.frame_calls.proofs.Chained.{reaches_none}
+use Rattle.frame_calls.proofs.SpreadCalls.{crossed_over_or_not}
 use Rattle.running_frame.proofs.Stored.{stored_so}
 
 left_so : (g : Running) (k : Code) (s : KeptStack) (ts : List Contents) (cs : List KeptCell) (fuel pc : ℕ) → RunsAt g k s ts cs fuel pc → (u : KeptStack) (size : ℕ) (funcs : List Func) (codes : Codes) (left co : ℕ)

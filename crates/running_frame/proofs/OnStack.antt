@@ -18,8 +18,8 @@ use Rattle.machine_view.proofs.Here.{ready_is_at}
 use Rattle.machine_arms_tables.specs.Frame.{AreOpenAlike, Code, moment, IsReadyAt, RunsTo}
 use Rattle.machine_loop.specs.Running.{Running}
 use Rattle.machine_loop.proofs.Alike.{still_open}
-use Rattle.running_frame.specs.Standing.{standing, MayRun, RunsAt}
-use Rattle.running_frame.proofs.Held.{reaches_by, frame_is, activation_is}
+use Rattle.frame_calls.specs.Standing.{standing, MayRun, RunsAt}
+use Rattle.frame_calls.proofs.Held.{reaches_by, frame_is, activation_is}
 
 module _ (g : Running) (k : Code) (s : KeptStack) (ts : List Contents) (cs : List Cell) (fuel : ℕ) (m : MayRun g k s ts cs fuel) (r : List Kept) (pc : ℕ) (waits : m.top.wait ≡ running)
     (at : pc ≡ m.top.own.pc) (registers : map (value g.around.texts) r ≡ m.top.own.registers) where

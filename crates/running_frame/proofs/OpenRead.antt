@@ -23,7 +23,7 @@ use Rattle.machine_arms_tables.specs.Frame.{Code, Moment, moment, IsReadyAt, Run
 use Rattle.machine_arms_tables.proofs.Steps.{at_opcode}
 use Rattle.machine_loop.specs.Running.{Running}
 use Rattle.machine_loop.proofs.Recalled.{open_comes}
-use Rattle.running_frame.specs.Standing.{RunsAt}
+use Rattle.frame_calls.specs.Standing.{RunsAt}
 use Rattle.running_frame.specs.Upvalues.{GoesOver, ListsOpen, StandsOpen, is_read}
 use Rattle.running_frame.proofs.OnStack.{frames_are, loop_ready, round_reaches, round_runs}
 

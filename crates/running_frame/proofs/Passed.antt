@@ -17,12 +17,12 @@ use Rattle.machine_arms_tables.specs.Frame.{Code, StepsOn, moment}
 use Rattle.machine_loop.specs.Running.{ClosesNothing, PassesClose, Running}
 use Rattle.machine_loop.proofs.Closing.{close_so, next_is_there}
 use Rattle.running_frame.specs.Closing.{is_close}
-use Rattle.running_frame.specs.Returning.{HasKept}
-use Rattle.running_frame.specs.Standing.{RunsAt}
+use Rattle.frame_calls.specs.Returning.{HasKept}
+use Rattle.frame_calls.specs.Standing.{RunsAt}
 use Rattle.running_frame.specs.Upvalues.{GoesOver}
 use Rattle.running_frame.proofs.OnStack.{loop_reaches, runs_at}
 use Rattle.running_frame.proofs.OpenRead.{ready_at}
-use Rattle.running_frame.proofs.Takers.{top_by}
+use Rattle.frame_calls.proofs.Takers.{top_by}
 
 pub close_is : (o : Option Opcode) → is_close o ≡ true → o ≡ Some Close
 close_is (Some Close) h = refl

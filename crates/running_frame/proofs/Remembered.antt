@@ -16,8 +16,8 @@ use Rattle.machine_loop.specs.declared.memo.Memo.{Memo}
 use Rattle.machine_loop.specs.Knowing.{AllHold, HasValue}
 use Rattle.machine_loop.specs.Running.{Running}
 use Rattle.running_frame.specs.Remembering.{KnowsBelow, KnowsNothing}
-use Rattle.running_frame.specs.Standing.{RunsAt}
-use Rattle.running_frame.proofs.Closed.{frame_count}
+use Rattle.frame_calls.specs.Standing.{RunsAt}
+use Rattle.frame_calls.proofs.Closed.{frame_count}
 
 pub known_holds : (g : Running) (k : Code) (s : KeptStack) (ts : List Contents) (cs : List Cell) (fuel pc : ℕ) → RunsAt g k s ts cs fuel pc → (co : ℕ) → co ≡ g.around.context.coroutine → (known : Known) → KnowsBelow co k.upvalues s cs known
     → HasValue g.around k.upvalues cs known.upvalue known.value

@@ -31,12 +31,12 @@ use Rattle.lua_heap.specs.Plain.{cell, heap}
 use Rattle.lua_heap.specs.Reading.{value}
 use Rattle.machine_arms_tables.specs.Frame.{Code}
 use Rattle.machine_loop.specs.Running.{Running}
-use Rattle.running_frame.specs.Standing.{RunsAt, standing}
+use Rattle.frame_calls.specs.Standing.{RunsAt, standing}
 use Rattle.running_frame.specs.Storing.{StandsBelow, StoresOpen, is_store}
 use Rattle.running_frame.specs.Upvalues.{ListsOpen}
-use Rattle.running_frame.proofs.Called.{depth_is, held_on, own_now, ready_held, standing_is, word_is}
-use Rattle.running_frame.proofs.FrameRows.{own_runs, row_is}
-use Rattle.running_frame.proofs.Held.{frame_is}
+use Rattle.frame_calls.proofs.Called.{depth_is, held_on, own_now, ready_held, standing_is, word_is}
+use Rattle.frame_calls.proofs.FrameRows.{own_runs, row_is}
+use Rattle.frame_calls.proofs.Held.{frame_is}
 
 pub store_is : (o : Option Opcode) → is_store o ≡ true → o ≡ Some SetUpval
 store_is (Some SetUpval) h = refl

@@ -31,26 +31,20 @@ use Rattle.move_laws.proofs.Places.{place_is}
 use Rattle.move_laws.proofs.Running.{Shown, changed_stack_is_put, shown}
 use Rattle.step_laws.specs.Steps.{IsReady}
 use Rattle.step_laws.proofs.Ready.{go_has_frame}
-use Rattle.running_frame.specs.Calling.{AreFunctions, KnownFunction}
-use Rattle.running_frame.specs.declared.returning.Given.{Given}
-use Rattle.running_frame.specs.declared.returning.Taker.{Taker}
-use Rattle.running_frame.specs.Opening.{IsListTaker}
-use Rattle.running_frame.specs.Returning.{AreFirst, HasKept, IsTaker, taken}
+use Rattle.frame_calls.specs.Calling.{AreFunctions, KnownFunction}
+use Rattle.frame_calls.specs.declared.returning.Given.{Given}
+use Rattle.frame_calls.specs.declared.returning.Taker.{Taker}
+use Rattle.frame_calls.specs.Opening.{IsListTaker}
+use Rattle.frame_calls.specs.Returning.{AreFirst, HasKept, IsTaker, taken}
 use Rattle.running_frame.specs.Taking.{IsWaiting, TakesOnTop, TakesSo}
 use Rattle.running_frame.proofs.Apart.{are_functions}
-use Rattle.running_frame.proofs.Called.{behind_within}
-use Rattle.running_frame.proofs.FrameRows.{handed, still_waits, takes, takes_all}
-use Rattle.running_frame.proofs.Held.{context_at, stacked_moving, stands_at}
-use Rattle.running_frame.proofs.ListReturned.{call_waits, listed, opens_list, range_whole}
-use Rattle.running_frame.proofs.Listed.{kept_top}
-use Rattle.running_frame.proofs.Takers.{top_by, two_range}
-use Rattle.running_frame.proofs.Waking.{woken_step}
-
--- where there is no value it is nil
-pub none_at : (f : Kept → Value) → f Nil ≡ known nil → (vs : List Kept) (n : ℕ) → slice_get vs n ≡ None → nth (map f vs) n ≡ f Nil
-none_at f z [] n e = sym z
-none_at f z (x ∷ vs) zero e = absurd (cc)
-none_at f z (x ∷ vs) (suc n) e = none_at f z vs n e
+use Rattle.frame_calls.proofs.Called.{behind_within}
+use Rattle.frame_calls.proofs.FrameRows.{handed, still_waits, takes, takes_all}
+use Rattle.frame_calls.proofs.Held.{context_at, stacked_moving, stands_at}
+use Rattle.frame_calls.proofs.ListReturned.{call_waits, listed, opens_list, range_whole}
+use Rattle.frame_calls.proofs.Listed.{kept_top}
+use Rattle.frame_calls.proofs.Takers.{top_by, two_range}
+use Rattle.frame_calls.proofs.Waking.{woken_step}
 
 -- the frame that waits
 

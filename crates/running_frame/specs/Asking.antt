@@ -26,7 +26,7 @@ use Rattle.meta_ops.specs.declared.event.Event.TheVariants.{Add, Sub, Mul, Mod, 
 use Rattle.running_frame.specs.declared.asking.Asked.{Asked}
 use Rattle.running_frame.specs.declared.asking.Kind.{Kind}
 use Rattle.running_frame.specs.declared.asking.Kind.TheVariants.{Read, Operator}
-use Rattle.running_frame.specs.Calling.{HasShapeIn}
+use Rattle.frame_calls.specs.Calling.{HasShapeIn}
 use Rattle.running_frame.specs.Storing.{StoresOpen}
 
 -- the operators by the numbers that MMBIN tells, from 6 on

@@ -17,7 +17,7 @@ use Rattle.lua_heap.specs.declared.world.Func.{Func}
 use Rattle.lua_heap.specs.declared.world.World.{World as Memory}
 use Rattle.move_laws.specs.Memory.{Runs}
 use Rattle.step_laws.specs.Steps.{IsReady}
-use Rattle.running_frame.specs.Spreading.{CrossesOver}
+use Rattle.frame_calls.specs.Spreading.{CrossesOver}
 use Rattle.running_frame.specs.Storing.{StoresOpen}
 
 -- the word at a place of the code is a call, a return, a VARARG, or a store to a variable of a frame below, and that is done

@@ -12,7 +12,7 @@ use Rattle.lua_heap.specs.Plain.{heap}
 use Rattle.lua_heap.specs.Reading.{value}
 use Rattle.machine_arms_tables.specs.Frame.{Code}
 use Rattle.machine_loop.specs.Running.{Running}
-use Rattle.running_frame.specs.Standing.{RunsAt, standing}
+use Rattle.frame_calls.specs.Standing.{RunsAt, standing}
 
 -- the number of the metatable that all strings share
 abbrev pub metatable_number : Option TableId → Option ℕ

@@ -1,16 +1,11 @@
 pub mod Here
-pub mod Standing
+pub mod Apart
 pub mod Taking
 pub mod Closing
 pub mod Upvalues
 pub mod Inheriting
-pub mod Calling
-pub mod Listing
 pub mod Storing
 pub mod Remembering
 pub mod Filling
-pub mod Returning
-pub mod Opening
-pub mod Spreading
 pub mod Asking
 pub mod Crossing

@@ -7,10 +7,10 @@ use Rattle.lua_heap.specs.declared.codes.Codes.{Codes}
 use Rattle.lua_heap.specs.declared.world.Func.{Func}
 use Rattle.lua_heap.specs.declared.world.World.{World as Memory}
 use Rattle.move_laws.specs.Memory.{Runs, ChangesStack}
-use Rattle.running_frame.specs.declared.returning.Given.{Given}
-use Rattle.running_frame.specs.declared.returning.Taker.{Taker}
-use Rattle.running_frame.specs.Opening.{TakesListIn}
-use Rattle.running_frame.specs.Returning.{TakesIn, taken}
+use Rattle.frame_calls.specs.declared.returning.Given.{Given}
+use Rattle.frame_calls.specs.declared.returning.Taker.{Taker}
+use Rattle.frame_calls.specs.Opening.{TakesListIn}
+use Rattle.frame_calls.specs.Returning.{TakesIn, taken}
 
 -- what is known of the frame on top
 pub record IsWaiting (s : KeptStack) (c : LuaState) : Type 0 where

@@ -12,7 +12,7 @@ use Rattle.lua_heap.specs.declared.world.Cell.{Cell}
 use Rattle.lua_heap.specs.declared.world.Cell.TheVariants.{Open}
 use Rattle.machine_arms_tables.specs.Frame.{Code}
 use Rattle.machine_loop.specs.Running.{Running}
-use Rattle.running_frame.specs.Standing.{RunsAt, standing}
+use Rattle.frame_calls.specs.Standing.{RunsAt, standing}
 
 -- an instruction that reads an upvalue
 abbrev pub is_read : Option Opcode → Bool

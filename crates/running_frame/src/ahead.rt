@@ -10,7 +10,7 @@ ghost use Rattle.move_laws.specs.Memory.{InOrder};
 ghost use Rattle.step_laws.specs.Steps.{IsReady};
 ghost use Rattle.running_frame.specs.Crossing.{Ground, Grounds};
 ghost use Rattle.running_frame.specs.Here.{IsHere};
-ghost use Rattle.running_frame.specs.Standing.{IsApart};
+ghost use Rattle.running_frame.specs.Apart.{IsApart};
 
 use crate::crossing::cross_stack;
 use crate::frames::run_frame_on_top;

@@ -10,11 +10,11 @@ ghost use Rattle.meta_ops.specs.Events.{event_of};
 ghost use Rattle.meta_ops.specs.Heap.{IsThere, heap_of};
 ghost use Rattle.meta_ops.specs.Outcome.{settled};
 ghost use Rattle.running_frame.specs.Asking.{AsksFor, AsksOver, EntersOver, IsAsked, Names, ReadSame, handled_events, operation_at, operation_of};
-ghost use Rattle.running_frame.specs.Calling.{HaveCode};
+ghost use Rattle.frame_calls.specs.Calling.{HaveCode};
 ghost use Rattle.running_frame.specs.Inheriting.{metatable_number};
 
-use crate::calling::{register_of, shape_of};
 use code_core::{Instruction, Opcode};
+use frame_calls::{register_of, shape_of};
 use lua_heap::{Codes, Func, Strings};
 use lua_stack::{GREATEST_DEPTH, Shape, Stack, Wait};
 use meta_ops::{Event, Heap, Outcome, arithmetic, index_of};

@@ -4,14 +4,12 @@ ghost use Rattle.code_core.specs.Instruction.{b_of, opcode_of};
 ghost use Rattle.lua_stack.specs.Frames.{HasLuaTop};
 ghost use Rattle.machine_arms_tables.specs.Fields.{with_field};
 ghost use Rattle.running_frame.specs.Filling.{FillsOne, FillsTable, is_set_list};
-ghost use Rattle.running_frame.specs.Standing.{IsClosedFrom};
+ghost use Rattle.frame_calls.specs.Standing.{IsClosedFrom};
 ghost use Rattle.table_core.specs.declared.value.Value.TheVariants.{Int, Table as a_table};
 
-use crate::calling::{may_give_up, register_of};
-use crate::listing::behind;
-use crate::returning::second_of;
-use crate::stack::Stop;
+use crate::stack::Halt;
 use code_core::{Instruction, Opcode};
+use frame_calls::{behind, may_give_up, register_of, second_of};
 use lua_heap::law;
 use lua_stack::Stack;
 use object_pool::Pool;
@@ -25,7 +23,7 @@ pub(crate) fn fill_one(
     size: usize,
     words: &[Instruction],
     tables: &mut Pool<Table>,
-    stop: Stop,
+    stop: Halt,
 ) -> Option<()>
     requires top { HasLuaTop stack.old }
     requires closed { IfSome stop.closed (λ register. IsClosedFrom stack.old register) }

@@ -5,27 +5,20 @@ ghost use Rattle.machine_arms_tables.specs.Frame.{AreOpenAlike, code};
 ghost use Rattle.machine_focus.specs.Focus.{Reaches};
 ghost use Rattle.machine_loop.specs.Running.{Running};
 ghost use Rattle.running_frame.specs.Asking.{AsksOver, ReachesOut, ReadSame};
-ghost use Rattle.running_frame.specs.Calling.{AreFunctions, CallsOn, HaveCode};
+ghost use Rattle.frame_calls.specs.Calling.{AreFunctions, HaveCode};
 ghost use Rattle.running_frame.specs.Filling.{WritesOn};
 ghost use Rattle.running_frame.specs.Inheriting.{metatable_number};
-ghost use Rattle.running_frame.specs.Returning.{Crosses, GoesOn, Leaves};
-ghost use Rattle.running_frame.specs.Spreading.{CrossesOver};
-ghost use Rattle.running_frame.specs.Standing.{IsClosedFrom, IsHereIn, MayRun, standing};
+ghost use Rattle.frame_calls.specs.Standing.{IsClosedFrom, MayRun, standing};
+ghost use Rattle.running_frame.specs.Apart.{IsHereIn};
 ghost use Rattle.running_frame.specs.Storing.{StoresOpen};
 ghost use Rattle.running_frame.specs.Upvalues.{ListsOpen};
 
 use crate::asking::ask_over;
-use crate::calling::call_function;
 use crate::filling::fill_one;
-use crate::iterating::call_iterator;
-use crate::listing::write_varargs;
 use crate::place::Here;
-use crate::returning::return_values;
-use crate::spreading::spread;
-use crate::stack::{Stop, run_stack};
+use crate::stack::{Halt, run_stack};
 use crate::storing::store_open;
-use crate::tail_calling::tail_call_function;
-use code_core::Instruction;
+use frame_calls::{Stop, cross};
 use lua_heap::{Cell, Codes, Func, Strings};
 use lua_stack::Stack;
 use machine_arms_tables::Closure;
@@ -72,7 +65,12 @@ pub(crate) fn run_frame_on_top(
     if !stop.here.runs {
         return Some(stop.here);
     }
-    match cross(stack, size, funcs, codes, closure.words, budget, stop) {
+    let at = Stop {
+        pc: stop.here.pc,
+        word: stop.here.word,
+        closed: stop.closed,
+    };
+    match cross(stack, size, funcs, codes, closure.words, budget, at) {
         Some(()) => None,
         None => write(
             stack,
@@ -106,7 +104,7 @@ pub(crate) fn write(
     budget: &mut u64,
     co: CoroId,
     string_meta: Option<TableId>,
-    stop: Stop,
+    stop: Halt,
 ) -> Option<Here>
     requires top { HasLuaTop stack.old }
     requires codes { HaveCode funcs.now.objects codes.now }
@@ -224,133 +222,5 @@ fn store(
     match store_open(stack, closure.words, closure.upvalues, cells, co, here) {
         Some(()) => None,
         None => Some(here),
-    }
-}
-
-/// Calls a function, returns to a frame below, or writes extra arguments, where this changes nothing but the stack.
-#[inline(always)]
-pub(crate) fn cross(
-    stack: &mut Stack,
-    size: usize,
-    funcs: &Pool<Func>,
-    codes: &Codes,
-    words: &[Instruction],
-    budget: &mut u64,
-    stop: Stop,
-) -> Option<()>
-    requires top { HasLuaTop stack.old }
-    requires codes { HaveCode funcs.now.objects codes.now }
-    requires closed { IfSome stop.closed (λ register. IsClosedFrom stack.old register) }
-    ensures crosses { IfSome result (λ _. CrossesOver stack.old stack.new size funcs.now.objects codes.now words.now stop.here.pc stop.here.word budget.old budget.new) }
-    ensures kept { IfNone result ((stack.new ≡ stack.old) × (budget.new ≡ budget.old)) }
-    ensures listed { stack.new.open_cells ≡ stack.old.open_cells }
-{
-    match cross_counted(stack, size, funcs, codes, words, budget, stop) {
-        Some(()) => Some(()),
-        None => spread(stack, size, funcs, codes, words, budget, stop),
-    }
-}
-
-/// Calls a function, returns to a frame below, or writes extra arguments, where no open list is taken.
-fn cross_counted(
-    stack: &mut Stack,
-    size: usize,
-    funcs: &Pool<Func>,
-    codes: &Codes,
-    words: &[Instruction],
-    budget: &mut u64,
-    stop: Stop,
-) -> Option<()>
-    requires top { HasLuaTop stack.old }
-    requires codes { HaveCode funcs.now.objects codes.now }
-    requires closed { IfSome stop.closed (λ register. IsClosedFrom stack.old register) }
-    ensures crosses { IfSome result (λ _. Crosses stack.old stack.new size funcs.now.objects codes.now words.now stop.here.pc stop.here.word budget.old budget.new) }
-    ensures kept { IfNone result ((stack.new ≡ stack.old) × (budget.new ≡ budget.old)) }
-    ensures listed { stack.new.open_cells ≡ stack.old.open_cells }
-{
-    match call_or_iterate(stack, size, funcs, codes, budget, stop) {
-        Some(()) => Some(()),
-        None => go_on(stack, funcs, codes, words, budget, stop),
-    }
-}
-
-/// Calls a function, or the iterator of a loop.
-fn call_or_iterate(
-    stack: &mut Stack,
-    size: usize,
-    funcs: &Pool<Func>,
-    codes: &Codes,
-    budget: &mut u64,
-    stop: Stop,
-) -> Option<()>
-    requires top { HasLuaTop stack.old }
-    requires codes { HaveCode funcs.now.objects codes.now }
-    requires closed { IfSome stop.closed (λ register. IsClosedFrom stack.old register) }
-    ensures calls { IfSome result (λ _. CallsOn stack.old stack.new size funcs.now.objects codes.now stop.here.word budget.old budget.new) }
-    ensures kept { IfNone result ((stack.new ≡ stack.old) × (budget.new ≡ budget.old)) }
-    ensures listed { stack.new.open_cells ≡ stack.old.open_cells }
-{
-    match call_function(
-        stack,
-        size,
-        funcs,
-        codes,
-        budget,
-        stop.here.word,
-        stop.closed,
-    ) {
-        Some(()) => Some(()),
-        None => call_iterator(
-            stack,
-            size,
-            funcs,
-            codes,
-            budget,
-            stop.here.word,
-            stop.closed,
-        ),
-    }
-}
-
-/// Writes extra arguments, calls a function in place of the frame on top, or returns from it.
-fn go_on(
-    stack: &mut Stack,
-    funcs: &Pool<Func>,
-    codes: &Codes,
-    words: &[Instruction],
-    budget: &mut u64,
-    stop: Stop,
-) -> Option<()>
-    requires top { HasLuaTop stack.old }
-    requires codes { HaveCode funcs.now.objects codes.now }
-    requires closed { IfSome stop.closed (λ register. IsClosedFrom stack.old register) }
-    ensures goes { IfSome result (λ _. GoesOn stack.old stack.new funcs.now.objects codes.now words.now stop.here.pc stop.here.word budget.old budget.new) }
-    ensures kept { IfNone result ((stack.new ≡ stack.old) × (budget.new ≡ budget.old)) }
-    ensures listed { stack.new.open_cells ≡ stack.old.open_cells }
-{
-    match write_varargs(stack, words, stop.here) {
-        Some(()) => Some(()),
-        None => leave(stack, funcs, codes, budget, stop),
-    }
-}
-
-/// Calls a function in place of the frame on top, or returns from it.
-fn leave(
-    stack: &mut Stack,
-    funcs: &Pool<Func>,
-    codes: &Codes,
-    budget: &mut u64,
-    stop: Stop,
-) -> Option<()>
-    requires top { HasLuaTop stack.old }
-    requires codes { HaveCode funcs.now.objects codes.now }
-    requires closed { IfSome stop.closed (λ register. IsClosedFrom stack.old register) }
-    ensures leaves { IfSome result (λ _. Leaves stack.old stack.new funcs.now.objects codes.now stop.here.word budget.old budget.new) }
-    ensures kept { IfNone result ((stack.new ≡ stack.old) × (budget.new ≡ budget.old)) }
-    ensures listed { stack.new.open_cells ≡ stack.old.open_cells }
-{
-    match tail_call_function(stack, funcs, codes, budget, stop.here.word, stop.closed) {
-        Some(()) => Some(()),
-        None => return_values(stack, funcs, codes, stop.here.word, stop.closed),
     }
 }

@@ -7,9 +7,9 @@ ghost use Rattle.machine_arms_tables.specs.Frame.{code};
 ghost use Rattle.machine_loop.specs.Running.{Running};
 ghost use Rattle.running_frame.specs.Inheriting.{Finds, GoesAmid, RunsAmid, metatable_number};
 
-use crate::calling::register_of;
 use crate::upvalues::{next, put};
 use code_core::{Instruction, Opcode, fetch};
+use frame_calls::register_of;
 use lua_heap::Strings;
 use lua_stack::Stack;
 use machine_arms_tables::Closure;

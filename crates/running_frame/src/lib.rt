@@ -4,22 +4,15 @@
 
 mod ahead;
 mod asking;
-mod calling;
 mod closing;
 mod crossing;
 mod filling;
 mod frames;
 mod inherited;
-mod iterating;
-mod listing;
-mod opening;
 mod place;
 mod remembering;
-mod returning;
-mod spreading;
 mod stack;
 mod storing;
-mod tail_calling;
 mod taking;
 mod upvalues;
 

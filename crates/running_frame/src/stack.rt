@@ -1,20 +1,21 @@
 // The frame on top of a stack, over the function that it runs.
 ghost use Rattle.std.specs.Prelude.{◌≡◌, IfNone, IfSome, true};
-ghost use Rattle.lua_stack.specs.Frames.{HasLuaTop};
 ghost use Rattle.machine_arms_tables.specs.Frame.{AreOpenAlike, code};
 ghost use Rattle.machine_focus.specs.Focus.{Reaches};
 ghost use Rattle.machine_loop.specs.Knowing.{AllHold};
 ghost use Rattle.machine_loop.specs.Running.{ClosesNothing, Running};
 ghost use Rattle.running_frame.specs.Inheriting.{GoesWith, RunsWith, metatable_number};
-ghost use Rattle.running_frame.specs.Standing.{IsAboveLast, IsClosedFrom, IsHereIn, MayRun, RunsAt, standing};
+ghost use Rattle.frame_calls.specs.Standing.{IsClosedFrom, MayRun, RunsAt, standing};
+ghost use Rattle.running_frame.specs.Apart.{IsHereIn};
 
 use crate::closing::pass_close;
 use crate::inherited::read_inherited;
 use crate::place::{Here, here_at, is_none};
 use crate::remembering::remember;
 use crate::upvalues::{read_once, read_open};
+use frame_calls::closed_from;
 use lua_heap::{Cell, Strings};
-use lua_stack::{OpenCell, Stack};
+use lua_stack::Stack;
 use machine_arms_tables::Closure;
 use machine_loop::{Memo, run_frame};
 use object_pool::Pool;
@@ -26,7 +27,7 @@ const ROUNDS: u64 = 128;
 
 /// Where the frame on top stops, and from which register on nothing of it is open or to be closed, where that is known.
 #[derive(Clone, Copy, Debug)]
-pub(crate) struct Stop {
+pub(crate) struct Halt {
     pub(crate) here: Here,
     pub(crate) closed: Option<usize>,
 }
@@ -41,7 +42,7 @@ pub(crate) fn run_stack(
     budget: &mut u64,
     co: CoroId,
     string_meta: Option<TableId>,
-) -> Stop
+) -> Halt
     ghost g: { Running }
     requires may { MayRun g (code closure strings.now) stack.old tables.old.objects cells.old.objects budget.old }
     requires own { co.0 ≡ g.around.context.coroutine }
@@ -57,7 +58,7 @@ pub(crate) fn run_stack(
     let runs = is_none(stack.wait());
     if !runs {
         let here = here_at(closure.words, start, false);
-        return Stop { here, closed: None };
+        return Halt { here, closed: None };
     }
     let closed = closed_from(stack);
     let here = run_on_top(
@@ -72,7 +73,7 @@ pub(crate) fn run_stack(
         closed,
         start,
     );
-    Stop { here, closed }
+    Halt { here, closed }
 }
 
 /// Runs the frame on top, which does not wait.
@@ -328,52 +329,4 @@ fn run_once(
     );
     stack.set_pc(pc);
     pc
-}
-
-/// From which register on no cell of the frame on top is open. None is said where a variable there is still to be closed.
-#[inline(always)]
-pub(crate) fn closed_from(stack: &mut Stack) -> Option<usize>
-    requires { HasLuaTop stack.old }
-    ensures kept { stack.new ≡ stack.old }
-    ensures closed { IfSome result (λ register. IsClosedFrom stack.new register) }
-{
-    if stack.is_bare() {
-        return Some(0);
-    }
-    closed_above(stack)
-}
-
-/// From which register on, where some cell of that frame is open or some variable of it is to be closed.
-#[inline(never)]
-fn closed_above(stack: &mut Stack) -> Option<usize>
-    requires { HasLuaTop stack.old }
-    ensures kept { stack.new ≡ stack.old }
-    ensures closed { IfSome result (λ register. IsClosedFrom stack.new register) }
-{
-    let register = above_last(stack.open_cells(), stack.len() - 1)?;
-    match stack.take_cell_from(register) {
-        // Open cells stand in the order of their frames and registers.
-        Some(_) => unreachable!(),
-        None => {}
-    }
-    match stack.last_pending(register) {
-        Some(_) => None,
-        None => Some(register),
-    }
-}
-
-/// The register above that of the last open cell, where it is one of this frame; else the first register.
-#[inline(always)]
-fn above_last(cells: &[OpenCell], frame: usize) -> Option<usize>
-    ensures { IfSome result (λ register. IsAboveLast cells.now frame register) }
-{
-    let count = cells.len();
-    if count == 0 {
-        return Some(0);
-    }
-    let last = cells[count - 1];
-    if last.frame != frame {
-        return Some(0);
-    }
-    last.register.checked_add(1)
 }

@@ -5,11 +5,10 @@ ghost use Rattle.lua_stack.specs.Frames.{HasLuaTop};
 ghost use Rattle.running_frame.specs.Storing.{StandsBelow, StoresOpen, is_store};
 ghost use Rattle.running_frame.specs.Upvalues.{ListsOpen};
 
-use crate::calling::register_of;
-use crate::listing::behind;
 use crate::place::Here;
 use crate::upvalues::cell_of;
 use code_core::{Instruction, Opcode};
+use frame_calls::{behind, register_of};
 use lua_heap::Cell;
 use lua_stack::{OpenCell, Stack};
 use object_pool::Pool;

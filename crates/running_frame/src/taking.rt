@@ -1,5 +1,5 @@
 // Results that move to a Lua frame which waits for a call and takes at most two values: it goes on with them (luaD_poscall of ldo.c).
-ghost use Rattle.std.specs.Prelude.{◌≡◌, ℕ, [], IfNone, IfSome, length, map, true};
+ghost use Rattle.std.specs.Prelude.{◌≡◌, ℕ, [], IfNone, IfSome, length, true};
 ghost use Rattle.lua_heap.specs.Plain.{plain};
 ghost use Rattle.lua_stack.specs.Frames.{HasLuaTop};
 ghost use Rattle.library_rows.specs.Library.{all_entries};
@@ -7,20 +7,16 @@ ghost use Rattle.machine_core.specs.Moves.{Row, go};
 ghost use Rattle.machine_focus.specs.Focus.{Reaches};
 ghost use Rattle.move_laws.specs.Memory.{InOrder};
 ghost use Rattle.step_laws.specs.Steps.{IsReady};
-ghost use Rattle.running_frame.specs.Calling.{HaveCode};
-ghost use Rattle.running_frame.specs.Returning.{AreFirst, ReadsAt};
+ghost use Rattle.frame_calls.specs.Calling.{HaveCode};
 ghost use Rattle.running_frame.specs.Taking.{IsWaiting, Takes, TakesAll, TakesOnTop, TakesSo};
 
-use crate::calling::register_of;
-use crate::opening::list_taker_of;
 use crate::place::{is_none, is_running};
-use crate::returning::{Given, hand, taker_of};
+use frame_calls::{Given, first_two, hand, list_taker_of, taker_of};
 use lua_heap::law::checked_code_is_there;
 use lua_heap::{Codes, Coro, Func, World};
 use lua_stack::{LuaState, Stack};
 use machine_moves::running;
 use object_pool::Pool;
-use table_core::Value;
 
 /// Whether nothing moves, or what moves is taken by the Lua frame on top: a step of the machine then.
 pub(crate) fn is_taken(world: &mut World) -> bool
@@ -65,25 +61,6 @@ fn take_moving(world: &mut World) -> Option<()>
     take_on_top(world, given, count)?;
     world.moving.clear();
     Some(())
-}
-
-/// The first two of some values, nil where there are fewer.
-pub(crate) fn first_two(values: &[Value]) -> Given
-    ensures { AreFirst (λ f. map f values.now) result }
-{
-    let first = value_or_nil(values, 0);
-    let second = value_or_nil(values, 1);
-    Given { first, second }
-}
-
-/// The value at a place, or nil.
-fn value_or_nil(values: &[Value], at: usize) -> Value
-    ensures { ReadsAt values.now at result }
-{
-    match register_of(values, at) {
-        Some(value) => value,
-        None => Value::Nil,
-    }
 }
 
 /// The frame on top of the stack that runs takes what it wants of so many values, of which these are the first two.

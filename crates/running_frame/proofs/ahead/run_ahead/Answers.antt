@@ -1,7 +1,7 @@
 use Rattle.std.proofs.Common.{length}
 use Rattle.library_rows.specs.Library.{all_entries}
 use Rattle.running_frame.proofs.Apart.{ready_there}
-use Rattle.running_frame.proofs.Chained.{reaches_then}
+use Rattle.frame_calls.proofs.Chained.{reaches_then}
 use Rattle.running_frame.proofs.ahead.run_ahead.Goals as goal
 
 pub find_here-requires : goal.find_here-requires

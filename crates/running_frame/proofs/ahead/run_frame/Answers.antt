@@ -1,7 +1,7 @@
 use Rattle.std.proofs.Common.{length, ap}
 use Rattle.library_rows.specs.Library.{all_entries}
 use Rattle.step_laws.proofs.Ready.{go_has_frame}
-use Rattle.running_frame.specs.Standing.{apart, place_or_any}
+use Rattle.running_frame.specs.Apart.{apart, place_or_any}
 use Rattle.running_frame.proofs.Apart.{ready_there}
 use Rattle.running_frame.proofs.ahead.run_frame.Goals as goal
 

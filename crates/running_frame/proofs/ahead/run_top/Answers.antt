@@ -8,8 +8,9 @@ use Rattle.machine_moves.proofs.OfCode.{function_kept, function_there}
 use Rattle.machine_moves.proofs.Stacks.{within, with_stack}
 use Rattle.machine_moves.proofs.InPlace.{found, top_found}
 use Rattle.machine_arms_tables.specs.Frame.{Code as LoopCode}
-use Rattle.running_frame.specs.Calling.{AreFunctions}
-use Rattle.running_frame.specs.Standing.{IsHereIn, MayRun, standing}
+use Rattle.frame_calls.specs.Calling.{AreFunctions}
+use Rattle.frame_calls.specs.Standing.{MayRun, standing}
+use Rattle.running_frame.specs.Apart.{IsHereIn}
 use Rattle.running_frame.proofs.Apart.{are_functions, of_held, may_run, here_in, went, number_there, code_says, cells_are, with_parts, listed_alike}
 use Rattle.running_frame.proofs.ahead.run_top.Goals as goal
 

@@ -2,7 +2,7 @@ use Rattle.std.proofs.Common.{◌≡◌, [], ◌∷◌, ap, subst, ◌∙◌, ru
 use Rattle.machine_core.specs.World.{running}
 use Rattle.lua_stack.specs.Frames.{Enters, KeptStack, TopBecomes, with_wait}
 use Rattle.running_frame.proofs.Handlers.{runs_again, same_top}
-use Rattle.running_frame.proofs.Listed.{written_on_top}
+use Rattle.frame_calls.proofs.Listed.{written_on_top}
 use Rattle.running_frame.proofs.asking.enter_over.Goals as goal
 
 pub returns-in-Ok-clause-enters : goal.returns-in-Ok-clause-enters

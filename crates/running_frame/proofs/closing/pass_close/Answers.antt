@@ -1,7 +1,7 @@
 use Rattle.std.proofs.Common.{◌≡◌, sym, ◌∙◌, arith, rules, true}
 use Rattle.code_core.specs.Instruction.{opcode_of}
 use Rattle.machine_arms_tables.specs.Frame.{code}
-use Rattle.running_frame.proofs.Listed.{kept_top}
+use Rattle.frame_calls.proofs.Listed.{kept_top}
 use Rattle.running_frame.proofs.Passed.{close_goes, close_is, lua_on_top, next_inside}
 use Rattle.running_frame.proofs.closing.pass_close.Goals as goal
 

@@ -3,10 +3,10 @@ use Rattle.lua_heap.specs.Reading.{value}
 use Rattle.lua_stack.specs.Frames.{HasLuaTop, KeptStack}
 use Rattle.machine_arms_tables.specs.Frame.{code}
 use Rattle.running_frame.specs.Inheriting.{metatable_number}
-use Rattle.running_frame.specs.Standing.{RunsAt, standing}
+use Rattle.frame_calls.specs.Standing.{RunsAt, standing}
 use Rattle.running_frame.specs.Upvalues.{ListsOpen}
 use Rattle.running_frame.specs.declared.place.Here.{Here}
-use Rattle.running_frame.proofs.Chained.{reaches_none}
+use Rattle.frame_calls.proofs.Chained.{reaches_none}
 use Rattle.running_frame.proofs.FilledOne.{written_or_not}
 use Rattle.running_frame.proofs.OnStack.{place_within}
 use Rattle.running_frame.proofs.OpenRead.{lists_open}

@@ -1,4 +1,4 @@
-use Rattle.running_frame.proofs.Chained.{reaches_none, reaches_then}
+use Rattle.frame_calls.proofs.Chained.{reaches_none, reaches_then}
 use Rattle.running_frame.proofs.crossing.cross_all.Goals as goal
 
 pub loop-init : goal.loop-init

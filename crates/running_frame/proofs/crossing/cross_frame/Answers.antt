@@ -1,8 +1,8 @@
 use Rattle.std.proofs.Common.{sym, ap, ◌∙◌}
 use Rattle.lua_heap.specs.Reading.{value}
 use Rattle.running_frame.specs.Here.{is_none}
-use Rattle.running_frame.specs.Standing.{standing}
-use Rattle.running_frame.proofs.Chained.{reaches_none}
+use Rattle.frame_calls.specs.Standing.{standing}
+use Rattle.frame_calls.proofs.Chained.{reaches_none}
 use Rattle.running_frame.proofs.Places.{none_is}
 use Rattle.running_frame.proofs.crossing.cross_frame.Goals as goal
 

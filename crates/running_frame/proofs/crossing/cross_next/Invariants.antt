@@ -1,7 +1,7 @@
 use Rattle.std.specs.Prelude.{length}
 use Rattle.library_rows.specs.Library.{all_entries}
 use Rattle.running_frame.specs.Crossing.{world_with}
-use Rattle.running_frame.specs.Standing.{held_apart}
+use Rattle.running_frame.specs.Apart.{held_apart}
 use Rattle.running_frame.proofs.crossing.cross_next.Given as goal
 
 abbrev pub ghost-cross_frame : goal.ghost-cross_frame

@@ -2,9 +2,9 @@ use Rattle.std.proofs.Common.{◌≡◌, inl, inr, refl, Some, sym, subst, ◌�
 use Rattle.std.specs.Prelude.{IfNone, IfSome, slice_get}
 use Rattle.std.proofs.lemmas.Option.{IfSome_then}
 use Rattle.lua_stack.specs.Frames.{HasLuaTop, KeptStack}
-use Rattle.running_frame.specs.Spreading.{CrossesOver}
+use Rattle.frame_calls.specs.Spreading.{CrossesOver}
 use Rattle.running_frame.specs.Storing.{StoresOpen}
-use Rattle.running_frame.proofs.Takers.{none_then}
+use Rattle.frame_calls.proofs.Takers.{none_then}
 use Rattle.running_frame.proofs.crossing.leave_frame.Goals as goal
 
 pub returns-in-Some-clause-leaves : goal.returns-in-Some-clause-leaves

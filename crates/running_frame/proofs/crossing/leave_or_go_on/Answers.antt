@@ -4,7 +4,7 @@ use Rattle.lua_heap.specs.Reading.{value}
 use Rattle.lua_stack.specs.Frames.{KeptStack}
 use Rattle.machine_arms_tables.specs.Frame.{code}
 use Rattle.machine_focus.specs.Focus.{Reaches}
-use Rattle.running_frame.specs.Standing.{RunsAt, standing}
+use Rattle.frame_calls.specs.Standing.{RunsAt, standing}
 use Rattle.running_frame.proofs.Left.{left_or_not}
 use Rattle.running_frame.proofs.OnStack.{place_within}
 use Rattle.running_frame.proofs.OpenRead.{lists_open}

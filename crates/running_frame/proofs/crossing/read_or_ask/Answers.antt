@@ -4,7 +4,7 @@ use Rattle.lua_stack.specs.Frames.{KeptStack}
 use Rattle.machine_arms_tables.specs.Frame.{code}
 use Rattle.machine_focus.specs.Focus.{Reaches}
 use Rattle.running_frame.specs.Inheriting.{GoesAmid}
-use Rattle.running_frame.specs.Standing.{RunsAt, standing}
+use Rattle.frame_calls.specs.Standing.{RunsAt, standing}
 use Rattle.running_frame.proofs.crossing.read_or_ask.Goals as goal
 
 pub read_inherited-requires : goal.read_inherited-requires

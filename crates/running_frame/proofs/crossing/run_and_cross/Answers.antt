@@ -1,5 +1,5 @@
 use Rattle.std.proofs.Common.{◌∙◌}
-use Rattle.running_frame.proofs.Chained.{reaches_then}
+use Rattle.frame_calls.proofs.Chained.{reaches_then}
 use Rattle.running_frame.proofs.Remembered.{nothing_holds}
 use Rattle.running_frame.proofs.crossing.run_and_cross.Goals as goal
 

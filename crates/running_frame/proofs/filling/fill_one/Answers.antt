@@ -5,8 +5,8 @@ use Rattle.lua_stack.specs.Frames.{TopBecomes, with_opened, with_pc, with_regist
 use Rattle.table_core.specs.declared.value.Value.TheVariants.{Table as a_table}
 use Rattle.running_frame.specs.Filling.{FillsTable}
 use Rattle.running_frame.proofs.FilledOne.{set_list_is}
-use Rattle.running_frame.proofs.Listed.{written_on_top}
-use Rattle.running_frame.proofs.Takers.{both_changes}
+use Rattle.frame_calls.proofs.Listed.{written_on_top}
+use Rattle.frame_calls.proofs.Takers.{both_changes}
 use Rattle.running_frame.proofs.filling.fill_one.Goals as goal
 
 pub end_list-requires-clause-there : goal.end_list-requires-clause-there

@@ -7,7 +7,7 @@ use Rattle.running_frame.specs.Inheriting.{metatable_number}
 use Rattle.running_frame.specs.Storing.{StoresOpen}
 use Rattle.running_frame.specs.declared.place.Here.{Here}
 use Rattle.running_frame.proofs.Handlers.{same_top}
-use Rattle.running_frame.proofs.Takers.{none_then}
+use Rattle.frame_calls.proofs.Takers.{none_then}
 use Rattle.running_frame.proofs.frames.reach_out.Goals as goal
 
 pub returns-in-None-clause-reaches : goal.returns-in-None-clause-reaches

@@ -5,14 +5,15 @@ use Rattle.lua_heap.specs.Reading.{value}
 use Rattle.lua_stack.specs.Frames.{HasLuaTop, KeptStack}
 use Rattle.machine_arms_tables.specs.Frame.{code}
 use Rattle.running_frame.specs.Inheriting.{metatable_number}
-use Rattle.running_frame.specs.Standing.{IsClosedFrom, IsHereIn}
+use Rattle.frame_calls.specs.Standing.{IsClosedFrom}
+use Rattle.running_frame.specs.Apart.{IsHereIn}
 use Rattle.running_frame.specs.Upvalues.{ListsOpen}
 use Rattle.running_frame.specs.declared.place.Here.{Here}
 use Rattle.running_frame.proofs.OpenRead.{lists_open}
-use Rattle.running_frame.proofs.SpreadCalls.{crossed_over_or_not}
+use Rattle.frame_calls.proofs.SpreadCalls.{crossed_over_or_not}
 use Rattle.running_frame.proofs.FilledOne.{written_or_not}
 use Rattle.running_frame.proofs.Handlers.{here_still}
-use Rattle.running_frame.proofs.Chained.{reaches_then}
+use Rattle.frame_calls.proofs.Chained.{reaches_then}
 use Rattle.running_frame.proofs.Places.{runs_where}
 use Rattle.running_frame.proofs.frames.run_frame_on_top.Goals as goal
 

@@ -8,7 +8,7 @@ use Rattle.running_frame.specs.Asking.{ReachesOut, ReadSame}
 use Rattle.running_frame.specs.Filling.{FillsOne}
 use Rattle.running_frame.specs.Inheriting.{metatable_number}
 use Rattle.running_frame.specs.Upvalues.{ListsOpen}
-use Rattle.running_frame.proofs.Takers.{none_then}
+use Rattle.frame_calls.proofs.Takers.{none_then}
 use Rattle.running_frame.proofs.frames.write.Goals as goal
 
 pub returns-in-Some-clause-writes : goal.returns-in-Some-clause-writes

@@ -2,8 +2,8 @@ use Rattle.std.proofs.Common.{refl, sym, subst}
 use Rattle.std.specs.Prelude.{IfSome}
 use Rattle.machine_arms_tables.specs.Frame.{code}
 use Rattle.machine_loop.specs.Knowing.{AllHold}
-use Rattle.running_frame.specs.Standing.{RunsAt, standing}
-use Rattle.running_frame.proofs.Chained.{reaches_none}
+use Rattle.frame_calls.specs.Standing.{RunsAt, standing}
+use Rattle.frame_calls.proofs.Chained.{reaches_none}
 use Rattle.running_frame.proofs.stack.go_between.Goals as goal
 
 pub remember-requires : goal.remember-requires

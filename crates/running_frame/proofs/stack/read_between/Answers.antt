@@ -4,10 +4,10 @@ use Rattle.std.proofs.lemmas.Option.{IfSome_then}
 use Rattle.lua_stack.specs.Frames.{KeptStack}
 use Rattle.machine_arms_tables.specs.Frame.{code}
 use Rattle.running_frame.specs.Inheriting.{RunsAmid}
-use Rattle.running_frame.specs.Standing.{RunsAt}
+use Rattle.frame_calls.specs.Standing.{RunsAt}
 use Rattle.running_frame.specs.Upvalues.{GoesOver}
 use Rattle.running_frame.proofs.FoundFields.{amid_goes, over_goes}
-use Rattle.running_frame.proofs.Takers.{none_then}
+use Rattle.frame_calls.proofs.Takers.{none_then}
 use Rattle.running_frame.proofs.stack.read_between.Goals as goal
 
 pub read_open-requires : goal.read_open-requires

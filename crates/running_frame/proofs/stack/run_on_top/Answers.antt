@@ -1,7 +1,7 @@
 use Rattle.std.proofs.Common.{ap, sym, subst, ◌∙◌, arith}
 use Rattle.machine_arms_tables.specs.Frame.{code}
 use Rattle.running_frame.specs.Here.{is_none}
-use Rattle.running_frame.specs.Standing.{RunsAt}
+use Rattle.frame_calls.specs.Standing.{RunsAt}
 use Rattle.running_frame.proofs.stack.run_on_top.Goals as goal
 
 pub here_at-requires : goal.here_at-requires

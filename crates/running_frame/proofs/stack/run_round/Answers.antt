@@ -4,8 +4,8 @@ use Rattle.machine_focus.specs.Focus.{Reaches}
 use Rattle.lua_stack.specs.Frames.{KeptStack}
 use Rattle.machine_loop.proofs.Recalled.{still_hold}
 use Rattle.running_frame.specs.Inheriting.{GoesWith}
-use Rattle.running_frame.specs.Standing.{RunsAt, standing}
-use Rattle.running_frame.proofs.Chained.{reaches_none, reaches_then}
+use Rattle.frame_calls.specs.Standing.{RunsAt, standing}
+use Rattle.frame_calls.proofs.Chained.{reaches_none, reaches_then}
 use Rattle.running_frame.proofs.FoundFields.{over_goes}
 use Rattle.running_frame.proofs.stack.run_round.Goals as goal
 

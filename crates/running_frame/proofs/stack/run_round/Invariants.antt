@@ -1,7 +1,7 @@
 use Rattle.std.proofs.Common.{◌≡◌}
 use Rattle.machine_arms_tables.specs.Frame.{AreOpenAlike, code}
 use Rattle.machine_focus.specs.Focus.{Reaches}
-use Rattle.running_frame.specs.Standing.{RunsAt, standing}
+use Rattle.frame_calls.specs.Standing.{RunsAt, standing}
 use Rattle.running_frame.proofs.stack.run_round.Given as goal
 
 abbrev pub ghost-run_once : goal.ghost-run_once

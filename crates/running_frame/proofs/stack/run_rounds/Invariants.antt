@@ -2,7 +2,7 @@ use Rattle.std.proofs.Common.{◌≡◌}
 use Rattle.machine_focus.specs.Focus.{Reaches}
 use Rattle.machine_arms_tables.specs.Frame.{AreOpenAlike, code}
 use Rattle.machine_loop.specs.Knowing.{AllHold}
-use Rattle.running_frame.specs.Standing.{RunsAt, standing}
+use Rattle.frame_calls.specs.Standing.{RunsAt, standing}
 use Rattle.running_frame.proofs.stack.run_rounds.Given as goal
 
 abbrev pub ghost-run_once : goal.ghost-run_once

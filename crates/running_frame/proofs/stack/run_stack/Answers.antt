@@ -5,8 +5,8 @@ use Rattle.lua_heap.specs.Reading.{value}
 use Rattle.lua_stack.specs.Frames.{KeptStack, frames}
 use Rattle.machine_core.specs.World.{lua}
 use Rattle.running_frame.specs.Here.{is_none}
-use Rattle.running_frame.specs.Standing.{MayRun, RunsAt, standing}
-use Rattle.running_frame.proofs.Closed.{closes_nothing, still_closed}
+use Rattle.frame_calls.specs.Standing.{MayRun, RunsAt, standing}
+use Rattle.frame_calls.proofs.Closed.{closes_nothing, still_closed}
 use Rattle.running_frame.proofs.Places.{none_is}
 use Rattle.running_frame.proofs.stack.run_stack.Goals as goal
 

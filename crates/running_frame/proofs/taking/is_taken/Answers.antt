@@ -6,7 +6,7 @@ use Rattle.lua_heap.specs.Plain.{plain}
 use Rattle.machine_core.specs.Moves.{Row}
 use Rattle.machine_focus.specs.Focus.{Reaches}
 use Rattle.step_laws.proofs.Ready.{go_has_frame}
-use Rattle.running_frame.proofs.Chained.{reaches_none}
+use Rattle.frame_calls.proofs.Chained.{reaches_none}
 use Rattle.running_frame.proofs.taking.is_taken.Goals as goal
 
 pub is_running-runs-requires : goal.is_running-runs-requires

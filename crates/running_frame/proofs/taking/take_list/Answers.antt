@@ -1,6 +1,6 @@
 use Rattle.std.proofs.Common.{◌∙◌}
 use Rattle.running_frame.proofs.Taken.{waiting_kept}
-use Rattle.running_frame.proofs.Takers.{both_changes, top_after}
+use Rattle.frame_calls.proofs.Takers.{both_changes, top_after}
 use Rattle.running_frame.proofs.taking.take_list.Goals as goal
 
 pub hand-requires : goal.hand-requires

@@ -1,7 +1,7 @@
 use Rattle.std.proofs.Common.{◌≡◌, [], length, map, refl, rules, subst}
 use Rattle.library_rows.specs.Library.{all_entries}
 use Rattle.lua_heap.specs.declared.world.World.{World as Memory}
-use Rattle.running_frame.specs.Returning.{AreFirst}
+use Rattle.frame_calls.specs.Returning.{AreFirst}
 use Rattle.running_frame.proofs.Taken.{taken_reaches}
 use Rattle.running_frame.proofs.taking.take_moving.Goals as goal
 

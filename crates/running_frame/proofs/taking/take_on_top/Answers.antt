@@ -10,7 +10,7 @@ use Rattle.machine_moves.proofs.Stacks.{with_stack, within}
 use Rattle.machine_moves.proofs.InPlace.{found, top_found}
 use Rattle.step_laws.proofs.Ready.{go_has_frame}
 use Rattle.running_frame.proofs.Apart.{are_functions}
-use Rattle.running_frame.proofs.Takers.{none_then}
+use Rattle.frame_calls.proofs.Takers.{none_then}
 use Rattle.running_frame.proofs.taking.take_on_top.Goals as goal
 
 pub running-co-requires : goal.running-co-requires

@@ -3,7 +3,7 @@ use Rattle.std.specs.Prelude.{IfNone, IfSome}
 use Rattle.std.proofs.lemmas.Option.{IfSome_then}
 use Rattle.lua_stack.specs.Frames.{HasLuaTop, KeptStack}
 use Rattle.running_frame.specs.Taking.{IsWaiting, Takes, TakesAll}
-use Rattle.running_frame.proofs.Takers.{none_then}
+use Rattle.frame_calls.proofs.Takers.{none_then}
 use Rattle.running_frame.proofs.taking.take_waiting.Goals as goal
 
 pub returns-in-Some-clause-takes : goal.returns-in-Some-clause-takes

@@ -1,0 +1,10 @@
+use Rattle.std.proofs.Common.{◌≡◌, inl, inr, refl}
+use Rattle.std.proofs.lemmas.Option.{IfSome_then}
+use Rattle.frame_calls.proofs.Takers.{none_then}
+use Rattle.frame_calls.proofs.crossing.cross_otherwise.Goals as goal
+
+pub returns-then-is_vararg-clause-crosses : goal.returns-then-is_vararg-clause-crosses
+returns-then-is_vararg-clause-crosses c = IfSome_then c.write_there.result c.write_there.ensures.writes (λ o x. inl (inr (inl (x, refl))))
+
+pub returns-then-is_vararg-clause-kept : goal.returns-then-is_vararg-clause-kept
+returns-then-is_vararg-clause-kept c = none_then c.write_there.result (λ (e : c.write_there.new.stack ≡ c.args.stack.now). (e, refl)) c.write_there.ensures.kept

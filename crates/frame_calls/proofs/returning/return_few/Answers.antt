@@ -1,0 +1,10 @@
+use Rattle.std.proofs.lemmas.Option.{IfSome_then}
+use Rattle.frame_calls.proofs.returning.return_few.Goals as goal
+
+pub return_counted-requires-clause-closed : goal.return_counted-requires-clause-closed
+return_counted-requires-clause-closed c = record { none = c.is_bare-bare.ensures.cells c.if-not-bare.false; pending = c.is_bare-bare.ensures.pending c.if-not-bare.false }
+
+pub returns-clause-returns : goal.returns-clause-returns
+returns-clause-returns c =
+    IfSome_then c.return_counted.result c.return_counted.ensures.gives
+    (λ o x. record { count = c.args.count; is = c.requires.says; gives_back = x })

@@ -1,0 +1,6 @@
+pub mod Standing
+pub mod Calling
+pub mod Listing
+pub mod Returning
+pub mod Opening
+pub mod Spreading

@@ -1,0 +1,166 @@
+// Calls of Lua functions with arguments in registers, which change nothing but the stack (luaD_precall of ldo.c, OP_CALL of lvm.c).
+ghost use Rattle.std.specs.Prelude.{◌≡◌, ◌≤◌, IfNone, IfSome, slice_get, true};
+ghost use Rattle.code_core.specs.Instruction.{opcode_of};
+ghost use Rattle.lua_stack.specs.Frames.{HasLuaTop, HasRegisters, NoneFrom};
+ghost use Rattle.frame_calls.specs.Calling.{CallsIn, EntersIn, HasShapeIn, HaveCode, HoldsCallee, is_call, one_less};
+ghost use Rattle.frame_calls.specs.Standing.{IsClosedFrom};
+
+use code_core::{Instruction, Opcode};
+use lua_heap::{Codes, Func};
+use lua_stack::{GREATEST_DEPTH, Shape, Stack, Wait};
+use object_pool::Pool;
+use table_core::{FuncId, Value};
+
+/// A CALL that gives a Lua function its arguments in registers, for a unit of the budget: the function's frame is on top. `size` is the number of registers
+/// of the caller's code. `None`, with all as before, at any other instruction, and where the call takes more than the stack. From the register `closed` on
+/// nothing of the frame on top is open or to be closed.
+#[inline(always)]
+pub(crate) fn call_function(
+    stack: &mut Stack,
+    size: usize,
+    funcs: &Pool<Func>,
+    codes: &Codes,
+    budget: &mut u64,
+    i: Instruction,
+    closed: Option<usize>,
+) -> Option<()>
+    requires top { HasLuaTop stack.old }
+    requires codes { HaveCode funcs.now.objects codes.now }
+    requires closed { IfSome closed (λ register. IsClosedFrom stack.old register) }
+    ensures calls { IfSome result (λ _. CallsIn stack.old stack.new size funcs.now.objects codes.now i budget.old budget.new) }
+    ensures kept { IfNone result ((stack.new ≡ stack.old) × (budget.new ≡ budget.old)) }
+    ensures listed { stack.new.open_cells ≡ stack.old.open_cells }
+{
+    if !is_call(i) {
+        return None;
+    }
+    let left = budget.checked_sub(1)?;
+    enter(stack, size, funcs, codes, i, closed)?;
+    *budget = left;
+    Some(())
+}
+
+/// Enters it, where no cell is open at a register that the frame gives up.
+#[inline(always)]
+fn enter(
+    stack: &mut Stack,
+    size: usize,
+    funcs: &Pool<Func>,
+    codes: &Codes,
+    i: Instruction,
+    closed: Option<usize>,
+) -> Option<()>
+    requires top { HasLuaTop stack.old }
+    requires codes { HaveCode funcs.now.objects codes.now }
+    requires closed { IfSome closed (λ register. IsClosedFrom stack.old register) }
+    ensures enters { IfSome result (λ _. EntersIn stack.old stack.new size funcs.now.objects codes.now i) }
+    ensures kept { IfNone result (stack.new ≡ stack.old) }
+    ensures listed { stack.new.open_cells ≡ stack.old.open_cells }
+{
+    if stack.len() >= GREATEST_DEPTH {
+        return None;
+    }
+    let register = i.a() as usize;
+    let given = one_less(i.b())?;
+    let id = callee(stack.registers(), register, given)?;
+    let shape = shape_of(funcs, codes, id)?;
+    if !may_give_up(stack, register, size, register, closed) {
+        return None;
+    }
+    match stack.call_in_place(register, given, Wait::ForCall, size, id, shape) {
+        Ok(()) => Some(()),
+        Err(_) => None,
+    }
+}
+
+/// The Lua function in a register, where so many registers are after it.
+#[inline(always)]
+pub(crate) fn callee(registers: &[Value], register: usize, given: usize) -> Option<FuncId>
+    ensures { IfSome result (λ id. HoldsCallee registers.now register given id) }
+{
+    let end = register.checked_add(1)?.checked_add(given)?;
+    if end > registers.len() {
+        return None;
+    }
+    match register_of(registers, register)? {
+        Value::Func(id) => Some(id),
+        _ => None,
+    }
+}
+
+/// The value of a register, where it is there.
+#[inline(always)]
+pub fn register_of(registers: &[Value], register: usize) -> Option<Value>
+    ensures { result ≡ slice_get registers.now register }
+{
+    registers.get(register).copied()
+}
+
+/// What a call needs to know of a function's code.
+#[inline(always)]
+pub fn shape_of(funcs: &Pool<Func>, codes: &Codes, id: FuncId) -> Option<Shape>
+    requires { HaveCode funcs.now.objects codes.now }
+    ensures { IfSome result (λ shape. HasShapeIn funcs.now.objects codes.now id shape) }
+{
+    if id.0 >= funcs.len() {
+        return None;
+    }
+    let code = codes.get(funcs.get(id.0).code);
+    if code.params > code.stack {
+        return None;
+    }
+    Some(Shape {
+        params: code.params as usize,
+        vararg: code.vararg,
+        stack: code.stack as usize,
+    })
+}
+
+/// Whether the frame on top may give its registers from one on up: it has all those of its code, and nothing is open from the register `free` on.
+#[inline(always)]
+pub fn may_give_up(
+    stack: &Stack,
+    register: usize,
+    size: usize,
+    free: usize,
+    closed: Option<usize>,
+) -> bool
+    requires top { HasLuaTop stack.now }
+    requires closed { IfSome closed (λ register. IsClosedFrom stack.now register) }
+    ensures within { result ≡ true → register ≤ size }
+    ensures there { result ≡ true → HasRegisters stack.now size }
+    ensures closed { result ≡ true → NoneFrom stack.now free }
+{
+    if register > size {
+        return false;
+    }
+    if size > stack.registers().len() {
+        return false;
+    }
+    match closed {
+        Some(first) => first <= free,
+        None => false,
+    }
+}
+
+/// One less than a number of values that is counted from one, as instructions count them.
+#[inline(always)]
+pub(crate) fn one_less(n: u8) -> Option<usize>
+    ensures { result ≡ one_less n }
+{
+    if n == 0 {
+        return None;
+    }
+    Some(n as usize - 1)
+}
+
+/// Whether an instruction is a CALL.
+#[inline(always)]
+pub(crate) fn is_call(i: Instruction) -> bool
+    ensures { result ≡ is_call (opcode_of i) }
+{
+    match i.opcode() {
+        Some(Opcode::Call) => true,
+        _ => false,
+    }
+}

@@ -1,0 +1,114 @@
+// Returns to a Lua frame whose CALL takes all values that come as an open list (luaD_poscall of ldo.c, OP_CALL of lvm.c, where C is 0).
+ghost use Rattle.std.specs.Prelude.{◌≡◌, IfNone, IfSome, true};
+ghost use Rattle.code_core.specs.Instruction.{c_of, opcode_of};
+ghost use Rattle.lua_stack.specs.Frames.{HasLuaTop};
+ghost use Rattle.lua_stack.specs.declared.frame.Wait.TheVariants.{ForCall};
+ghost use Rattle.frame_calls.specs.Calling.{HaveCode, is_call};
+ghost use Rattle.frame_calls.specs.Opening.{IsListTaker, ReturnsList, TakesListIn};
+ghost use Rattle.frame_calls.specs.Standing.{IsClosedFrom};
+
+use crate::returning::{Taker, caller_of, count_returned, hand, is_first, returned_from};
+use code_core::{Instruction, Opcode, fetch};
+use lua_heap::{Codes, Func};
+use lua_stack::{LuaState, Stack, Wait};
+use object_pool::Pool;
+
+/// A return of at most two values to a Lua frame whose CALL takes all that come: they are an open list there, and that frame runs again behind its instruction.
+/// `None`, with all as before, at any other instruction, and where the return takes more than the stack. From the register `closed` on nothing of the frame on top
+/// is open or to be closed.
+pub(crate) fn return_list(
+    stack: &mut Stack,
+    funcs: &Pool<Func>,
+    codes: &Codes,
+    i: Instruction,
+    closed: Option<usize>,
+) -> Option<()>
+    requires top { HasLuaTop stack.old }
+    requires closed { IfSome closed (λ register. IsClosedFrom stack.old register) }
+    requires codes { HaveCode funcs.now.objects codes.now }
+    ensures returns { IfSome result (λ _. ReturnsList stack.old stack.new funcs.now.objects codes.now i) }
+    ensures kept { IfNone result (stack.new ≡ stack.old) }
+    ensures listed { stack.new.open_cells ≡ stack.old.open_cells }
+{
+    let count = count_returned(i)?;
+    if !is_first(closed) {
+        return None;
+    }
+    let given = returned_from(stack.registers(), i.a() as usize, count)?;
+    let caller = caller_of(stack)?;
+    let taker = list_taker_of(funcs, codes, caller, count)?;
+    stack.pop();
+    hand(stack, taker, given);
+    stack.set_opened(count);
+    Some(())
+}
+
+/// What a frame that waits takes of so many values, where it takes all.
+pub fn list_taker_of(
+    funcs: &Pool<Func>,
+    codes: &Codes,
+    caller: LuaState,
+    count: usize,
+) -> Option<Taker>
+    requires { HaveCode funcs.now.objects codes.now }
+    ensures { IfSome result (λ t. TakesListIn funcs.now.objects codes.now caller count t) }
+{
+    if caller.function.0 >= funcs.len() {
+        return None;
+    }
+    let code = codes.get(funcs.get(caller.function.0).code);
+    list_taker_in(&code.words, caller, count)
+}
+
+/// What the instruction at its place in these words takes of them.
+fn list_taker_in(words: &[Instruction], caller: LuaState, count: usize) -> Option<Taker>
+    ensures { IfSome result (λ t. IsListTaker words.now caller count t) }
+{
+    let to = caller.pc.checked_add(1)?;
+    if to >= words.len() {
+        return None;
+    }
+    if count > 2 {
+        return None;
+    }
+    let i = fetch(words, caller.pc);
+    if !is_opening_call(i) {
+        return None;
+    }
+    if !waits_for_call(caller.wait) {
+        return None;
+    }
+    let register = i.a() as usize;
+    if register >= caller.size {
+        return None;
+    }
+    let end = register.checked_add(count)?;
+    if end > caller.size {
+        return None;
+    }
+    Some(Taker {
+        register,
+        count,
+        to,
+    })
+}
+
+/// Whether an instruction is a CALL that opens a list.
+fn is_opening_call(i: Instruction) -> bool
+    ensures { result ≡ true → (is_call (opcode_of i) ≡ true) × (c_of i ≡ 0) }
+{
+    match i.opcode() {
+        Some(Opcode::Call) => i.c() == 0,
+        _ => false,
+    }
+}
+
+/// Whether a frame waits for a call.
+fn waits_for_call(wait: Wait) -> bool
+    ensures { result ≡ true → wait ≡ ForCall }
+{
+    match wait {
+        Wait::ForCall => true,
+        _ => false,
+    }
+}

@@ -1,4 +1,0 @@
-use Rattle.running_frame.proofs.opening.waits_for_call.Goals as goal
-
-pub returns-in-ForCall : goal.returns-in-ForCall
-returns-in-ForCall c = λ yes. c.in-ForCall.is

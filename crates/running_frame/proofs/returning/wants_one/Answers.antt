@@ -1,5 +1,0 @@
-use Rattle.std.proofs.Common.{arith, rules}
-use Rattle.running_frame.proofs.returning.wants_one.Goals as goal
-
-pub returns : goal.returns
-returns c = λ yes. search (rules, arith)

@@ -1,4 +1,0 @@
-use Rattle.running_frame.proofs.stack.closed_from.Goals as goal
-
-pub returns-then-is_bare-clause-closed : goal.returns-then-is_bare-clause-closed
-returns-then-is_bare-clause-closed c = record { none = c.is_bare.ensures.cells c.if-is_bare.true; pending = c.is_bare.ensures.pending c.if-is_bare.true }
