@@ -1,7 +1,7 @@
 use Rattle.std.proofs.Common.{◌∙◌, ap}
 use Rattle.std.specs.Prelude.{slice_set}
 use Rattle.machine_arms_tables.proofs.Leading.{below}
-use Rattle.machine_arms_tables.proofs.closure.Closure.store.Goals as goal
+use Rattle.machine_arms_tables.proofs.site.Site.store.Goals as goal
 
 pub set_register-requires : goal.set_register-requires
 set_register-requires c = below c.a.ensures c.requires.there
