@@ -1,5 +1,5 @@
 -- Rows of jumps and loops.
-use Rattle.std.proofs.Common.{◌≡◌, ℕ, zero, suc, ◌+◌, ◌-◌, ◌<◌, ◌≤◌, List, [], ◌++◌, length, Option, Some, None, refl, ap, sym, ◌∙◌, subst, arith, Bool, true, false}
+use Rattle.std.proofs.Common.{◌≡◌, ℕ, suc, ◌+◌, ◌-◌, ◌<◌, ◌≤◌, List, [], ◌++◌, length, Option, Some, None, refl, ap, sym, ◌∙◌, subst, arith, Bool, true, false}
 use Rattle.code_core.specs.declared.instruction.Instruction.{Instruction}
 use Rattle.lua_heap.specs.Reading.{value}
 use Rattle.machine_view.specs.View.{Around, held, IsAt, Goes}

@@ -11,21 +11,22 @@ use Rattle.machine_view.proofs.Going.{going, at_next, at_second, at_either, goes
 use Rattle.table_core.specs.declared.value.Value.{Value as Kept}
 use Rattle.std.specs.Prelude.{◌⊎◌, ℤ, int_lt, int_le, cond, slice_get, slice_set, IsTrue, ◌==◌}
 use Rattle.code_core.specs.Fields.{registers, constants, second_half, is_return, integer as an_integer}
-use Rattle.code_core.specs.Instruction.{a_of, b_of, c_of, k_of, sb_of}
+use Rattle.code_core.specs.Instruction.{a_of, b_of, c_of, k_of, sb_of, sc_of}
 use Rattle.code_core.specs.Prototype.{Prototype}
-use Rattle.code_core.specs.declared.opcode.Opcode.TheVariants.{AddK, SubK, MulK, ModK, IDivK, BAndK, BOrK, BXorK, Add, Sub, Mul, Mod, IDiv, BAnd, BOr, BXor, Shl, Shr, MmBin, MmBinI, MmBinK, Jmp, Eq, Lt, Le, EqK, EqI, LtI, LeI, GtI, GeI}
+use Rattle.code_core.specs.declared.opcode.Opcode.TheVariants.{AddI, ShrI, ShlI, Unm, BNot, AddK, SubK, MulK, ModK, IDivK, BAndK, BOrK, BXorK, Add, Sub, Mul, Mod, IDiv, BAnd, BOr, BXor, Shl, Shr, MmBin, MmBinI, MmBinK, Jmp, Eq, Lt, Le, EqK, EqI, LtI, LeI, GtI, GeI}
 use Rattle.int_core.specs.Heap.{Heap}
 use Rattle.int_core.specs.Value.{Value, known, integer, shape, same_truth, bind, same}
-use Rattle.int_core.specs.Operations.{Event, of_add, of_sub, of_mul, of_mod, of_idiv, of_band, of_bor, of_bxor, of_shl, of_shr, computed, arithmetic, less, less_equal, found, truth, equal_on, by_zero}
+use Rattle.int_core.specs.Operations.{Event, Settled, fault, of_unm, of_bnot, of_add, of_sub, of_mul, of_mod, of_idiv, of_band, of_bor, of_bxor, of_shl, of_shr, computed, arithmetic, less, less_equal, found, truth, equal_on, by_zero}
 use Rattle.lua_heap.proofs.Equal.{alike}
 use Rattle.machine_core.specs.World.{Cell}
 use Rattle.machine_core.specs.Text.{own, read, written, write_register, read_register, Text, raise}
-use Rattle.machine_core.specs.InstructionRows.{fast, integer_of_shape, next, skip, with_register, with_constant, compares, with_number}
-use Rattle.machine_sound.proofs.Lists.{some_is}
+use Rattle.machine_core.specs.InstructionRows.{fast, integer_of_shape, next, skip, with_register, with_constant, compares, with_number, unary}
+use Rattle.machine_focus.specs.Focus.{Held}
+use Rattle.machine_sound.proofs.Lists.{get_there, some_is}
 use Rattle.table_core.specs.Value.{value_eq, are_tables}
 use Rattle.table_core.specs.declared.value.TableId.{TableId}
 use Rattle.table_core.specs.declared.value.Value.TheVariants.{Nil, Bool as Boolean, Int, Str, Prim, Table, Func, Coro}
-use Rattle.machine_arms_numbers.specs.Numbers.{integer_in, equal_at_once, event_of, has_registers, has_constant, ordered_by}
+use Rattle.machine_arms_numbers.specs.Numbers.{integer_in, equal_at_once, event_of, has_constant, has_numeral, has_one, has_two, of_numeral, of_one, ordered_by, second}
 
 pub is_integer : (v : Kept) (n : ℤ) → Some n ≡ integer_in v → v ≡ Int n
 is_integer (Int m) n e = ap Int (sym (some_is refl e))
@@ -59,145 +60,203 @@ module _ (g : Around) (heap : Heap) (cells : List Cell) (r : List Kept) (pc fuel
       → Comes g.context (fast event a x y) env (held g heap cells r pc fuel) (Some (held g heap cells s to fuel))
   goes_both m n k e f q j i p = same_text (fast_both event a x y m n k e f q) (puts g heap cells r pc fuel a 2 (Int k) c l j refl i p)
 
--- two registers
+-- a register and another, or a constant
 
-pub record OfRegisters (op : Opcode) (w : Instruction) : Type 0 where
+record OfTwo (op : Opcode) (w : Instruction) : Type 0 where
   pub event : Event
   pub is_event : event_of op ≡ Some event
-  pub row : (p : Prototype) (pc : ℕ) → row_of p pc op w ≡ with_register event w
-  pub names : registers op w ≡ a_of w ∷ b_of w ∷ c_of w ∷ []
-  pub pair : second_half op w ≡ Some MmBin
+  pub row : (p : Prototype) (pc : ℕ) → row_of p pc op w ≡ cond (has_constant op) (with_constant event w) (with_register event w)
+  pub names : registers op w ≡ a_of w ∷ b_of w ∷ cond (has_constant op) [] (c_of w ∷ [])
+  pub numbers : (extra : Option ℕ) → constants op w extra ≡ cond (has_constant op) ((an_integer, c_of w) ∷ []) []
+  pub pair : second_half op w ≡ Some (cond (has_constant op) MmBinK MmBin)
   pub on : is_return op ≡ false
 
-pub of_registers : (op : Opcode) (w : Instruction) → IsTrue (has_registers op) → OfRegisters op w
-of_registers Add w h = record { event = of_add; is_event = refl; row = λ p pc. refl; names = refl; pair = refl; on = refl }
-of_registers Sub w h = record { event = of_sub; is_event = refl; row = λ p pc. refl; names = refl; pair = refl; on = refl }
-of_registers Mul w h = record { event = of_mul; is_event = refl; row = λ p pc. refl; names = refl; pair = refl; on = refl }
-of_registers Mod w h = record { event = of_mod; is_event = refl; row = λ p pc. refl; names = refl; pair = refl; on = refl }
-of_registers IDiv w h = record { event = of_idiv; is_event = refl; row = λ p pc. refl; names = refl; pair = refl; on = refl }
-of_registers BAnd w h = record { event = of_band; is_event = refl; row = λ p pc. refl; names = refl; pair = refl; on = refl }
-of_registers BOr w h = record { event = of_bor; is_event = refl; row = λ p pc. refl; names = refl; pair = refl; on = refl }
-of_registers BXor w h = record { event = of_bxor; is_event = refl; row = λ p pc. refl; names = refl; pair = refl; on = refl }
-of_registers Shl w h = record { event = of_shl; is_event = refl; row = λ p pc. refl; names = refl; pair = refl; on = refl }
-of_registers Shr w h = record { event = of_shr; is_event = refl; row = λ p pc. refl; names = refl; pair = refl; on = refl }
-of_registers _ w h = absurd (cc)
+of_two : (op : Opcode) (w : Instruction) → IsTrue (has_two op) → OfTwo op w
+of_two Add w h = record { event = of_add; is_event = refl; row = λ p pc. refl; names = refl; numbers = λ _. refl; pair = refl; on = refl }
+of_two Sub w h = record { event = of_sub; is_event = refl; row = λ p pc. refl; names = refl; numbers = λ _. refl; pair = refl; on = refl }
+of_two Mul w h = record { event = of_mul; is_event = refl; row = λ p pc. refl; names = refl; numbers = λ _. refl; pair = refl; on = refl }
+of_two Mod w h = record { event = of_mod; is_event = refl; row = λ p pc. refl; names = refl; numbers = λ _. refl; pair = refl; on = refl }
+of_two IDiv w h = record { event = of_idiv; is_event = refl; row = λ p pc. refl; names = refl; numbers = λ _. refl; pair = refl; on = refl }
+of_two BAnd w h = record { event = of_band; is_event = refl; row = λ p pc. refl; names = refl; numbers = λ _. refl; pair = refl; on = refl }
+of_two BOr w h = record { event = of_bor; is_event = refl; row = λ p pc. refl; names = refl; numbers = λ _. refl; pair = refl; on = refl }
+of_two BXor w h = record { event = of_bxor; is_event = refl; row = λ p pc. refl; names = refl; numbers = λ _. refl; pair = refl; on = refl }
+of_two Shl w h = record { event = of_shl; is_event = refl; row = λ p pc. refl; names = refl; numbers = λ _. refl; pair = refl; on = refl }
+of_two Shr w h = record { event = of_shr; is_event = refl; row = λ p pc. refl; names = refl; numbers = λ _. refl; pair = refl; on = refl }
+of_two AddK w h = record { event = of_add; is_event = refl; row = λ p pc. refl; names = refl; numbers = λ _. refl; pair = refl; on = refl }
+of_two SubK w h = record { event = of_sub; is_event = refl; row = λ p pc. refl; names = refl; numbers = λ _. refl; pair = refl; on = refl }
+of_two MulK w h = record { event = of_mul; is_event = refl; row = λ p pc. refl; names = refl; numbers = λ _. refl; pair = refl; on = refl }
+of_two ModK w h = record { event = of_mod; is_event = refl; row = λ p pc. refl; names = refl; numbers = λ _. refl; pair = refl; on = refl }
+of_two IDivK w h = record { event = of_idiv; is_event = refl; row = λ p pc. refl; names = refl; numbers = λ _. refl; pair = refl; on = refl }
+of_two BAndK w h = record { event = of_band; is_event = refl; row = λ p pc. refl; names = refl; numbers = λ _. refl; pair = refl; on = refl }
+of_two BOrK w h = record { event = of_bor; is_event = refl; row = λ p pc. refl; names = refl; numbers = λ _. refl; pair = refl; on = refl }
+of_two BXorK w h = record { event = of_bxor; is_event = refl; row = λ p pc. refl; names = refl; numbers = λ _. refl; pair = refl; on = refl }
+of_two _ w h = absurd (cc)
 
-pub record OfConstant (op : Opcode) (w : Instruction) : Type 0 where
-  pub event : Event
-  pub is_event : event_of op ≡ Some event
-  pub row : (p : Prototype) (pc : ℕ) → row_of p pc op w ≡ with_constant event w
-  pub names : registers op w ≡ a_of w ∷ b_of w ∷ []
-  pub numbers : (extra : Option ℕ) → constants op w extra ≡ (an_integer, c_of w) ∷ []
-  pub pair : second_half op w ≡ Some MmBinK
-  pub on : is_return op ≡ false
+half_goes_on : (b : Bool) → is_return (cond b MmBinK MmBin) ≡ false
+half_goes_on true = refl
+half_goes_on false = refl
 
-pub of_constant : (op : Opcode) (w : Instruction) → IsTrue (has_constant op) → OfConstant op w
-of_constant AddK w h = record { event = of_add; is_event = refl; row = λ p pc. refl; names = refl; numbers = λ _. refl; pair = refl; on = refl }
-of_constant SubK w h = record { event = of_sub; is_event = refl; row = λ p pc. refl; names = refl; numbers = λ _. refl; pair = refl; on = refl }
-of_constant MulK w h = record { event = of_mul; is_event = refl; row = λ p pc. refl; names = refl; numbers = λ _. refl; pair = refl; on = refl }
-of_constant ModK w h = record { event = of_mod; is_event = refl; row = λ p pc. refl; names = refl; numbers = λ _. refl; pair = refl; on = refl }
-of_constant IDivK w h = record { event = of_idiv; is_event = refl; row = λ p pc. refl; names = refl; numbers = λ _. refl; pair = refl; on = refl }
-of_constant BAndK w h = record { event = of_band; is_event = refl; row = λ p pc. refl; names = refl; numbers = λ _. refl; pair = refl; on = refl }
-of_constant BOrK w h = record { event = of_bor; is_event = refl; row = λ p pc. refl; names = refl; numbers = λ _. refl; pair = refl; on = refl }
-of_constant BXorK w h = record { event = of_bxor; is_event = refl; row = λ p pc. refl; names = refl; numbers = λ _. refl; pair = refl; on = refl }
-of_constant _ w h = absurd (cc)
+module _ (g : Around) (heap : Heap) (cells : List Cell) (r : List Kept) (pc fuel : ℕ) {ws : List Instruction} {ks : List Kept} {o : Option Held} (event : Event) (w : Instruction) (u v : Kept) (c : IsCode g ws ks) (e : slice_get r (b_of w) ≡ Some u)
+    (q : Comes g.context (fast event (a_of w) (integer_of_shape (shape (value g.texts u))) (integer_of_shape (shape (value g.texts v)))) (value g.texts u ∷ value g.texts v ∷ []) (held g heap cells r pc fuel) o) where
+  reads_two : (b : Bool) → cond b (slice_get ks (c_of w)) (slice_get r (c_of w)) ≡ Some v → Comes g.context (cond b (with_constant event w) (with_register event w)) [] (held g heap cells r pc fuel) o
+  reads_two true f = reads g heap cells r pc fuel (b_of w) u e (reads_constant g heap cells r pc fuel (c_of w) v c f q)
+  reads_two false f = reads g heap cells r pc fuel (b_of w) u e (reads g heap cells r pc fuel (c_of w) v f q)
 
-module _ {op : Opcode} {w : Instruction} {ws : List Instruction} {ks r : List Kept} {pc : ℕ} (h : IsAt op w ws ks r pc) (o : IsTrue (has_registers op)) where
-  form : OfRegisters op w
-  form = of_registers op w o
+module _ {op : Opcode} {w : Instruction} {ws : List Instruction} {ks r : List Kept} {pc : ℕ} (h : IsAt op w ws ks r pc) (o : IsTrue (has_two op)) where
+  form : OfTwo op w
+  form = of_two op w o
 
-  pub register_named : (n i : ℕ) → slice_get (a_of w ∷ b_of w ∷ c_of w ∷ []) n ≡ Some i → i < length r
-  register_named n i e = register_there h n i (ap (λ is. slice_get is n) form.names ∙ e)
+  pub target_there : a_of w < length r
+  target_there = register_there h 0 (a_of w) (ap (λ is. slice_get is 0) form.names)
 
-  pub registers_next : pc + 1 < length ws
-  registers_next = next_there h form.on
+  pub first_there : b_of w < length r
+  first_there = register_there h 1 (b_of w) (ap (λ is. slice_get is 1) form.names)
 
-  pub registers_skip : pc + 2 < length ws
-  registers_skip = behind_there h MmBin form.pair refl
+  pub second_register : has_constant op ≡ false → c_of w < length r
+  second_register e = register_there h 2 (c_of w) (ap (λ is. slice_get is 2) form.names ∙ ap (λ b. slice_get (a_of w ∷ b_of w ∷ cond b [] (c_of w ∷ [])) 2) e)
 
-  pub registers_left : {to : ℕ} (u : Kept) → slice_get r (b_of w) ≡ Some u → None ≡ integer_in u → to ≡ pc + 1 → (fuel : ℕ) → Goes op w ws ks r pc fuel r to fuel
-  registers_left u e i p fuel = going (at_next h form.on p) (λ g heap cells c.
-      let v = register_value in
-      same_text (form.row g.context.closure.code pc) (reads g heap cells r pc fuel (b_of w) u e (reads g heap cells r pc fuel (c_of w) v.0 v.1 (goes_left g heap cells r pc fuel form.event (a_of w) _ _ c (at_next h form.on p) (i ∙ sym (shape_integer g.texts u)) p))))
+  pub second_constant : has_constant op ≡ true → c_of w < length ks
+  second_constant e = constant_there h 0 (c_of w) an_integer (ap (λ cs. slice_get cs 0) (form.numbers _) ∙ ap (λ b. slice_get (cond b ((an_integer, c_of w) ∷ []) []) 0) e)
+
+  pub two_next : pc + 1 < length ws
+  two_next = next_there h form.on
+
+  pub two_skip : pc + 2 < length ws
+  two_skip = behind_there h (cond (has_constant op) MmBinK MmBin) form.pair (half_goes_on (has_constant op))
+
+  second_there : (v : Kept) × (second op ks r w ≡ Some v)
+  second_there = by (has_constant op) refl
     where
-      register_value : (v : Kept) × (slice_get r (c_of w) ≡ Some v)
-      register_value = Rattle.machine_sound.proofs.Lists.get_there r (c_of w) (register_named 2 (c_of w) refl)
+      by : (b : Bool) → has_constant op ≡ b → (v : Kept) × (cond b (slice_get ks (c_of w)) (slice_get r (c_of w)) ≡ Some v)
+      by true e = get_there ks (c_of w) (second_constant e)
+      by false e = get_there r (c_of w) (second_register e)
 
-  pub registers_right : {to : ℕ} (u v : Kept) → slice_get r (b_of w) ≡ Some u → slice_get r (c_of w) ≡ Some v → None ≡ integer_in v → to ≡ pc + 1 → (fuel : ℕ) → Goes op w ws ks r pc fuel r to fuel
-  registers_right u v e f i p fuel = going (at_next h form.on p) (λ g heap cells c.
-      same_text (form.row g.context.closure.code pc) (reads g heap cells r pc fuel (b_of w) u e (reads g heap cells r pc fuel (c_of w) v f (goes_right g heap cells r pc fuel form.event (a_of w) _ _ c (at_next h form.on p) (i ∙ sym (shape_integer g.texts v)) p))))
+  pub two_left : {to : ℕ} (u : Kept) → slice_get r (b_of w) ≡ Some u → None ≡ integer_in u → to ≡ pc + 1 → (fuel : ℕ) → Goes op w ws ks r pc fuel r to fuel
+  two_left u e i p fuel = going (at_next h form.on p) (λ g heap cells c.
+      let v = second_there in
+      same_text (form.row g.context.closure.code pc)
+      (reads_two g heap cells r pc fuel form.event w u v.0 c e (goes_left g heap cells r pc fuel form.event (a_of w) _ _ c (at_next h form.on p) (i ∙ sym (shape_integer g.texts u)) p) (has_constant op) v.1))
 
-  pub registers_both : {s : List Kept} {to : ℕ} (u v : Kept) (m n k : ℤ) → slice_get r (b_of w) ≡ Some u → slice_get r (c_of w) ≡ Some v → Some m ≡ integer_in u → Some n ≡ integer_in v
+  pub two_right : {to : ℕ} (u v : Kept) → slice_get r (b_of w) ≡ Some u → second op ks r w ≡ Some v → None ≡ integer_in v → to ≡ pc + 1 → (fuel : ℕ) → Goes op w ws ks r pc fuel r to fuel
+  two_right u v e f i p fuel = going (at_next h form.on p) (λ g heap cells c.
+      same_text (form.row g.context.closure.code pc)
+      (reads_two g heap cells r pc fuel form.event w u v c e (goes_right g heap cells r pc fuel form.event (a_of w) _ _ c (at_next h form.on p) (i ∙ sym (shape_integer g.texts v)) p) (has_constant op) f))
+
+  pub two_both : {s : List Kept} {to : ℕ} (u v : Kept) (m n k : ℤ) → slice_get r (b_of w) ≡ Some u → second op ks r w ≡ Some v → Some m ≡ integer_in u → Some n ≡ integer_in v
       → Some k ≡ bind (event_of op) (λ event. computed event m n) → s ≡ slice_set r (a_of w) (Int k) → to ≡ pc + 2 → (fuel : ℕ) → Goes op w ws ks r pc fuel s to fuel
-  registers_both u v m n k e f i j q t p fuel = going (at_second h MmBin form.pair refl p) (λ g heap cells c.
-      same_text (form.row g.context.closure.code pc) (reads g heap cells r pc fuel (b_of w) u e (reads g heap cells r pc fuel (c_of w) v f
-      (goes_both g heap cells r pc fuel form.event (a_of w) _ _ c (at_second h MmBin form.pair refl p) m n k (i ∙ sym (shape_integer g.texts u)) (j ∙ sym (shape_integer g.texts v))
-      (sym (q ∙ ap (λ (o : Option Event). bind o (λ event. computed event m n)) form.is_event)) (register_named 0 (a_of w) refl) t p))))
-
--- a register and a constant
-module _ {op : Opcode} {w : Instruction} {ws : List Instruction} {ks r : List Kept} {pc : ℕ} (h : IsAt op w ws ks r pc) (o : IsTrue (has_constant op)) where
-  form' : OfConstant op w
-  form' = of_constant op w o
-
-  pub operand_named : (n i : ℕ) → slice_get (a_of w ∷ b_of w ∷ []) n ≡ Some i → i < length r
-  operand_named n i e = register_there h n i (ap (λ is. slice_get is n) form'.names ∙ e)
-
-  pub constant_named : c_of w < length ks
-  constant_named = constant_there h 0 (c_of w) an_integer (ap (λ cs. slice_get cs 0) (form'.numbers _))
-
-  pub constant_next : pc + 1 < length ws
-  constant_next = next_there h form'.on
-
-  pub constant_skip : pc + 2 < length ws
-  constant_skip = behind_there h MmBinK form'.pair refl
-
-  pub constant_left : {to : ℕ} (u : Kept) → slice_get r (b_of w) ≡ Some u → None ≡ integer_in u → to ≡ pc + 1 → (fuel : ℕ) → Goes op w ws ks r pc fuel r to fuel
-  constant_left u e i p fuel = going (at_next h form'.on p) (λ g heap cells c.
-      let v = constant_value in
-      same_text (form'.row g.context.closure.code pc) (reads g heap cells r pc fuel (b_of w) u e (reads_constant g heap cells r pc fuel (c_of w) v.0 c v.1 (goes_left g heap cells r pc fuel form'.event (a_of w) _ _ c (at_next h form'.on p) (i ∙ sym (shape_integer g.texts u)) p))))
-    where
-      constant_value : (v : Kept) × (slice_get ks (c_of w) ≡ Some v)
-      constant_value = Rattle.machine_sound.proofs.Lists.get_there ks (c_of w) constant_named
-
-  pub constant_right : {to : ℕ} (u v : Kept) → slice_get r (b_of w) ≡ Some u → slice_get ks (c_of w) ≡ Some v → None ≡ integer_in v → to ≡ pc + 1 → (fuel : ℕ) → Goes op w ws ks r pc fuel r to fuel
-  constant_right u v e f i p fuel = going (at_next h form'.on p) (λ g heap cells c.
-      same_text (form'.row g.context.closure.code pc) (reads g heap cells r pc fuel (b_of w) u e (reads_constant g heap cells r pc fuel (c_of w) v c f (goes_right g heap cells r pc fuel form'.event (a_of w) _ _ c (at_next h form'.on p) (i ∙ sym (shape_integer g.texts v)) p))))
-
-  pub constant_both : {s : List Kept} {to : ℕ} (u v : Kept) (m n k : ℤ) → slice_get r (b_of w) ≡ Some u → slice_get ks (c_of w) ≡ Some v → Some m ≡ integer_in u → Some n ≡ integer_in v
-      → Some k ≡ bind (event_of op) (λ event. computed event m n) → s ≡ slice_set r (a_of w) (Int k) → to ≡ pc + 2 → (fuel : ℕ) → Goes op w ws ks r pc fuel s to fuel
-  constant_both u v m n k e f i j q t p fuel = going (at_second h MmBinK form'.pair refl p) (λ g heap cells c.
-      same_text (form'.row g.context.closure.code pc) (reads g heap cells r pc fuel (b_of w) u e (reads_constant g heap cells r pc fuel (c_of w) v c f
-      (goes_both g heap cells r pc fuel form'.event (a_of w) _ _ c (at_second h MmBinK form'.pair refl p) m n k (i ∙ sym (shape_integer g.texts u)) (j ∙ sym (shape_integer g.texts v))
-      (sym (q ∙ ap (λ (o : Option Event). bind o (λ event. computed event m n)) form'.is_event)) (operand_named 0 (a_of w) refl) t p))))
+  two_both u v m n k e f i j q t p fuel =
+      let l = at_second h (cond (has_constant op) MmBinK MmBin) form.pair (half_goes_on (has_constant op)) p in
+      going l (λ g heap cells c.
+      same_text (form.row g.context.closure.code pc)
+      (reads_two g heap cells r pc fuel form.event w u v c e
+      (goes_both g heap cells r pc fuel form.event (a_of w) _ _ c l m n k (i ∙ sym (shape_integer g.texts u)) (j ∙ sym (shape_integer g.texts v))
+      (sym (q ∙ ap (λ (o : Option Event). bind o (λ event. computed event m n)) form.is_event)) target_there t p)
+      (has_constant op) f))
 
 -- a register and a number that stands in the instruction
-module _ {op : Opcode} {w : Instruction} {ws : List Instruction} {ks r : List Kept} {pc : ℕ} (h : IsAt op w ws ks r pc) (event : Event) (x y : Option ℤ → Option ℤ)
-    (row : (p : Prototype) → row_of p pc op w ≡ own (read_register (b_of w)) (λ _ s. fast event (a_of w) (x (integer_of_shape s)) (y (integer_of_shape s))))
-    (pair : second_half op w ≡ Some MmBinI) (on : is_return op ≡ false) where
-  pub number_left : {to : ℕ} (u : Kept) → slice_get r (b_of w) ≡ Some u → None ≡ integer_in u → (None ≡ x None) ⊎ (None ≡ y None) → to ≡ pc + 1 → (fuel : ℕ) → Goes op w ws ks r pc fuel r to fuel
-  number_left {to = to} u e i n p fuel = going (at_next h on p) (λ g heap cells c.
-      same_text (row g.context.closure.code) (reads g heap cells r pc fuel (b_of w) u e (from g heap cells c (sym (i ∙ sym (shape_integer g.texts u))) n)))
-    where
-      from : (g : Around) (heap : Heap) (cells : List Cell) → IsCode g ws ks → integer_of_shape (shape (value g.texts u)) ≡ None → (None ≡ x None) ⊎ (None ≡ y None)
-          → Comes g.context (fast event (a_of w) (x (integer_of_shape (shape (value g.texts u)))) (y (integer_of_shape (shape (value g.texts u))))) (value g.texts u ∷ []) (held g heap cells r pc fuel) (Some (held g heap cells r to fuel))
-      from g heap cells c q (inl n) = goes_left g heap cells r pc fuel event (a_of w) _ _ c (at_next h on p) (n ∙ ap x (sym q)) p
-      from g heap cells c q (inr n) = goes_right g heap cells r pc fuel event (a_of w) _ _ c (at_next h on p) (n ∙ ap y (sym q)) p
 
-  pub number_both : {s : List Kept} {to : ℕ} (u : Kept) (i m n k : ℤ) → slice_get r (b_of w) ≡ Some u → Some i ≡ integer_in u → Some m ≡ x (Some i) → Some n ≡ y (Some i) → computed event m n ≡ Some k → a_of w < length r
-      → s ≡ slice_set r (a_of w) (Int k) → to ≡ pc + 2 → (fuel : ℕ) → Goes op w ws ks r pc fuel s to fuel
-  number_both u i m n k e j f f' q a t p fuel = going (at_second h MmBinI pair refl p) (λ g heap cells c.
+pub record OfNumeral (op : Opcode) (w : Instruction) : Type 0 where
+  pub event : Event
+  pub left : Option ℤ → Option ℤ
+  pub right : Option ℤ → Option ℤ
+  pub row : (p : Prototype) (pc : ℕ) → row_of p pc op w ≡ own (read_register (b_of w)) (λ _ s. fast event (a_of w) (left (integer_of_shape s)) (right (integer_of_shape s)))
+  pub without : (None ≡ left None) ⊎ (None ≡ right None)
+  pub with_both : (i : ℤ) → (m : ℤ) × (n : ℤ) × (Some m ≡ left (Some i)) × (Some n ≡ right (Some i)) × (computed event m n ≡ Some (of_numeral op i (sc_of w)))
+  pub names : registers op w ≡ a_of w ∷ b_of w ∷ []
+  pub pair : second_half op w ≡ Some MmBinI
+  pub on : is_return op ≡ false
+
+numeral_behind : (op : Opcode) (event : Event) (w : Instruction)
+    → ((p : Prototype) (pc : ℕ) → row_of p pc op w ≡ own (read_register (b_of w)) (λ _ s. fast event (a_of w) (integer_of_shape s) (Some (sc_of w)))) → ((i : ℤ) → computed event i (sc_of w) ≡ Some (of_numeral op i (sc_of w)))
+    → registers op w ≡ a_of w ∷ b_of w ∷ [] → second_half op w ≡ Some MmBinI → is_return op ≡ false → OfNumeral op w
+numeral_behind op event w row gives names pair on = record {
+  event = event;
+  left = λ o. o;
+  right = λ o. Some (sc_of w);
+  row = row;
+  without = inl refl;
+  with_both = λ i. (i, sc_of w, refl, refl, gives i);
+  names = names;
+  pair = pair;
+  on = on;
+}
+
+of_numeral_row : (op : Opcode) (w : Instruction) → IsTrue (has_numeral op) → OfNumeral op w
+of_numeral_row AddI w h = numeral_behind AddI of_add w (λ p pc. refl) (λ i. refl) refl refl refl
+of_numeral_row ShrI w h = numeral_behind ShrI of_shr w (λ p pc. refl) (λ i. refl) refl refl refl
+of_numeral_row ShlI w h = record {
+  event = of_shl;
+  left = λ o. Some (sc_of w);
+  right = λ o. o;
+  row = λ p pc. refl;
+  without = inr refl;
+  with_both = λ i. (sc_of w, i, refl, refl, refl);
+  names = refl;
+  pair = refl;
+  on = refl;
+}
+of_numeral_row _ w h = absurd (cc)
+
+module _ {op : Opcode} {w : Instruction} {ws : List Instruction} {ks r : List Kept} {pc : ℕ} (h : IsAt op w ws ks r pc) (o : IsTrue (has_numeral op)) where
+  numeral_form : OfNumeral op w
+  numeral_form = of_numeral_row op w o
+
+  pub numeral_named : (n i : ℕ) → slice_get (a_of w ∷ b_of w ∷ []) n ≡ Some i → i < length r
+  numeral_named n i e = register_there h n i (ap (λ is. slice_get is n) numeral_form.names ∙ e)
+
+  pub numeral_next : pc + 1 < length ws
+  numeral_next = next_there h numeral_form.on
+
+  pub numeral_skip : pc + 2 < length ws
+  numeral_skip = behind_there h MmBinI numeral_form.pair refl
+
+  pub numeral_left : {to : ℕ} (u : Kept) → slice_get r (b_of w) ≡ Some u → None ≡ integer_in u → to ≡ pc + 1 → (fuel : ℕ) → Goes op w ws ks r pc fuel r to fuel
+  numeral_left {to = to} u e i p fuel = going (at_next h numeral_form.on p) (λ g heap cells c.
+      same_text (numeral_form.row g.context.closure.code pc) (reads g heap cells r pc fuel (b_of w) u e (from g heap cells c (sym (i ∙ sym (shape_integer g.texts u))) numeral_form.without)))
+    where
+      from : (g : Around) (heap : Heap) (cells : List Cell) → IsCode g ws ks → integer_of_shape (shape (value g.texts u)) ≡ None → (None ≡ numeral_form.left None) ⊎ (None ≡ numeral_form.right None)
+          → Comes g.context (fast numeral_form.event (a_of w) (numeral_form.left (integer_of_shape (shape (value g.texts u)))) (numeral_form.right (integer_of_shape (shape (value g.texts u))))) (value g.texts u ∷ []) (held g heap cells r pc fuel) (Some (held g heap cells r to fuel))
+      from g heap cells c q (inl n) = goes_left g heap cells r pc fuel numeral_form.event (a_of w) _ _ c (at_next h numeral_form.on p) (n ∙ ap numeral_form.left (sym q)) p
+      from g heap cells c q (inr n) = goes_right g heap cells r pc fuel numeral_form.event (a_of w) _ _ c (at_next h numeral_form.on p) (n ∙ ap numeral_form.right (sym q)) p
+
+  pub numeral_both : {s : List Kept} {to : ℕ} (u : Kept) (i : ℤ) → slice_get r (b_of w) ≡ Some u → Some i ≡ integer_in u → s ≡ slice_set r (a_of w) (Int (of_numeral op i (sc_of w))) → to ≡ pc + 2 → (fuel : ℕ) → Goes op w ws ks r pc fuel s to fuel
+  numeral_both u i e j t p fuel =
+      let l = at_second h MmBinI numeral_form.pair refl p in
+      let x = numeral_form.with_both i in
+      going l (λ g heap cells c.
       let z = j ∙ sym (shape_integer g.texts u) in
-      same_text (row g.context.closure.code) (reads g heap cells r pc fuel (b_of w) u e (goes_both g heap cells r pc fuel event (a_of w) _ _ c (at_second h MmBinI pair refl p) m n k (f ∙ ap x z) (f' ∙ ap y z) q a t p)))
+      same_text (numeral_form.row g.context.closure.code pc) (reads g heap cells r pc fuel (b_of w) u e
+      (goes_both g heap cells r pc fuel numeral_form.event (a_of w) _ _ c l x.0 x.1 (of_numeral op i (sc_of w)) (x.2 ∙ ap numeral_form.left z) (x.3 ∙ ap numeral_form.right z) x.4 (numeral_named 0 (a_of w) refl) t p)))
 
 -- one operand
-pub unary_does : {op : Opcode} {w : Instruction} {ws : List Instruction} {ks r s : List Kept} {pc to : ℕ} → IsAt op w ws ks r pc → (event : Event)
-    → ((p : Prototype) → row_of p pc op w ≡ own (read_register (b_of w)) (λ v _. Rattle.machine_core.specs.InstructionRows.unary (arithmetic event) (read v ∷ read v ∷ []) w)) → is_return op ≡ false → a_of w < length r
-    → (u : Kept) (n k : ℤ) → slice_get r (b_of w) ≡ Some u → Some n ≡ integer_in u → computed event n n ≡ Some k → s ≡ slice_set r (a_of w) (Int k) → to ≡ pc + 1 → (fuel : ℕ) → Goes op w ws ks r pc fuel s to fuel
-unary_does {w = w} {r = r} {pc = pc} h event row on a u n k e j q t p fuel = going (at_next h on p) (λ g heap cells c.
-    let z : slice_get r (b_of w) ≡ Some (Int n) = e ∙ ap Some (is_integer u n j) in
-    same_text (row g.context.closure.code) (reads g heap cells r pc fuel (b_of w) (Int n) z
-    (settles g heap cells r pc fuel (ap (λ (o : Option ℤ). elim o as (λ _. Rattle.int_core.specs.Operations.Settled) [ None ↦ Rattle.int_core.specs.Operations.fault (by_zero event) | Some k ↦ found heap (known (integer k) ∷ []) ]) q)
-    (puts g heap cells r pc fuel (a_of w) 1 (Int k) c (at_next h on p) a refl t p))))
+
+pub record OfOne (op : Opcode) (w : Instruction) : Type 0 where
+  pub event : Event
+  pub row : (p : Prototype) (pc : ℕ) → row_of p pc op w ≡ own (read_register (b_of w)) (λ v _. unary (arithmetic event) (read v ∷ read v ∷ []) w)
+  pub gives : (n : ℤ) → computed event n n ≡ Some (of_one op n)
+  pub names : registers op w ≡ a_of w ∷ b_of w ∷ []
+  pub on : is_return op ≡ false
+
+of_one_row : (op : Opcode) (w : Instruction) → IsTrue (has_one op) → OfOne op w
+of_one_row Unm w h = record { event = of_unm; row = λ p pc. refl; gives = λ n. refl; names = refl; on = refl }
+of_one_row BNot w h = record { event = of_bnot; row = λ p pc. refl; gives = λ n. refl; names = refl; on = refl }
+of_one_row _ w h = absurd (cc)
+
+module _ {op : Opcode} {w : Instruction} {ws : List Instruction} {ks r : List Kept} {pc : ℕ} (h : IsAt op w ws ks r pc) (o : IsTrue (has_one op)) where
+  one_form : OfOne op w
+  one_form = of_one_row op w o
+
+  pub one_named : (n i : ℕ) → slice_get (a_of w ∷ b_of w ∷ []) n ≡ Some i → i < length r
+  one_named n i e = register_there h n i (ap (λ is. slice_get is n) one_form.names ∙ e)
+
+  pub one_next : pc + 1 < length ws
+  one_next = next_there h one_form.on
+
+  pub one_does : {s : List Kept} {to : ℕ} (u : Kept) (n : ℤ) → slice_get r (b_of w) ≡ Some u → Some n ≡ integer_in u → s ≡ slice_set r (a_of w) (Int (of_one op n)) → to ≡ pc + 1 → (fuel : ℕ) → Goes op w ws ks r pc fuel s to fuel
+  one_does u n e j t p fuel = going (at_next h one_form.on p) (λ g heap cells c.
+      same_text (one_form.row g.context.closure.code pc) (reads g heap cells r pc fuel (b_of w) (Int n) (e ∙ ap Some (is_integer u n j))
+      (settles g heap cells r pc fuel (ap (λ (o : Option ℤ). elim o as (λ _. Settled) [ None ↦ fault (by_zero one_form.event) | Some k ↦ found heap (known (integer k) ∷ []) ]) (one_form.gives n))
+      (puts g heap cells r pc fuel (a_of w) 1 (Int (of_one op n)) c (at_next h one_form.on p) (one_named 0 (a_of w) refl) refl t p))))
 
 -- equality
 

@@ -1,7 +1,10 @@
 -- What the instructions on numbers and truths compute, on values as they are kept.
-use Rattle.std.specs.Prelude.{ℕ, zero, suc, ◌+◌, ℤ, pos, negsuc, int_lt, int_le, Bool, true, false, ◌&&◌, cond, not, List, Option, Some, None, is_some, slice_set}
+use Rattle.std.specs.Prelude.{ℕ, zero, suc, ◌+◌, ℤ, pos, negsuc, ◌-ℤ◌, int_lt, int_le, Bool, true, false, cond, List, Option, Some, None, is_some, slice_get, slice_set}
+use Rattle.code_core.specs.Instruction.{c_of}
+use Rattle.code_core.specs.declared.instruction.Instruction.{Instruction}
 use Rattle.code_core.specs.declared.opcode.Opcode.{Opcode}
-use Rattle.code_core.specs.declared.opcode.Opcode.TheVariants.{Move, LoadI, LoadK, LoadKx, LoadFalse, LFalseSkip, LoadTrue, LoadNil, AddI, ShrI, ShlI, Not, Test, TestSet, AddK, SubK, MulK, ModK, IDivK, BAndK, BOrK, BXorK, Add, Sub, Mul, Mod, IDiv, BAnd, BOr, BXor, Shl, Shr, Lt, Le, LtI, LeI, GtI, GeI}
+use Rattle.code_core.specs.declared.opcode.Opcode.TheVariants.{Move, LoadI, LoadK, LoadKx, LoadFalse, LFalseSkip, LoadTrue, LoadNil, AddI, ShrI, ShlI, Unm, BNot, Not, Test, TestSet, AddK, SubK, MulK, ModK, IDivK, BAndK, BOrK, BXorK, Add, Sub, Mul, Mod, IDiv, BAnd, BOr, BXor, Shl, Shr, Lt, Le, LtI, LeI, GtI, GeI}
+use Rattle.int_core.specs.Arithmetic.{add, neg, shl, shr}
 use Rattle.int_core.specs.Operations.{Event, of_add, of_sub, of_mul, of_mod, of_idiv, of_band, of_bor, of_bxor, of_shl, of_shr}
 use Rattle.table_core.specs.Value.{value_eq, are_tables}
 use Rattle.table_core.specs.declared.value.Value.{Value}
@@ -54,9 +57,34 @@ event_of Shl = Some of_shl
 event_of Shr = Some of_shr
 event_of _ = None
 
--- an operator on two registers
-abbrev pub has_registers : Opcode → Bool
-has_registers op = is_some (event_of op) && not (has_constant op)
+-- an operator on a register and another or a constant, and the second operand
+abbrev pub has_two : Opcode → Bool
+has_two op = is_some (event_of op)
+
+abbrev pub second : Opcode → (constants registers : List Value) → Instruction → Option Value
+second op ks r w = cond (has_constant op) (slice_get ks (c_of w)) (slice_get r (c_of w))
+
+-- an operator on a register and a number that stands in the instruction, and what it gives
+abbrev pub has_numeral : Opcode → Bool
+has_numeral AddI = true
+has_numeral ShrI = true
+has_numeral ShlI = true
+has_numeral _ = false
+
+abbrev pub of_numeral : Opcode → ℤ → ℤ → ℤ
+of_numeral AddI m n = add m n
+of_numeral ShrI m n = shr m n
+of_numeral _ m n = shl n m
+
+-- an operator on one register, and what it gives
+abbrev pub has_one : Opcode → Bool
+has_one Unm = true
+has_one BNot = true
+has_one _ = false
+
+abbrev pub of_one : Opcode → ℤ → ℤ
+of_one Unm n = neg n
+of_one _ n = negsuc 0 -ℤ n
 
 -- the order that a comparison asks for, of the value in the register and the other operand
 abbrev pub ordered_by : Opcode → Option (ℤ → ℤ → Bool)

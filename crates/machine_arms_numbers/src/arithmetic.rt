@@ -1,13 +1,13 @@
 // Arithmetic on integers (Lua 5.4 manual, 3.4.1 and 3.4.2). Where an operand is no integer, the instruction behind does it.
-ghost use Rattle.std.specs.Prelude.{◌≡◌, ℕ, IsTrue, IfSome, IfNone, Some, bit_and, bit_or, bit_xor, negsuc, ◌-ℤ◌};
-ghost use Rattle.code_core.specs.declared.opcode.Opcode.TheVariants.{AddI, ShrI, ShlI, Unm, BNot};
+ghost use Rattle.std.specs.Prelude.{◌≡◌, IsTrue, Some, bit_and, bit_or, bit_xor, negsuc, ◌-ℤ◌};
 ghost use Rattle.int_core.specs.Operations.{bitwise, computed, of_mod, of_idiv};
 ghost use Rattle.int_core.specs.Value.{bind};
-ghost use Rattle.machine_arms_numbers.specs.Numbers.{event_of, has_registers, has_constant};
-ghost use Rattle.machine_view.specs.View.{IsAt, Goes};
+ghost use Rattle.machine_arms_numbers.specs.Leading.{IsSite, Leads, MayLead};
+ghost use Rattle.machine_arms_numbers.specs.Numbers.{event_of, has_constant, has_numeral, has_one, has_two, of_numeral, of_one, second};
 
-use crate::registers::{behind, constant, get_b, get_c, integer, put_integer};
-use code_core::{Instruction, Opcode};
+use crate::registers::{constant, get_b, get_c, integer};
+use crate::site::Site;
+use code_core::Opcode;
 use int_core::{add, floor_div, floor_mod, mul, neg, shl, shr, sub};
 use table_core::Value;
 
@@ -73,140 +73,92 @@ fn quotient(m: i64, n: i64) -> Option<i64>
     if n == 0 { None } else { Some(floor_div(m, n)) }
 }
 
-/// ADD to SHR: R[A] := R[B] op R[C]. `None` is a division by zero.
+/// ADD to SHR and ADDK to BXORK: R[A] := R[B] op R[C], R[B] op K[C]. `None` is a division by zero.
 #[inline(always)]
-pub(crate) fn with_registers(
-    op: Opcode,
-    words: &[Instruction],
-    constants: &[Value],
-    registers: &mut [Value],
-    i: Instruction,
-    pc: usize,
-) -> Option<usize>
-    requires at { IsAt op i words.now constants.now registers.old pc }
-    requires form { IsTrue (has_registers op) }
-    ensures goes { IfSome result (λ to. (fuel : ℕ) → Goes op i words.now constants.now registers.old pc fuel registers.new to fuel) }
-    ensures kept { IfNone result (registers.new ≡ registers.old) }
+pub(crate) fn with_two(op: Opcode, site: Site, registers: &mut [Value]) -> Option<usize>
+    requires at { IsSite op site registers.old }
+    requires form { IsTrue (has_two op) }
+    ensures { MayLead op site.entry registers.old registers.new result }
 {
-    let Some(m) = integer(get_b(registers, i)) else {
-        return Some(behind(words, pc, 1));
+    let Some(m) = integer(get_b(registers, site.word)) else {
+        return Some(site.behind(1));
     };
-    let Some(n) = integer(get_c(registers, i)) else {
-        return Some(behind(words, pc, 1));
+    let Some(n) = integer(second(op, site, registers)) else {
+        return Some(site.behind(1));
     };
     let k = computed(op, m, n)?;
-    Some(put_integer(words, registers, i, pc, k, 2))
+    Some(site.put_integer(registers, k, 2))
 }
 
-/// ADDK to BXORK: R[A] := R[B] op K[C]. `None` is a division by zero.
+/// Its second operand: K[C], or R[C].
 #[inline(always)]
-pub(crate) fn with_constant(
-    op: Opcode,
-    words: &[Instruction],
-    constants: &[Value],
-    registers: &mut [Value],
-    i: Instruction,
-    pc: usize,
-) -> Option<usize>
-    requires at { IsAt op i words.now constants.now registers.old pc }
-    requires form { IsTrue (has_constant op) }
-    ensures goes { IfSome result (λ to. (fuel : ℕ) → Goes op i words.now constants.now registers.old pc fuel registers.new to fuel) }
-    ensures kept { IfNone result (registers.new ≡ registers.old) }
+fn second(op: Opcode, site: Site, registers: &[Value]) -> Value
+    requires at { IsSite op site registers.now }
+    requires form { IsTrue (has_two op) }
+    ensures { second op site.entry.constants.now registers.now site.entry.word ≡ Some result }
 {
-    let Some(m) = integer(get_b(registers, i)) else {
-        return Some(behind(words, pc, 1));
+    if has_constant(op) {
+        return constant(site.constants, site.word.c() as usize);
+    }
+    get_c(registers, site.word)
+}
+
+/// Whether it is a constant.
+#[inline(always)]
+fn has_constant(op: Opcode) -> bool
+    ensures { result ≡ has_constant op }
+{
+    match op {
+        Opcode::AddK | Opcode::SubK | Opcode::MulK | Opcode::ModK => true,
+        Opcode::IDivK | Opcode::BAndK | Opcode::BOrK | Opcode::BXorK => true,
+        _ => false,
+    }
+}
+
+/// ADDI, SHRI and SHLI: R[A] := R[B] + sC, R[B] >> sC, sC << R[B].
+#[inline(always)]
+pub(crate) fn with_numeral(op: Opcode, site: Site, registers: &mut [Value]) -> usize
+    requires at { IsSite op site registers.old }
+    requires form { IsTrue (has_numeral op) }
+    ensures { Leads op site.entry registers.old registers.new result }
+{
+    let Some(m) = integer(get_b(registers, site.word)) else {
+        return site.behind(1);
     };
-    let Some(n) = integer(constant(constants, i.c() as usize)) else {
-        return Some(behind(words, pc, 1));
-    };
-    let k = computed(op, m, n)?;
-    Some(put_integer(words, registers, i, pc, k, 2))
+    let k = of_numeral(op, m, i64::from(site.word.sc()));
+    site.put_integer(registers, k, 2)
 }
 
-/// ADDI: R[A] := R[B] + sC.
+/// What the operator of such an instruction gives.
 #[inline(always)]
-pub(crate) fn add_number(
-    words: &[Instruction],
-    constants: &[Value],
-    registers: &mut [Value],
-    i: Instruction,
-    pc: usize,
-) -> usize
-    requires { IsAt AddI i words.now constants.now registers.old pc }
-    ensures { (fuel : ℕ) → Goes AddI i words.now constants.now registers.old pc fuel registers.new result fuel }
+fn of_numeral(op: Opcode, m: i64, n: i64) -> i64
+    ensures { result ≡ of_numeral op m n }
 {
-    let Some(m) = integer(get_b(registers, i)) else {
-        return behind(words, pc, 1);
-    };
-    put_integer(words, registers, i, pc, add(m, i64::from(i.sc())), 2)
+    match op {
+        Opcode::AddI => add(m, n),
+        Opcode::ShrI => shr(m, n),
+        _ => shl(n, m),
+    }
 }
 
-/// SHRI: R[A] := R[B] >> sC.
+/// UNM and BNOT: R[A] := -R[B], ~R[B].
 #[inline(always)]
-pub(crate) fn shift_right_by(
-    words: &[Instruction],
-    constants: &[Value],
-    registers: &mut [Value],
-    i: Instruction,
-    pc: usize,
-) -> usize
-    requires { IsAt ShrI i words.now constants.now registers.old pc }
-    ensures { (fuel : ℕ) → Goes ShrI i words.now constants.now registers.old pc fuel registers.new result fuel }
+pub(crate) fn with_one(op: Opcode, site: Site, registers: &mut [Value]) -> Option<usize>
+    requires at { IsSite op site registers.old }
+    requires form { IsTrue (has_one op) }
+    ensures { MayLead op site.entry registers.old registers.new result }
 {
-    let Some(m) = integer(get_b(registers, i)) else {
-        return behind(words, pc, 1);
-    };
-    put_integer(words, registers, i, pc, shr(m, i64::from(i.sc())), 2)
+    let n = integer(get_b(registers, site.word))?;
+    Some(site.put_integer(registers, of_one(op, n), 1))
 }
 
-/// SHLI: R[A] := sC << R[B].
+/// What the operator of such an instruction gives.
 #[inline(always)]
-pub(crate) fn shift_number_left(
-    words: &[Instruction],
-    constants: &[Value],
-    registers: &mut [Value],
-    i: Instruction,
-    pc: usize,
-) -> usize
-    requires { IsAt ShlI i words.now constants.now registers.old pc }
-    ensures { (fuel : ℕ) → Goes ShlI i words.now constants.now registers.old pc fuel registers.new result fuel }
+fn of_one(op: Opcode, n: i64) -> i64
+    ensures { result ≡ of_one op n }
 {
-    let Some(m) = integer(get_b(registers, i)) else {
-        return behind(words, pc, 1);
-    };
-    put_integer(words, registers, i, pc, shl(i64::from(i.sc()), m), 2)
-}
-
-/// UNM: R[A] := -R[B].
-#[inline(always)]
-pub(crate) fn negate(
-    words: &[Instruction],
-    constants: &[Value],
-    registers: &mut [Value],
-    i: Instruction,
-    pc: usize,
-) -> Option<usize>
-    requires { IsAt Unm i words.now constants.now registers.old pc }
-    ensures goes { IfSome result (λ to. (fuel : ℕ) → Goes Unm i words.now constants.now registers.old pc fuel registers.new to fuel) }
-    ensures kept { IfNone result (registers.new ≡ registers.old) }
-{
-    let n = integer(get_b(registers, i))?;
-    Some(put_integer(words, registers, i, pc, neg(n), 1))
-}
-
-/// BNOT: R[A] := ~R[B].
-#[inline(always)]
-pub(crate) fn complement(
-    words: &[Instruction],
-    constants: &[Value],
-    registers: &mut [Value],
-    i: Instruction,
-    pc: usize,
-) -> Option<usize>
-    requires { IsAt BNot i words.now constants.now registers.old pc }
-    ensures goes { IfSome result (λ to. (fuel : ℕ) → Goes BNot i words.now constants.now registers.old pc fuel registers.new to fuel) }
-    ensures kept { IfNone result (registers.new ≡ registers.old) }
-{
-    let n = integer(get_b(registers, i))?;
-    Some(put_integer(words, registers, i, pc, flipped(n), 1))
+    match op {
+        Opcode::Unm => neg(n),
+        _ => flipped(n),
+    }
 }

@@ -1,13 +1,13 @@
 // Jumps and loops (Lua 5.4 manual, 3.3.4 and 3.3.5), and the beginning of a function with extra arguments. A jump back and a further round cost one unit of the
 // budget.
-ghost use Rattle.std.specs.Prelude.{◌≡◌, ℕ, suc, ◌<◌, ◌+◌, ◌-◌, ◌≤◌, ◌^◌, ◌-ℤ◌, ◌≤ℤ◌, pos, length, IfSome, IfNone, IsTrue, ◌≢◌};
+ghost use Rattle.std.specs.Prelude.{◌≡◌, suc, ◌≤◌, ◌^◌, ◌-ℤ◌, ◌≤ℤ◌, pos, IfSome, IfNone, IsTrue, ◌≢◌};
 ghost use Rattle.code_core.specs.declared.opcode.Opcode.TheVariants.{Jmp, ForLoop, ForPrep, TForPrep, TForLoop, VarArgPrep};
 ghost use Rattle.machine_core.specs.InstructionRows.{runs, rounds};
+ghost use Rattle.machine_arms_numbers.specs.Leading.{IsSite, Leads, MayLead, MayPay};
 ghost use Rattle.machine_arms_numbers.specs.Numbers.{leads_back, distance_of};
-ghost use Rattle.machine_view.specs.View.{IsAt, Goes};
 
-use crate::registers::{behind, get_above, integer, set_above, set_above_integer, truthy};
-use code_core::Instruction;
+use crate::registers::{get_above, integer, set_above, set_above_integer, truthy};
+use crate::site::Site;
 use int_core::{add, sub};
 use table_core::Value;
 
@@ -42,69 +42,40 @@ pub fn distance_of(by: i32) -> usize
     by.unsigned_abs() as usize
 }
 
-/// The place `by` in front of the next one.
-#[inline(always)]
-fn back(words: &[Instruction], pc: usize, by: usize) -> usize
-    requires there { pc + 1 < length words.now }
-    requires near { by ≤ pc + 1 }
-    ensures { result ≡ pc + 1 - by }
-{
-    let _size = words.len();
-    pc + 1 - by
-}
-
 /// JMP: on to the place sJ behind the next one. `None` where a jump back cannot be paid.
 #[inline(always)]
-pub(crate) fn jump(
-    words: &[Instruction],
-    constants: &[Value],
-    registers: &mut [Value],
-    i: Instruction,
-    pc: usize,
-    fuel: &mut u64,
-) -> Option<usize>
-    requires { IsAt Jmp i words.now constants.now registers.old pc }
-    ensures goes { IfSome result (λ to. Goes Jmp i words.now constants.now registers.old pc fuel.old registers.new to fuel.new) }
-    ensures kept { IfNone result (registers.new ≡ registers.old) }
-    ensures unpaid { IfNone result (fuel.new ≡ fuel.old) }
+pub(crate) fn jump(site: Site, registers: &mut [Value], fuel: &mut u64) -> Option<usize>
+    requires { IsSite Jmp site registers.old }
+    ensures goes { MayPay Jmp site.entry registers.old registers.new fuel.old fuel.new result }
     ensures spent { IfNone result (fuel.old ≡ 0) }
 {
-    let by = i.sj();
+    let by = site.word.sj();
     let distance = distance_of(by);
     if !leads_back(by) {
-        return Some(behind(words, pc, distance + 1));
+        return Some(site.behind(distance + 1));
     }
     pay(fuel)?;
-    Some(back(words, pc, distance))
+    Some(site.back(distance))
 }
 
 /// FORLOOP: a further round, or the end of the loop. `None` where the round cannot be paid.
 #[inline(always)]
-pub(crate) fn for_loop(
-    words: &[Instruction],
-    constants: &[Value],
-    registers: &mut [Value],
-    i: Instruction,
-    pc: usize,
-    fuel: &mut u64,
-) -> Option<usize>
-    requires { IsAt ForLoop i words.now constants.now registers.old pc }
-    ensures goes { IfSome result (λ to. Goes ForLoop i words.now constants.now registers.old pc fuel.old registers.new to fuel.new) }
-    ensures kept { IfNone result (registers.new ≡ registers.old) }
-    ensures unpaid { IfNone result (fuel.new ≡ fuel.old) }
+pub(crate) fn for_loop(site: Site, registers: &mut [Value], fuel: &mut u64) -> Option<usize>
+    requires { IsSite ForLoop site registers.old }
+    ensures { MayPay ForLoop site.entry registers.old registers.new fuel.old fuel.new result }
 {
-    let from = integer(get_above(registers, i, 0))?;
-    let count = integer(get_above(registers, i, 1))?;
-    let step = integer(get_above(registers, i, 2))?;
+    let from = integer(get_above(registers, site.word, 0))?;
+    let count = integer(get_above(registers, site.word, 1))?;
+    let step = integer(get_above(registers, site.word, 2))?;
     if count == 0 {
-        return Some(behind(words, pc, 1));
+        return Some(site.behind(1));
     }
     pay(fuel)?;
     let next = add(from, step);
-    set_above_integer(registers, i, 1, sub(count, 1));
-    set_above_integer(registers, i, 0, next);
-    set_above_integer(registers, i, 3, next);
-    Some(back(words, pc, i.bx() as usize))
+    set_above_integer(registers, site.word, 1, sub(count, 1));
+    set_above_integer(registers, site.word, 0, next);
+    set_above_integer(registers, site.word, 3, next);
+    Some(site.back(site.word.bx() as usize))
 }
 
 /// Whether a loop has a round.
@@ -143,86 +114,57 @@ pub fn further_rounds(from: i64, limit: i64, step: i64) -> i64
 
 /// FORPREP: the count of rounds and the variable, or on behind the loop. `None` where a value is no integer or the step is 0.
 #[inline(always)]
-pub(crate) fn for_prep(
-    words: &[Instruction],
-    constants: &[Value],
-    registers: &mut [Value],
-    i: Instruction,
-    pc: usize,
-) -> Option<usize>
-    requires { IsAt ForPrep i words.now constants.now registers.old pc }
-    ensures goes { IfSome result (λ to. (fuel : ℕ) → Goes ForPrep i words.now constants.now registers.old pc fuel registers.new to fuel) }
-    ensures kept { IfNone result (registers.new ≡ registers.old) }
+pub(crate) fn for_prep(site: Site, registers: &mut [Value]) -> Option<usize>
+    requires { IsSite ForPrep site registers.old }
+    ensures { MayLead ForPrep site.entry registers.old registers.new result }
 {
-    let from = integer(get_above(registers, i, 0))?;
-    let limit = integer(get_above(registers, i, 1))?;
-    let step = integer(get_above(registers, i, 2))?;
+    let from = integer(get_above(registers, site.word, 0))?;
+    let limit = integer(get_above(registers, site.word, 1))?;
+    let step = integer(get_above(registers, site.word, 2))?;
     if step == 0 {
         return None;
     }
     if !has_round(from, limit, step) {
-        return Some(behind(words, pc, i.bx() as usize + 2));
+        return Some(site.behind(site.word.bx() as usize + 2));
     }
     let count = further_rounds(from, limit, step);
-    set_above_integer(registers, i, 1, count);
-    set_above_integer(registers, i, 3, from);
-    Some(behind(words, pc, 1))
+    set_above_integer(registers, site.word, 1, count);
+    set_above_integer(registers, site.word, 3, from);
+    Some(site.behind(1))
 }
 
 /// TFORPREP: on to the call of the iterator. `None` where there is a value to be closed.
 #[inline(always)]
-pub(crate) fn for_each_prep(
-    words: &[Instruction],
-    constants: &[Value],
-    registers: &mut [Value],
-    i: Instruction,
-    pc: usize,
-) -> Option<usize>
-    requires { IsAt TForPrep i words.now constants.now registers.old pc }
-    ensures goes { IfSome result (λ to. (fuel : ℕ) → Goes TForPrep i words.now constants.now registers.old pc fuel registers.new to fuel) }
-    ensures kept { IfNone result (registers.new ≡ registers.old) }
+pub(crate) fn for_each_prep(site: Site, registers: &mut [Value]) -> Option<usize>
+    requires { IsSite TForPrep site registers.old }
+    ensures { MayLead TForPrep site.entry registers.old registers.new result }
 {
-    if truthy(get_above(registers, i, 3)) {
+    if truthy(get_above(registers, site.word, 3)) {
         return None;
     }
-    Some(behind(words, pc, i.bx() as usize + 1))
+    Some(site.behind(site.word.bx() as usize + 1))
 }
 
 /// VARARGPREP: on to the next instruction. The call has put the arguments beyond the parameters apart.
 #[inline(always)]
-pub(crate) fn begin_varargs(
-    words: &[Instruction],
-    constants: &[Value],
-    registers: &mut [Value],
-    i: Instruction,
-    pc: usize,
-) -> usize
-    requires { IsAt VarArgPrep i words.now constants.now registers.old pc }
-    ensures { (fuel : ℕ) → Goes VarArgPrep i words.now constants.now registers.old pc fuel registers.new result fuel }
+pub(crate) fn begin_varargs(site: Site, registers: &mut [Value]) -> usize
+    requires { IsSite VarArgPrep site registers.old }
+    ensures { Leads VarArgPrep site.entry registers.old registers.new result }
 {
-    behind(words, pc, 1)
+    site.behind(1)
 }
 
 /// TFORLOOP: a further round, or the end of the loop. `None` where the round cannot be paid.
 #[inline(always)]
-pub(crate) fn for_each_loop(
-    words: &[Instruction],
-    constants: &[Value],
-    registers: &mut [Value],
-    i: Instruction,
-    pc: usize,
-    fuel: &mut u64,
-) -> Option<usize>
-    requires { IsAt TForLoop i words.now constants.now registers.old pc }
-    ensures goes { IfSome result (λ to. Goes TForLoop i words.now constants.now registers.old pc fuel.old registers.new to fuel.new) }
-    ensures kept { IfNone result (registers.new ≡ registers.old) }
-    ensures unpaid { IfNone result (fuel.new ≡ fuel.old) }
+pub(crate) fn for_each_loop(site: Site, registers: &mut [Value], fuel: &mut u64) -> Option<usize>
+    requires { IsSite TForLoop site registers.old }
+    ensures { MayPay TForLoop site.entry registers.old registers.new fuel.old fuel.new result }
 {
-    let v = get_above(registers, i, 4);
+    let v = get_above(registers, site.word, 4);
     if v == Value::Nil {
-        return Some(behind(words, pc, 1));
+        return Some(site.behind(1));
     }
     pay(fuel)?;
-    set_above(registers, i, 2, v);
-    Some(back(words, pc, i.bx() as usize))
+    set_above(registers, site.word, 2, v);
+    Some(site.back(site.word.bx() as usize))
 }

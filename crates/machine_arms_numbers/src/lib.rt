@@ -8,6 +8,7 @@ mod instruction;
 mod jumps;
 mod loads;
 mod registers;
+mod site;
 mod truths;
 
 pub use instruction::run_instruction;

@@ -97,54 +97,6 @@ pub(crate) fn truthy(v: Value) -> bool
     }
 }
 
-/// The place `by` behind an instruction.
-#[inline(always)]
-pub(crate) fn behind(words: &[Instruction], pc: usize, by: usize) -> usize
-    requires { pc + by < length words.now }
-    ensures { result ≡ pc + by }
-{
-    let _size = words.len();
-    pc + by
-}
-
-/// R[A] := v, and the place `by` behind the instruction.
-#[inline(always)]
-pub(crate) fn put_value(
-    words: &[Instruction],
-    registers: &mut [Value],
-    i: Instruction,
-    pc: usize,
-    v: Value,
-    by: usize,
-) -> usize
-    requires there { a_of i < length registers.old }
-    requires next { pc + by < length words.now }
-    ensures registers { registers.new ≡ slice_set registers.old (a_of i) v }
-    ensures next { result ≡ pc + by }
-{
-    registers[i.a() as usize] = v;
-    behind(words, pc, by)
-}
-
-/// R[A] := an integer, made here as well, and the place `by` behind the instruction.
-#[inline(always)]
-pub(crate) fn put_integer(
-    words: &[Instruction],
-    registers: &mut [Value],
-    i: Instruction,
-    pc: usize,
-    n: i64,
-    by: usize,
-) -> usize
-    requires there { a_of i < length registers.old }
-    requires next { pc + by < length words.now }
-    ensures registers { registers.new ≡ slice_set registers.old (a_of i) (Int n) }
-    ensures next { result ≡ pc + by }
-{
-    registers[i.a() as usize] = Value::Int(n);
-    behind(words, pc, by)
-}
-
 /// The place behind a test: the next instruction is passed over where the truth is not k.
 #[inline(always)]
 pub fn branch(words: &[Instruction], i: Instruction, pc: usize, truth: bool) -> usize

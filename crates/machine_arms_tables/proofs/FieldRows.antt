@@ -1,12 +1,12 @@
 -- Rows on fields, upvalues and lengths, whose operations are settled at once.
 use Rattle.std.proofs.Common.{◌≡◌, ℕ, ◌+◌, ◌<◌, List, [], ◌∷◌, length, map, Option, Some, None, refl, ap, sym, ◌∙◌, subst, Bool}
-use Rattle.std.specs.Prelude.{pos, cond, slice_get, slice_set}
-use Rattle.code_core.specs.Fields.{second_half}
+use Rattle.std.specs.Prelude.{pos, cond, IsTrue, slice_get, slice_set}
+use Rattle.code_core.specs.Fields.{registers, second_half}
 use Rattle.code_core.specs.Instruction.{a_of, b_of, c_of, k_of}
 use Rattle.code_core.specs.Prototype.{Prototype}
 use Rattle.code_core.specs.declared.instruction.Instruction.{Instruction}
 use Rattle.code_core.specs.declared.opcode.Opcode.{Opcode}
-use Rattle.code_core.specs.declared.opcode.Opcode.TheVariants.{GetUpval, SetUpval, GetTabUp, GetTable, GetI, GetField, SetTabUp, SetTable, SetI, SetField, Len, Jmp}
+use Rattle.code_core.specs.declared.opcode.Opcode.TheVariants.{GetUpval, SetUpval, GetTabUp, GetTable, GetI, GetField, SetTabUp, SetTable, SetI, SetField, Len, Jmp, Eq, Lt, Le}
 use Rattle.int_core.specs.Operations.{Operation, index, store, length', does, found, ask, fault, cannot_arise}
 use Rattle.int_core.specs.Value.{Value, same_truth}
 use Rattle.lua_heap.specs.Plain.{heap, cell}
@@ -17,7 +17,7 @@ use Rattle.machine_core.specs.Text.{Arg, read, args_of, operate, own, read_regis
 use Rattle.machine_core.specs.InstructionRows.{compares, to_register, next, row_of}
 use Rattle.machine_focus.specs.Focus.{Held, local}
 use Rattle.machine_view.specs.View.{Around, IsAt}
-use Rattle.machine_view.proofs.Places.{register_there}
+use Rattle.machine_view.proofs.Places.{behind_there, register_there}
 use Rattle.machine_view.proofs.Rows.{Comes, comes, reads, reads_constant, same_text}
 use Rattle.machine_view.proofs.Going.{at_either, at_next, decides, goes_by, puts}
 use Rattle.table_core.specs.Table.{Contents}
@@ -25,6 +25,7 @@ use Rattle.table_core.specs.declared.value.Value.{Value as Kept}
 use Rattle.table_core.specs.declared.value.Value.TheVariants.{Bool as Boolean, Int}
 use Rattle.machine_arms_tables.specs.Fields.{Settles, upvalue_in, with_upvalue}
 use Rattle.machine_arms_tables.specs.Frame.{Code, moment, IsOf, Leads}
+use Rattle.machine_arms_tables.specs.Orders.{comparison, is_comparison}
 use Rattle.machine_arms_tables.proofs.Leading.{held_at, leading, leading_to, open_alike, reads_either, reads_upvalue, writes_upvalue}
 
 -- texts that a contract sees are those of the world
@@ -60,13 +61,6 @@ module _ (g : Around) (meta : Option ℕ) (k : Code) (o : IsOf g k) (ts : List C
       → Comes g.context (operate store xs wait [] next) env (held_at g meta (moment ts cs r pc fuel)) (Some (held_at g meta (moment ts' cs r to fuel)))
   stores {to = to} ys ts' e d l p = operates ys [] ts' e d (goes_by g (heap g.texts ts' meta) (map (cell g.texts) cs) r pc fuel to 1 o.code l p)
 
--- an integer key that is spelled in the instruction
-pub spelled : {texts : List (List ℕ)} {ts : List Contents} {object key v : Kept} {m n : ℕ} → key ≡ Int (pos m) → m ≡ n → Settles texts index (object ∷ key ∷ []) ts ts (v ∷ []) → Settles texts index (object ∷ Int (pos n) ∷ []) ts ts (v ∷ [])
-spelled {texts = texts} {ts = ts} {object = object} {v = v} e f d = subst (λ key. Settles texts index (object ∷ key ∷ []) ts ts (v ∷ [])) (e ∙ ap (λ n. Int (pos n)) f) d
-
-pub stored_at : {texts : List (List ℕ)} {ts ts' : List Contents} {object key v : Kept} {m n : ℕ} → key ≡ Int (pos m) → m ≡ n → Settles texts store (object ∷ key ∷ v ∷ []) ts ts' [] → Settles texts store (object ∷ Int (pos n) ∷ v ∷ []) ts ts' []
-stored_at {texts = texts} {ts = ts} {ts' = ts'} {object = object} {v = v} e f d = subst (λ key. Settles texts store (object ∷ key ∷ v ∷ []) ts ts' []) (e ∙ ap (λ n. Int (pos n)) f) d
-
 -- reads
 
 module _ (k : Code) {w : Instruction} {ts : List Contents} {r s : List Kept} {pc to : ℕ} {object key v : Kept} where
@@ -92,12 +86,12 @@ module _ (k : Code) {w : Instruction} {ts : List Contents} {r s : List Kept} {pc
       (reads_constant g (heap g.texts ts meta) (map (cell g.texts) cells) r pc fuel (c_of w) key o.code ek
       (gets_value g meta k o ts cells r pc fuel (object ∷ key ∷ []) (a_of w) v refl d (at_next h refl p) (register_there h 0 (a_of w) refl) f p)))
 
-pub get_integer_does : (k : Code) {w : Instruction} {ts : List Contents} {r s : List Kept} {pc to : ℕ} {object v : Kept} → IsAt GetI w k.words k.constants r pc → slice_get r (b_of w) ≡ Some object
-    → Settles k.texts index (object ∷ Int (pos (c_of w)) ∷ []) ts ts (v ∷ [])
+pub get_integer_does : (k : Code) {w : Instruction} {ts : List Contents} {r s : List Kept} {pc to : ℕ} {object key v : Kept} → IsAt GetI w k.words k.constants r pc → slice_get r (b_of w) ≡ Some object → Int (pos (c_of w)) ≡ key
+    → Settles k.texts index (object ∷ key ∷ []) ts ts (v ∷ [])
     → s ≡ slice_set r (a_of w) v → to ≡ pc + 1 → (cells : List KeptCell) (fuel : ℕ) → Leads GetI w k (moment ts cells r pc fuel) (moment ts cells s to fuel)
-get_integer_does k {w = w} {ts = ts} {r = r} {pc = pc} {object = object} {v = v} h eo d f p cells fuel = leading (at_next h refl p) (λ g meta o.
+get_integer_does k {w = w} {ts = ts} {r = r} {pc = pc} {object = object} {key = key} {v = v} h eo ek d f p cells fuel = leading (at_next h refl p) (λ g meta o.
     reads g (heap g.texts ts meta) (map (cell g.texts) cells) r pc fuel (b_of w) object eo
-    (gets_value g meta k o ts cells r pc fuel (object ∷ Int (pos (c_of w)) ∷ []) (a_of w) v refl d (at_next h refl p) (register_there h 0 (a_of w) refl) f p))
+    (gets_value g meta k o ts cells r pc fuel (object ∷ key ∷ []) (a_of w) v (ap (λ key. value g.texts object ∷ value g.texts key ∷ []) ek) d (at_next h refl p) (register_there h 0 (a_of w) refl) f p))
 
 pub length_does : (k : Code) {w : Instruction} {ts : List Contents} {r s : List Kept} {pc to : ℕ} {object v : Kept} → IsAt Len w k.words k.constants r pc → slice_get r (b_of w) ≡ Some object
     → Settles k.texts length' (object ∷ []) ts ts (v ∷ [])
@@ -107,17 +101,36 @@ length_does k {w = w} {ts = ts} {r = r} {pc = pc} {object = object} {v = v} h eo
     (gets_value g meta k o ts cells r pc fuel (object ∷ []) (a_of w) v refl d (at_next h refl p) (register_there h 0 (a_of w) refl) f p))
 
 -- comparisons of two registers
-pub compare_does : (k : Code) {op : Opcode} {operation : Operation} {w : Instruction} {ts : List Contents} {r : List Kept} {pc to : ℕ} (u v : Kept) (b : Bool) → IsAt op w k.words k.constants r pc
-    → ((p : Prototype) (pc : ℕ) → row_of p pc op w ≡ own (read_register (a_of w)) (λ x _. own (read_register (b_of w)) (λ y _. compares operation (read x) (read y) w))) → second_half op w ≡ Some Jmp
-    → slice_get r (a_of w) ≡ Some u → slice_get r (b_of w) ≡ Some v → Settles k.texts operation (u ∷ v ∷ []) ts ts (Boolean b ∷ []) → to ≡ pc + cond (same_truth b (k_of w)) 1 2
-    → (cells : List KeptCell) (fuel : ℕ) → Leads op w k (moment ts cells r pc fuel) (moment ts cells r to fuel)
-compare_does k {w = w} {ts = ts} {r = r} {pc = pc} u v b h row pair eu ev d p cells fuel =
-    let l = at_either h Jmp pair refl (same_truth b (k_of w)) p in
-    leading l (λ g meta o.
-    same_text (row g.context.closure.code pc)
-    (reads g (heap g.texts ts meta) (map (cell g.texts) cells) r pc fuel (a_of w) u eu
-    (reads g (heap g.texts ts meta) (map (cell g.texts) cells) r pc fuel (b_of w) v ev
-    (decides g (heap g.texts ts meta) (map (cell g.texts) cells) r pc fuel w b o.code l p ((settled_here o d).settled meta o.code.apart o.code.short)))))
+record OfComparison (op : Opcode) (w : Instruction) : Type 0 where
+  pub row : (p : Prototype) (pc : ℕ) → row_of p pc op w ≡ own (read_register (a_of w)) (λ x _. own (read_register (b_of w)) (λ y _. compares (comparison op) (read x) (read y) w))
+  pub names : registers op w ≡ a_of w ∷ b_of w ∷ []
+  pub pair : second_half op w ≡ Some Jmp
+
+of_comparison : (op : Opcode) (w : Instruction) → IsTrue (is_comparison op) → OfComparison op w
+of_comparison Eq w h = record { row = λ p pc. refl; names = refl; pair = refl }
+of_comparison Lt w h = record { row = λ p pc. refl; names = refl; pair = refl }
+of_comparison Le w h = record { row = λ p pc. refl; names = refl; pair = refl }
+of_comparison _ w h = absurd (cc)
+
+module _ (k : Code) {op : Opcode} {w : Instruction} {r : List Kept} {pc : ℕ} (h : IsAt op w k.words k.constants r pc) (form : IsTrue (is_comparison op)) where
+  it : OfComparison op w
+  it = of_comparison op w form
+
+  pub compared_named : (n i : ℕ) → slice_get (a_of w ∷ b_of w ∷ []) n ≡ Some i → i < length r
+  compared_named n i e = register_there h n i (ap (λ is. slice_get is n) it.names ∙ e)
+
+  pub compared_behind : pc + 2 < length k.words
+  compared_behind = behind_there h Jmp it.pair refl
+
+  pub compare_does : {ts : List Contents} {to : ℕ} (u v : Kept) (b : Bool) → slice_get r (a_of w) ≡ Some u → slice_get r (b_of w) ≡ Some v → Settles k.texts (comparison op) (u ∷ v ∷ []) ts ts (Boolean b ∷ [])
+      → to ≡ pc + cond (same_truth b (k_of w)) 1 2 → (cells : List KeptCell) (fuel : ℕ) → Leads op w k (moment ts cells r pc fuel) (moment ts cells r to fuel)
+  compare_does {ts = ts} u v b eu ev d p cells fuel =
+      let l = at_either h Jmp it.pair refl (same_truth b (k_of w)) p in
+      leading l (λ g meta o.
+      same_text (it.row g.context.closure.code pc)
+      (reads g (heap g.texts ts meta) (map (cell g.texts) cells) r pc fuel (a_of w) u eu
+      (reads g (heap g.texts ts meta) (map (cell g.texts) cells) r pc fuel (b_of w) v ev
+      (decides g (heap g.texts ts meta) (map (cell g.texts) cells) r pc fuel w b o.code l p ((settled_here o d).settled meta o.code.apart o.code.short)))))
 
 -- upvalues
 
@@ -166,10 +179,10 @@ module _ (k : Code) {w : Instruction} {ts ts' : List Contents} {r : List Kept} {
       (reads_either g meta (moment ts cells r pc fuel) _ w v o.code ev
       (stores g meta k o ts cells r pc fuel (object ∷ key ∷ v ∷ []) ts' refl d (at_next h refl p) p))))
 
-pub set_integer_does : (k : Code) {w : Instruction} {ts ts' : List Contents} {r : List Kept} {pc to : ℕ} {object v : Kept} → IsAt SetI w k.words k.constants r pc → slice_get r (a_of w) ≡ Some object
-    → IsOperand k w r v → Settles k.texts store (object ∷ Int (pos (b_of w)) ∷ v ∷ []) ts ts' []
+pub set_integer_does : (k : Code) {w : Instruction} {ts ts' : List Contents} {r : List Kept} {pc to : ℕ} {object key v : Kept} → IsAt SetI w k.words k.constants r pc → slice_get r (a_of w) ≡ Some object → Int (pos (b_of w)) ≡ key
+    → IsOperand k w r v → Settles k.texts store (object ∷ key ∷ v ∷ []) ts ts' []
     → to ≡ pc + 1 → (cells : List KeptCell) (fuel : ℕ) → Leads SetI w k (moment ts cells r pc fuel) (moment ts' cells r to fuel)
-set_integer_does k {w = w} {ts = ts} {ts' = ts'} {r = r} {pc = pc} {object = object} {v = v} h eo ev d p cells fuel = leading (at_next h refl p) (λ g meta o.
+set_integer_does k {w = w} {ts = ts} {ts' = ts'} {r = r} {pc = pc} {object = object} {key = key} {v = v} h eo ek ev d p cells fuel = leading (at_next h refl p) (λ g meta o.
     reads g (heap g.texts ts meta) (map (cell g.texts) cells) r pc fuel (a_of w) object eo
     (reads_either g meta (moment ts cells r pc fuel) _ w v o.code ev
-    (stores g meta k o ts cells r pc fuel (object ∷ Int (pos (b_of w)) ∷ v ∷ []) ts' refl d (at_next h refl p) p)))
+    (stores g meta k o ts cells r pc fuel (object ∷ key ∷ v ∷ []) ts' (ap (λ key. value g.texts object ∷ value g.texts key ∷ value g.texts v ∷ []) ek) d (at_next h refl p) p)))

@@ -3,6 +3,7 @@ mod Compared
 mod Inheriting
 mod Leading
 mod FieldRows
+mod FieldNames
 mod MakingRows
 mod SelfRow
 mod Operands

@@ -63,6 +63,10 @@ pub record Leads (op : Opcode) (w : Instruction) (k : Code) (m n : Moment) : Typ
   pub runs : (g : Around) (string_metatable : Option ℕ) → IsOf g k → Stands g.context
       → run (expand (row_of g.context.closure.code m.pc op w)) [] (world_at g string_metatable m) ≡ ends go (world_at g string_metatable n)
 
+-- so it does whatever is left of the budget
+pub record LeadsOn (op : Opcode) (w : Instruction) (k : Code) (pc to : ℕ) (tables tables' : List Contents) (cells cells' : List Cell) (registers registers' : List Value) : Type 0 where
+  pub leads : (fuel : ℕ) → Leads op w k (moment tables cells registers pc fuel) (moment tables' cells' registers' to fuel)
+
 -- a moment of a sound world
 pub record IsReadyAt (g : Around) (string_metatable : Option ℕ) (k : Code) (m : Moment) : Type 0 where
   pub ready : Ready g k.words k.constants (heap g.texts m.tables string_metatable) (map (cell g.texts) m.cells) m.registers m.pc m.fuel

@@ -1,6 +1,6 @@
 // The function that runs, and the values that an instruction names by number.
 ghost use Rattle.std.specs.Prelude.{◌≡◌, ◌+◌, ◌<◌, length, slice_get, slice_set, Some, true, false, cond, pos};
-ghost use Rattle.code_core.specs.Instruction.{a_of, c_of, k_of};
+ghost use Rattle.code_core.specs.Instruction.{c_of, k_of};
 ghost use Rattle.table_core.specs.declared.value.Value.TheVariants.{Int};
 
 use code_core::Instruction;
@@ -62,18 +62,6 @@ impl<'a> Closure<'a> {
         } else {
             registers[i.c() as usize]
         }
-    }
-
-    /// R[A] := v, and the place behind the instruction.
-    #[inline(always)]
-    pub(crate) fn store(self, registers: &mut [Value], i: Instruction, pc: usize, v: Value) -> usize
-        requires there { a_of i < length registers.old }
-        requires next { pc + 1 < length self.words.now }
-        ensures registers { registers.new ≡ slice_set registers.old (a_of i) v }
-        ensures next { result ≡ pc + 1 }
-    {
-        set_register(registers, i.a() as usize, v);
-        self.next(pc)
     }
 
     /// The place behind an instruction.

@@ -1,76 +1,58 @@
 // Comparisons of two tables that no handler decides, and of two strings (Lua 5.4's lopcodes.h, EQ, LT and LE; Lua 5.4 manual, 3.4.4).
-ghost use Rattle.std.specs.Prelude.{◌≡◌, ◌<◌, ℕ, List, IfSome, [], ◌∷◌, length};
-ghost use Rattle.code_core.specs.declared.opcode.Opcode.TheVariants.{Eq, Le, Lt};
-ghost use Rattle.int_core.specs.Operations.{equal as is_equal, less as is_less, less_equal as is_at_most};
+ghost use Rattle.std.specs.Prelude.{◌≡◌, ◌<◌, List, IfSome, IsTrue, [], ◌∷◌, length};
+ghost use Rattle.int_core.specs.Operations.{does, equal as is_equal};
+ghost use Rattle.lua_heap.specs.Reading.{value};
 ghost use Rattle.lua_heap.specs.declared.world.Cell.{Cell};
 ghost use Rattle.machine_arms_tables.specs.Fields.{Settles};
-ghost use Rattle.machine_arms_tables.specs.Frame.{Leads, code, moment};
-ghost use Rattle.machine_view.specs.View.{IsAt};
+ghost use Rattle.machine_arms_tables.specs.Leading.{Gets, IsSite};
+ghost use Rattle.machine_arms_tables.specs.Orders.{comparison, is_comparison, order_of};
+ghost use Rattle.meta_ops.specs.Heap.{IsThere, heap_of};
+ghost use Rattle.meta_ops.specs.Outcome.{settled};
 ghost use Rattle.table_core.specs.declared.value.Value.TheVariants.{Bool as Boolean, Str, Table as a_table};
 
-use crate::closure::{Closure, register};
-use code_core::Instruction;
+use crate::closure::register;
+use crate::site::Site;
+use code_core::Opcode;
 use lua_heap::Strings;
 use machine_arms_numbers::branch;
 use meta_ops::{Heap, Outcome, equal, less, less_equal};
 use object_pool::Pool;
 use table_core::{StrId, Table, TableId, Value};
 
-/// EQ: R[A] == R[B]. `None` where one is no table, and where a handler is to be called.
-pub(crate) fn equal_tables(
-    closure: Closure,
-    strings: &Strings,
+/// EQ, LT and LE: R[A] == R[B], R[A] < R[B], R[A] <= R[B]. `None` where EQ finds one that is no table or calls a handler, and LT or LE one that is no string.
+#[inline(always)]
+pub(crate) fn compare(
+    op: Opcode,
+    site: Site,
     tables: &Pool<Table>,
     registers: &[Value],
-    i: Instruction,
-    pc: usize,
 ) -> Option<usize>
-    requires { IsAt Eq i closure.words.now closure.constants.now registers.now pc }
-    ensures { IfSome result (λ to. (cells : List Cell) (fuel : ℕ) → Leads Eq i (code closure.entry strings.now) (moment tables.now.objects cells registers.now pc fuel) (moment tables.now.objects cells registers.now to fuel)) }
+    requires at { IsSite op site registers.now }
+    requires form { IsTrue (is_comparison op) }
+    ensures { IfSome result (λ to. (cells : List Cell) → Gets op site.entry tables.now.objects cells registers.now registers.now to) }
 {
-    let left = register(registers, i.a() as usize);
-    let right = register(registers, i.b() as usize);
-    let truth = are_equal(strings, tables, left, right)?;
-    let to = branch(closure.words, i, pc, truth);
+    let left = register(registers, site.word.a() as usize);
+    let right = register(registers, site.word.b() as usize);
+    let truth = compared(op, site.strings, tables, left, right)?;
+    let to = branch(site.closure.words, site.word, site.pc, truth);
     Some(to)
 }
 
-/// LT: R[A] < R[B]. `None` where one is no string.
-pub(crate) fn less_texts(
-    closure: Closure,
+/// The truth of a comparison.
+#[inline(always)]
+fn compared(
+    op: Opcode,
     strings: &Strings,
     tables: &Pool<Table>,
-    registers: &[Value],
-    i: Instruction,
-    pc: usize,
-) -> Option<usize>
-    requires { IsAt Lt i closure.words.now closure.constants.now registers.now pc }
-    ensures { IfSome result (λ to. (cells : List Cell) (fuel : ℕ) → Leads Lt i (code closure.entry strings.now) (moment tables.now.objects cells registers.now pc fuel) (moment tables.now.objects cells registers.now to fuel)) }
+    left: Value,
+    right: Value,
+) -> Option<bool>
+    ensures { IfSome result (λ b. Settles strings.now (comparison op) (left ∷ right ∷ []) tables.now.objects tables.now.objects (Boolean b ∷ [])) }
 {
-    let left = register(registers, i.a() as usize);
-    let right = register(registers, i.b() as usize);
-    let truth = are_less(strings, tables, left, right)?;
-    let to = branch(closure.words, i, pc, truth);
-    Some(to)
-}
-
-/// LE: R[A] <= R[B]. `None` where one is no string.
-pub(crate) fn less_equal_texts(
-    closure: Closure,
-    strings: &Strings,
-    tables: &Pool<Table>,
-    registers: &[Value],
-    i: Instruction,
-    pc: usize,
-) -> Option<usize>
-    requires { IsAt Le i closure.words.now closure.constants.now registers.now pc }
-    ensures { IfSome result (λ to. (cells : List Cell) (fuel : ℕ) → Leads Le i (code closure.entry strings.now) (moment tables.now.objects cells registers.now pc fuel) (moment tables.now.objects cells registers.now to fuel)) }
-{
-    let left = register(registers, i.a() as usize);
-    let right = register(registers, i.b() as usize);
-    let truth = are_less_equal(strings, tables, left, right)?;
-    let to = branch(closure.words, i, pc, truth);
-    Some(to)
+    match op {
+        Opcode::Eq => are_equal(strings, tables, left, right),
+        _ => are_ordered(op, strings, tables, left, right),
+    }
 }
 
 /// Whether two tables are equal, where no handler is called for it.
@@ -90,31 +72,16 @@ fn are_equal(strings: &Strings, tables: &Pool<Table>, left: Value, right: Value)
     }
 }
 
-/// Whether a string comes before another.
-fn are_less(strings: &Strings, tables: &Pool<Table>, left: Value, right: Value) -> Option<bool>
-    ensures { IfSome result (λ b. Settles strings.now is_less (left ∷ right ∷ []) tables.now.objects tables.now.objects (Boolean b ∷ [])) }
-{
-    let s = text_in(strings, left)?;
-    let t = text_in(strings, right)?;
-    let heap = Heap {
-        tables,
-        strings,
-        string_meta: None,
-    };
-    match less(heap, Value::Str(s), Value::Str(t)) {
-        Outcome::Found(Value::Bool(truth)) => Some(truth),
-        _ => None,
-    }
-}
-
-/// Whether a string comes before another or is the same.
-fn are_less_equal(
+/// Whether two strings are in the order for which an instruction asks.
+#[inline(always)]
+fn are_ordered(
+    op: Opcode,
     strings: &Strings,
     tables: &Pool<Table>,
     left: Value,
     right: Value,
 ) -> Option<bool>
-    ensures { IfSome result (λ b. Settles strings.now is_at_most (left ∷ right ∷ []) tables.now.objects tables.now.objects (Boolean b ∷ [])) }
+    ensures { IfSome result (λ b. Settles strings.now (order_of op) (left ∷ right ∷ []) tables.now.objects tables.now.objects (Boolean b ∷ [])) }
 {
     let s = text_in(strings, left)?;
     let t = text_in(strings, right)?;
@@ -123,9 +90,22 @@ fn are_less_equal(
         strings,
         string_meta: None,
     };
-    match less_equal(heap, Value::Str(s), Value::Str(t)) {
+    match order(op, heap, Value::Str(s), Value::Str(t)) {
         Outcome::Found(Value::Bool(truth)) => Some(truth),
         _ => None,
+    }
+}
+
+/// What the order of an instruction comes to.
+#[inline(always)]
+fn order(op: Opcode, heap: Heap, left: Value, right: Value) -> Outcome
+    requires left { IsThere heap left }
+    requires right { IsThere heap right }
+    ensures { does (order_of op) (value heap.entry.strings.now left ∷ value heap.entry.strings.now right ∷ []) (heap_of heap.entry) ≡ settled heap.entry.strings.now (heap_of heap.entry) (value heap.entry.strings.now right ∷ []) result }
+{
+    match op {
+        Opcode::Lt => less(heap, left, right),
+        _ => less_equal(heap, left, right),
     }
 }
 

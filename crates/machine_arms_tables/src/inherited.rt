@@ -35,25 +35,10 @@ pub(crate) fn field_within(
     let own = field(tables, object, key);
     match own {
         Some(v) => Some(v),
-        None => field_above(strings, tables, object, key, reach),
-    }
-}
-
-/// The field of a value that does not have it itself.
-#[inline(always)]
-fn field_above(
-    strings: &Strings,
-    tables: &Pool<Table>,
-    object: Value,
-    key: Value,
-    reach: Reach,
-) -> Option<Value>
-    requires { field_at_once tables.now.objects object key ≡ None }
-    ensures { IfSome result (λ v. Settles strings.now index (object ∷ key ∷ []) tables.now.objects tables.now.objects (v ∷ [])) }
-{
-    match reach {
-        Reach::Own => None,
-        Reach::Inherited => inherited(strings, tables, object, key),
+        None => match reach {
+            Reach::Own => None,
+            Reach::Inherited => inherited(strings, tables, object, key),
+        },
     }
 }
 

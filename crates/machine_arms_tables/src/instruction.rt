@@ -1,16 +1,18 @@
 // The instructions of one frame, by their opcodes.
-ghost use Rattle.std.specs.Prelude.{◌≡◌, ℕ, IfSome, IfNone};
-ghost use Rattle.machine_arms_tables.specs.Frame.{Leads, code, moment};
+ghost use Rattle.std.specs.Prelude.{◌≡◌, IfSome, IfNone};
+ghost use Rattle.machine_arms_tables.specs.Frame.{Leads, LeadsOn, code, moment};
+ghost use Rattle.machine_arms_tables.specs.Leading.{IsSite, code_at};
 ghost use Rattle.machine_view.specs.View.{IsAt};
 
 use crate::closure::Closure;
-use crate::comparing::{equal_tables, less_equal_texts, less_texts};
+use crate::comparing::compare;
 use crate::inherited::Reach;
 use crate::lengths::get_length;
 use crate::making::new_table;
-use crate::reads::{get_element, get_field, get_integer, get_method, get_upvalue_field};
+use crate::reads::{get_field, get_method};
+use crate::site::Site;
 use crate::upvalues::{get_upvalue, set_upvalue};
-use crate::writes::{set_element, set_field, set_integer, set_upvalue_field};
+use crate::writes::set_field;
 use code_core::{Instruction, Opcode};
 use lua_heap::{Cell, Strings};
 use object_pool::Pool;
@@ -47,9 +49,15 @@ pub fn run_instruction(
         pc,
         fuel,
     );
+    let site = Site {
+        closure,
+        strings,
+        word: i,
+        pc,
+    };
     match done {
         Some(to) => Some(to),
-        None => run_on_objects(op, closure, strings, tables, cells, registers, i, pc),
+        None => run_on_objects(op, site, tables, cells, registers),
     }
 }
 
@@ -57,53 +65,33 @@ pub fn run_instruction(
 #[inline(always)]
 fn run_on_objects(
     op: Opcode,
-    closure: Closure,
-    strings: &Strings,
+    site: Site,
     tables: &mut Pool<Table>,
     cells: &mut Pool<Cell>,
     registers: &mut [Value],
-    i: Instruction,
-    pc: usize,
 ) -> Option<usize>
-    requires { IsAt op i closure.words.now closure.constants.now registers.old pc }
-    ensures goes { IfSome result (λ to. (fuel : ℕ) → Leads op i (code closure.entry strings.now) (moment tables.old.objects cells.old.objects registers.old pc fuel) (moment tables.new.objects cells.new.objects registers.new to fuel)) }
+    requires { IsSite op site registers.old }
+    ensures goes { IfSome result (λ to. LeadsOn op site.entry.word (code_at site.entry) site.entry.pc to tables.old.objects tables.new.objects cells.old.objects cells.new.objects registers.old registers.new) }
     ensures tables { IfNone result (tables.new ≡ tables.old) }
     ensures cells { IfNone result (cells.new ≡ cells.old) }
     ensures registers { IfNone result (registers.new ≡ registers.old) }
 {
+    let own = Reach::Own;
     match op {
-        Opcode::GetUpval => get_upvalue(closure, cells, registers, i, pc),
-        Opcode::SetUpval => set_upvalue(closure, cells, registers, i, pc),
-        Opcode::GetTabUp => get_upvalue_field(
-            closure,
-            strings,
-            tables,
-            cells,
-            registers,
-            i,
-            pc,
-            Reach::Own,
-        ),
-        Opcode::GetTable => get_element(closure, strings, tables, registers, i, pc, Reach::Own),
-        Opcode::GetI => get_integer(closure, strings, tables, registers, i, pc, Reach::Own),
-        Opcode::GetField => get_field(closure, strings, tables, registers, i, pc, Reach::Own),
-        Opcode::SetTabUp => set_upvalue_field(
-            closure,
-            strings,
-            tables,
-            cells,
-            registers,
-            i,
-            pc,
-            Reach::Own,
-        ),
-        Opcode::SetTable => set_element(closure, strings, tables, registers, i, pc, Reach::Own),
-        Opcode::SetI => set_integer(closure, strings, tables, registers, i, pc, Reach::Own),
-        Opcode::SetField => set_field(closure, strings, tables, registers, i, pc, Reach::Own),
+        Opcode::GetUpval => get_upvalue(site, cells, registers),
+        Opcode::SetUpval => set_upvalue(site, cells, registers),
+        Opcode::GetTabUp => get_field(Opcode::GetTabUp, site, tables, cells, registers, own),
+        Opcode::GetTable => get_field(Opcode::GetTable, site, tables, cells, registers, own),
+        Opcode::GetI => get_field(Opcode::GetI, site, tables, cells, registers, own),
+        Opcode::GetField => get_field(Opcode::GetField, site, tables, cells, registers, own),
+        Opcode::SetTabUp => set_field(Opcode::SetTabUp, site, tables, cells, registers, own),
+        Opcode::SetTable => set_field(Opcode::SetTable, site, tables, cells, registers, own),
+        Opcode::SetI => set_field(Opcode::SetI, site, tables, cells, registers, own),
+        Opcode::SetField => set_field(Opcode::SetField, site, tables, cells, registers, own),
         // Most methods are those of a class, so handlers are followed at once.
-        Opcode::OpSelf => get_method(closure, strings, tables, registers, i, pc, Reach::Inherited),
-        Opcode::Len => get_length(closure, strings, tables, registers, i, pc),
-        Opcode::NewTable => new_table(closure, tables, registers, i, pc),
+        Opcode::OpSelf => get_method(site, tables, registers, Reach::Inherited),
+        Opcode::Len => get_length(site, tables, registers),
+        Opcode::NewTable => new_table(site, tables, registers),
         _ => None,
     }
 }
@@ -122,20 +110,24 @@ pub fn settle_beyond(
     pc: usize,
 ) -> Option<usize>
     requires { IsAt op i closure.words.now closure.constants.now registers.old pc }
-    ensures goes { IfSome result (λ to. (fuel : ℕ) → Leads op i (code closure.entry strings.now) (moment tables.now.objects cells.now.objects registers.old pc fuel) (moment tables.now.objects cells.now.objects registers.new to fuel)) }
+    ensures goes { IfSome result (λ to. LeadsOn op i (code closure.entry strings.now) pc to tables.now.objects tables.now.objects cells.now.objects cells.now.objects registers.old registers.new) }
     ensures kept { IfNone result (registers.new ≡ registers.old) }
 {
+    let site = Site {
+        closure,
+        strings,
+        word: i,
+        pc,
+    };
     let far = Reach::Inherited;
     match op {
-        Opcode::GetTabUp => {
-            get_upvalue_field(closure, strings, tables, cells, registers, i, pc, far)
-        }
-        Opcode::GetTable => get_element(closure, strings, tables, registers, i, pc, far),
-        Opcode::GetI => get_integer(closure, strings, tables, registers, i, pc, far),
-        Opcode::GetField => get_field(closure, strings, tables, registers, i, pc, far),
-        Opcode::Eq => equal_tables(closure, strings, tables, registers, i, pc),
-        Opcode::Lt => less_texts(closure, strings, tables, registers, i, pc),
-        Opcode::Le => less_equal_texts(closure, strings, tables, registers, i, pc),
+        Opcode::GetTabUp => get_field(Opcode::GetTabUp, site, tables, cells, registers, far),
+        Opcode::GetTable => get_field(Opcode::GetTable, site, tables, cells, registers, far),
+        Opcode::GetI => get_field(Opcode::GetI, site, tables, cells, registers, far),
+        Opcode::GetField => get_field(Opcode::GetField, site, tables, cells, registers, far),
+        Opcode::Eq => compare(Opcode::Eq, site, tables, registers),
+        Opcode::Lt => compare(Opcode::Lt, site, tables, registers),
+        Opcode::Le => compare(Opcode::Le, site, tables, registers),
         _ => None,
     }
 }
@@ -154,17 +146,21 @@ pub fn store_beyond(
     pc: usize,
 ) -> Option<usize>
     requires { IsAt op i closure.words.now closure.constants.now registers.now pc }
-    ensures goes { IfSome result (λ to. (fuel : ℕ) → Leads op i (code closure.entry strings.now) (moment tables.old.objects cells.now.objects registers.now pc fuel) (moment tables.new.objects cells.now.objects registers.now to fuel)) }
+    ensures goes { IfSome result (λ to. LeadsOn op i (code closure.entry strings.now) pc to tables.old.objects tables.new.objects cells.now.objects cells.now.objects registers.now registers.now) }
     ensures kept { IfNone result (tables.new ≡ tables.old) }
 {
+    let site = Site {
+        closure,
+        strings,
+        word: i,
+        pc,
+    };
     let far = Reach::Inherited;
     match op {
-        Opcode::SetTabUp => {
-            set_upvalue_field(closure, strings, tables, cells, registers, i, pc, far)
-        }
-        Opcode::SetTable => set_element(closure, strings, tables, registers, i, pc, far),
-        Opcode::SetI => set_integer(closure, strings, tables, registers, i, pc, far),
-        Opcode::SetField => set_field(closure, strings, tables, registers, i, pc, far),
+        Opcode::SetTabUp => set_field(Opcode::SetTabUp, site, tables, cells, registers, far),
+        Opcode::SetTable => set_field(Opcode::SetTable, site, tables, cells, registers, far),
+        Opcode::SetI => set_field(Opcode::SetI, site, tables, cells, registers, far),
+        Opcode::SetField => set_field(Opcode::SetField, site, tables, cells, registers, far),
         _ => None,
     }
 }

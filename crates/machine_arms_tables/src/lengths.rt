@@ -1,17 +1,15 @@
 // The length operator (Lua 5.4's lopcodes.h, LEN; Lua 5.4 manual, 3.4.7).
-ghost use Rattle.std.specs.Prelude.{◌≡◌, ℕ, List, IfSome, IfNone, None, pos, [], ◌∷◌};
+ghost use Rattle.std.specs.Prelude.{◌≡◌, IfSome, None, pos, [], ◌∷◌};
 ghost use Rattle.int_core.specs.Rows.{border};
 ghost use Rattle.table_core.specs.Value.{lua_values};
 ghost use Rattle.code_core.specs.declared.opcode.Opcode.TheVariants.{Len};
 ghost use Rattle.int_core.specs.Operations.{length'};
-ghost use Rattle.lua_heap.specs.declared.world.Cell.{Cell};
 ghost use Rattle.machine_arms_tables.specs.Fields.{Settles};
-ghost use Rattle.machine_arms_tables.specs.Frame.{Leads, code, moment};
-ghost use Rattle.machine_view.specs.View.{IsAt};
+ghost use Rattle.machine_arms_tables.specs.Leading.{IsSite, MayGet};
 ghost use Rattle.table_core.specs.declared.value.Value.TheVariants.{Int};
 
-use crate::closure::{Closure, register};
-use code_core::Instruction;
+use crate::closure::register;
+use crate::site::Site;
 use lua_heap::{Strings, law};
 use object_pool::Pool;
 use table_core::{Table, Value};
@@ -43,18 +41,11 @@ fn border_of(table: &Table) -> Option<i64>
 
 /// LEN: R[A] := #R[B].
 #[inline(always)]
-pub(crate) fn get_length(
-    closure: Closure,
-    strings: &Strings,
-    tables: &Pool<Table>,
-    registers: &mut [Value],
-    i: Instruction,
-    pc: usize,
-) -> Option<usize>
-    requires { IsAt Len i closure.words.now closure.constants.now registers.old pc }
-    ensures goes { IfSome result (λ to. (cells : List Cell) (fuel : ℕ) → Leads Len i (code closure.entry strings.now) (moment tables.now.objects cells registers.old pc fuel) (moment tables.now.objects cells registers.new to fuel)) }
-    ensures kept { IfNone result (registers.new ≡ registers.old) }
+pub(crate) fn get_length(site: Site, tables: &Pool<Table>, registers: &mut [Value]) -> Option<usize>
+    requires { IsSite Len site registers.old }
+    ensures { MayGet Len site.entry tables.now.objects registers.old registers.new result }
 {
-    let n = length_of(strings, tables, register(registers, i.b() as usize))?;
-    Some(closure.store(registers, i, pc, Value::Int(n)))
+    let v = register(registers, site.word.b() as usize);
+    let n = length_of(site.strings, tables, v)?;
+    Some(site.store(registers, Value::Int(n)))
 }

@@ -2,12 +2,12 @@
 ghost use Rattle.std.specs.Prelude.{◌≡◌, ◌<◌, ℕ, List, IfSome, IfNone, length};
 ghost use Rattle.code_core.specs.declared.opcode.Opcode.TheVariants.{NewTable};
 ghost use Rattle.lua_heap.specs.declared.world.Cell.{Cell};
-ghost use Rattle.machine_arms_tables.specs.Frame.{Leads, code, moment};
+ghost use Rattle.machine_arms_tables.specs.Frame.{LeadsOn, code};
+ghost use Rattle.machine_arms_tables.specs.Leading.{IsSite};
 ghost use Rattle.machine_arms_tables.specs.Making.{AddsEmpty};
-ghost use Rattle.machine_view.specs.View.{IsAt};
 
-use crate::closure::{Closure, set_register};
-use code_core::Instruction;
+use crate::closure::set_register;
+use crate::site::Site;
 use object_pool::Pool;
 use table_core::{Table, TableId, Value};
 
@@ -36,18 +36,16 @@ fn add_table(tables: &mut Pool<Table>) -> Option<TableId>
 /// NEWTABLE: R[A] := {}, and on behind the instruction after it. What the two tell of the table's size is passed over.
 #[inline(always)]
 pub(crate) fn new_table(
-    closure: Closure,
+    site: Site,
     tables: &mut Pool<Table>,
     registers: &mut [Value],
-    i: Instruction,
-    pc: usize,
 ) -> Option<usize>
-    requires { IsAt NewTable i closure.words.now closure.constants.now registers.old pc }
-    ensures goes { IfSome result (λ to. (texts : List (List ℕ)) (cells : List Cell) (fuel : ℕ) → Leads NewTable i (code closure.entry texts) (moment tables.old.objects cells registers.old pc fuel) (moment tables.new.objects cells registers.new to fuel)) }
+    requires { IsSite NewTable site registers.old }
+    ensures goes { IfSome result (λ to. (texts : List (List ℕ)) (cells : List Cell) → LeadsOn NewTable site.entry.word (code site.entry.closure texts) site.entry.pc to tables.old.objects tables.new.objects cells cells registers.old registers.new) }
     ensures tables { IfNone result (tables.new ≡ tables.old) }
     ensures registers { IfNone result (registers.new ≡ registers.old) }
 {
     let id = add_table(tables)?;
-    set_register(registers, i.a() as usize, Value::Table(id));
-    Some(closure.behind_pair(pc))
+    set_register(registers, site.word.a() as usize, Value::Table(id));
+    Some(site.closure.behind_pair(site.pc))
 }

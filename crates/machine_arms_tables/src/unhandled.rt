@@ -27,26 +27,10 @@ pub(crate) fn put_within(
 {
     match put_field(tables, object, key, v) {
         Some(()) => Some(()),
-        None => put_above(strings, tables, object, key, v, reach),
-    }
-}
-
-/// Puts a value at a key of a table whose metatable may decide it.
-#[inline(always)]
-fn put_above(
-    strings: &Strings,
-    tables: &mut Pool<Table>,
-    object: Value,
-    key: Value,
-    v: Value,
-    reach: Reach,
-) -> Option<()>
-    ensures settles { IfSome result (λ _. Settles strings.now store (object ∷ key ∷ v ∷ []) tables.old.objects tables.new.objects []) }
-    ensures kept { IfNone result (tables.new ≡ tables.old) }
-{
-    match reach {
-        Reach::Own => None,
-        Reach::Inherited => put_unhandled(strings, tables, object, key, v),
+        None => match reach {
+            Reach::Own => None,
+            Reach::Inherited => put_unhandled(strings, tables, object, key, v),
+        },
     }
 }
 

@@ -2,12 +2,12 @@
 ghost use Rattle.std.specs.Prelude.{◌≡◌, ◌≢◌, ℕ, List, IfSome, IfNone, Some, None};
 ghost use Rattle.code_core.specs.declared.opcode.Opcode.TheVariants.{GetUpval, SetUpval};
 ghost use Rattle.machine_arms_tables.specs.Fields.{closed_value, upvalue_in, with_upvalue};
-ghost use Rattle.machine_arms_tables.specs.Frame.{Leads, code, moment};
-ghost use Rattle.machine_view.specs.View.{IsAt};
+ghost use Rattle.machine_arms_tables.specs.Frame.{LeadsOn, code};
+ghost use Rattle.machine_arms_tables.specs.Leading.{IsSite};
 ghost use Rattle.table_core.specs.Table.{Contents};
 
-use crate::closure::{Closure, register};
-use code_core::Instruction;
+use crate::closure::register;
+use crate::site::Site;
 use lua_heap::Cell;
 use object_pool::Pool;
 use table_core::{CellId, Value};
@@ -63,39 +63,23 @@ pub(crate) fn put_upvalue(
 
 /// GETUPVAL: R[A] := UpValue[B].
 #[inline(always)]
-pub(crate) fn get_upvalue(
-    closure: Closure,
-    cells: &Pool<Cell>,
-    registers: &mut [Value],
-    i: Instruction,
-    pc: usize,
-) -> Option<usize>
-    requires { IsAt GetUpval i closure.words.now closure.constants.now registers.old pc }
-    ensures goes { IfSome result (λ to. (texts : List (List ℕ)) (tables : List Contents) (fuel : ℕ) → Leads GetUpval i (code closure.entry texts) (moment tables cells.now.objects registers.old pc fuel) (moment tables cells.now.objects registers.new to fuel)) }
+pub(crate) fn get_upvalue(site: Site, cells: &Pool<Cell>, registers: &mut [Value]) -> Option<usize>
+    requires { IsSite GetUpval site registers.old }
+    ensures goes { IfSome result (λ to. (texts : List (List ℕ)) (tables : List Contents) → LeadsOn GetUpval site.entry.word (code site.entry.closure texts) site.entry.pc to tables tables cells.now.objects cells.now.objects registers.old registers.new) }
     ensures kept { IfNone result (registers.new ≡ registers.old) }
 {
-    let v = upvalue(cells, closure.upvalues, i.b())?;
-    Some(closure.store(registers, i, pc, v))
+    let v = upvalue(cells, site.closure.upvalues, site.word.b())?;
+    Some(site.store(registers, v))
 }
 
 /// SETUPVAL: UpValue[B] := R[A].
 #[inline(always)]
-pub(crate) fn set_upvalue(
-    closure: Closure,
-    cells: &mut Pool<Cell>,
-    registers: &[Value],
-    i: Instruction,
-    pc: usize,
-) -> Option<usize>
-    requires { IsAt SetUpval i closure.words.now closure.constants.now registers.now pc }
-    ensures goes { IfSome result (λ to. (texts : List (List ℕ)) (tables : List Contents) (fuel : ℕ) → Leads SetUpval i (code closure.entry texts) (moment tables cells.old.objects registers.now pc fuel) (moment tables cells.new.objects registers.now to fuel)) }
+pub(crate) fn set_upvalue(site: Site, cells: &mut Pool<Cell>, registers: &[Value]) -> Option<usize>
+    requires { IsSite SetUpval site registers.now }
+    ensures goes { IfSome result (λ to. (texts : List (List ℕ)) (tables : List Contents) → LeadsOn SetUpval site.entry.word (code site.entry.closure texts) site.entry.pc to tables tables cells.old.objects cells.new.objects registers.now registers.now) }
     ensures kept { IfNone result (cells.new ≡ cells.old) }
 {
-    put_upvalue(
-        cells,
-        closure.upvalues,
-        i.b(),
-        register(registers, i.a() as usize),
-    )?;
-    Some(closure.next(pc))
+    let v = register(registers, site.word.a() as usize);
+    put_upvalue(cells, site.closure.upvalues, site.word.b(), v)?;
+    Some(site.closure.next(site.pc))
 }

@@ -1,6 +1,6 @@
 -- CLOSE where no cell is open and nothing is to be closed is a step that only goes on.
 use Rattle.std.proofs.Common.{◌≡◌, ℕ, suc, ◌+◌, ◌<◌, ◌≤◌, List, [], ◌∷◌, ◌++◌, length, map, Option, Some, None, refl, ap, sym, subst, ◌∙◌, arith, Bool, true, false}
-use Rattle.std.specs.Prelude.{◌&&◌, not, cond, nat_eq, nat_lt, nat_le, slice_get, IfSome}
+use Rattle.std.specs.Prelude.{cond, nat_le, slice_get, IfSome}
 use Rattle.std.proofs.lemmas.Bool.Decides.{nat_tests}
 use Rattle.code_core.specs.Check.{at}
 use Rattle.code_core.specs.Instruction.{opcode_of, a_of}
@@ -8,14 +8,12 @@ use Rattle.code_core.specs.declared.instruction.Instruction.{Instruction}
 use Rattle.code_core.specs.declared.opcode.Opcode.{Opcode}
 use Rattle.code_core.specs.declared.opcode.Opcode.TheVariants.{Close}
 use Rattle.int_core.specs.Heap.{Heap}
-use Rattle.int_core.specs.Value.{Value, boolean, nil, Shape, is_known, nth}
-use Rattle.list_laws.proofs.Tests.{eq_true, lt_true}
+use Rattle.int_core.specs.Value.{Value, boolean, nil, Shape, is_known}
 use Rattle.lua_heap.specs.Plain.{cell, heap}
 use Rattle.lua_heap.specs.Reading.{value}
 use Rattle.lua_heap.specs.declared.world.Cell.{Cell as KeptCell}
 use Rattle.lua_heap.specs.declared.world.Cell.TheVariants.{Closed, Open}
-use Rattle.lua_heap.proofs.Captured.{by_test}
-use Rattle.machine_core.specs.World.{Cell, closed, open_at, for_close, close_from}
+use Rattle.machine_core.specs.World.{open_at, for_close, close_from}
 use Rattle.machine_core.specs.Text.{close, close_cells, is_there, last_pending, own, read, see_pending, take_pending, Text, trap, value_if, written}
 use Rattle.machine_core.specs.InstructionRows.{is_true, next, row_of, text_at, text_by, then}
 use Rattle.machine_core.specs.MachineStep.{step, and_then}

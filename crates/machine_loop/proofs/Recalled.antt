@@ -32,7 +32,7 @@ use Rattle.machine_loop.specs.declared.memo.Known.{Known}
 use Rattle.machine_loop.specs.declared.memo.Memo.{Memo}
 use Rattle.machine_loop.specs.Around.{GoesAround, GoesBeyond}
 use Rattle.machine_loop.specs.Knowing.{Adds, AllHold, HasValue, ReadsKnown, Remembers, Tells, by_first, by_second, by_third, to_first, to_second, to_third}
-use Rattle.machine_loop.specs.Running.{IsStep, Running}
+use Rattle.machine_loop.specs.Running.{IsStep, Running, StepsOnce}
 use Rattle.machine_loop.proofs.Alike.{still_open}
 
 -- what is known
@@ -162,13 +162,9 @@ module _ (g : Running) (k : Code) (m : Moment) (here : IsReadyAt g.around g.stri
     beyond_steps = steps_on g.around g.string_metatable k m here (moment us m.cells q to m.fuel) x.op x.word at_beyond (x.leads m.fuel)
 
   module _ (memo : Memo) (holds : AllHold g.around k.upvalues m.cells memo) (us : List Contents) (q : List Kept) (to : ℕ) where
-    around_one : GoesAround k m.tables us m.cells memo m.registers q m.pc to → IsStep g m (moment us m.cells q to m.fuel)
-    around_one (inl x) = subst (λ us. IsStep g m (moment us m.cells q to m.fuel)) (sym x.1) (known_one memo holds q to x.0)
-    around_one (inr x) = beyond_one us q to x
-
-    around_steps : GoesAround k m.tables us m.cells memo m.registers q m.pc to → StepsOn g.around g.string_metatable k m (moment us m.cells q to m.fuel)
-    around_steps (inl x) = subst (λ us. StepsOn g.around g.string_metatable k m (moment us m.cells q to m.fuel)) (sym x.1) (known_steps memo holds q to x.0)
-    around_steps (inr x) = beyond_steps us q to x
+    around_once : GoesAround k m.tables us m.cells memo m.registers q m.pc to → StepsOnce g k m (moment us m.cells q to m.fuel)
+    around_once (inl x) = subst (λ us. StepsOnce g k m (moment us m.cells q to m.fuel)) (sym x.1) (record { steps = known_steps memo holds q to x.0; one = known_one memo holds q to x.0 })
+    around_once (inr x) = record { steps = beyond_steps us q to x; one = beyond_one us q to x }
 
   -- where an instruction was tried that left all as it was
   module _ (memo : Memo) (holds : AllHold g.around k.upvalues m.cells memo) (o : Option ℕ) (ts us : List Contents) (cs : List KeptCell) (r q : List Kept) (left : ℕ)
@@ -178,12 +174,7 @@ module _ (g : Running) (k : Code) (m : Moment) (here : IsReadyAt g.around g.stri
         subst (λ ts. IfSome o (λ to. GoesAround k ts us m.cells memo m.registers q m.pc to)) t
         (subst (λ cs. IfSome o (λ to. GoesAround k ts us cs memo m.registers q m.pc to)) c (subst (λ r. IfSome o (λ to. GoesAround k ts us cs memo r q m.pc to)) e x))
 
-    pub steps_then : IfSome o (λ to. StepsOn g.around g.string_metatable k m (moment us cs q to left))
-    steps_then =
-        subst (λ cs. IfSome o (λ to. StepsOn g.around g.string_metatable k m (moment us cs q to left))) (sym c)
-        (subst (λ left. IfSome o (λ to. StepsOn g.around g.string_metatable k m (moment us m.cells q to left))) (sym l) (IfSome_then o goes_now (λ to y. around_steps memo holds us q to y)))
-
-    pub one_then : IfSome o (λ to. IsStep g m (moment us cs q to left))
-    one_then =
-        subst (λ cs. IfSome o (λ to. IsStep g m (moment us cs q to left))) (sym c)
-        (subst (λ left. IfSome o (λ to. IsStep g m (moment us m.cells q to left))) (sym l) (IfSome_then o goes_now (λ to y. around_one memo holds us q to y)))
+    pub once_then : IfSome o (λ to. StepsOnce g k m (moment us cs q to left))
+    once_then =
+        subst (λ cs. IfSome o (λ to. StepsOnce g k m (moment us cs q to left))) (sym c)
+        (subst (λ left. IfSome o (λ to. StepsOnce g k m (moment us m.cells q to left))) (sym l) (IfSome_then o goes_now (λ to y. around_once memo holds us q to y)))

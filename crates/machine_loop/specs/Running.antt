@@ -7,7 +7,7 @@ use Rattle.lua_heap.specs.declared.world.Cell.TheVariants.{Open}
 use Rattle.machine_core.specs.MachineStep.{step}
 use Rattle.machine_core.specs.Moves.{Row, ends, go}
 use Rattle.machine_core.specs.Text.{last_pending}
-use Rattle.machine_arms_tables.specs.Frame.{Moment, world_at}
+use Rattle.machine_arms_tables.specs.Frame.{Code, Moment, StepsOn, world_at}
 use Rattle.machine_view.specs.View.{Around}
 use Rattle.table_core.specs.declared.value.CoroId.{CoroId}
 
@@ -18,6 +18,11 @@ pub record Running : Type 0 where
 -- one step of the machine leads from one moment to another, whatever the rows of the primitives are
 pub record IsStep (g : Running) (m n : Moment) : Type 0 where
   pub is : (rows : ℕ → Row) → step rows go (world_at g.around g.string_metatable m) ≡ ends go (world_at g.around g.string_metatable n)
+
+-- so it does, and the world is sound after it
+pub record StepsOnce (g : Running) (k : Code) (m n : Moment) : Type 0 where
+  pub steps : StepsOn g.around g.string_metatable k m n
+  pub one : IsStep g m n
 
 -- no cell is open at this register of the frame that runs or above, and none of its variables there is still to be closed
 pub record ClosesNothing (g : Around) (cells : List Cell) (register : ℕ) : Type 0 where

@@ -66,7 +66,14 @@ fn go_beyond(
     if !may_look_beyond(i) {
         return None;
     }
-    go_above(closure, strings, tables, cells, registers, pc)
+    let op = opcode_in(i)?;
+    if looks_beyond(op) {
+        return settle_beyond(op, closure, strings, tables, cells, registers, i, pc);
+    }
+    if stores_beyond(op) {
+        return store_beyond(op, closure, strings, tables, cells, registers, i, pc);
+    }
+    None
 }
 
 /// Whether an opcode's number is from that of GETTABUP to that of SETFIELD, which read a field or store to one, or from that of EQ to that of LE.
@@ -74,71 +81,6 @@ fn go_beyond(
 fn may_look_beyond(i: Instruction) -> bool {
     let number = number_in(i);
     (11 <= number && number <= 18) || (57 <= number && number <= 59)
-}
-
-/// Does a read or comparison, or else a store.
-#[inline(always)]
-fn go_above(
-    closure: Closure,
-    strings: &Strings,
-    tables: &mut Pool<Table>,
-    cells: &Pool<Cell>,
-    registers: &mut [Value],
-    pc: usize,
-) -> Option<usize>
-    requires { HasInstruction closure.words.now closure.constants.now registers.old pc }
-    ensures goes { IfSome result (λ to. GoesBeyond (code closure.entry strings.now) tables.old.objects tables.new.objects cells.now.objects registers.old registers.new pc to) }
-    ensures tables { IfNone result (tables.new ≡ tables.old) }
-    ensures registers { IfNone result (registers.new ≡ registers.old) }
-{
-    match read_above(closure, strings, tables, cells, registers, pc) {
-        Some(to) => Some(to),
-        None => store_above(closure, strings, tables, cells, registers, pc),
-    }
-}
-
-/// Reads a field that handlers lead to, or compares two tables or two strings.
-#[inline(always)]
-fn read_above(
-    closure: Closure,
-    strings: &Strings,
-    tables: &Pool<Table>,
-    cells: &Pool<Cell>,
-    registers: &mut [Value],
-    pc: usize,
-) -> Option<usize>
-    requires { HasInstruction closure.words.now closure.constants.now registers.old pc }
-    ensures reads { IfSome result (λ to. GoesBeyond (code closure.entry strings.now) tables.now.objects tables.now.objects cells.now.objects registers.old registers.new pc to) }
-    ensures kept { IfNone result (registers.new ≡ registers.old) }
-{
-    let i = fetch(closure.words, pc);
-    let op = opcode_in(i)?;
-    if !looks_beyond(op) {
-        return None;
-    }
-    settle_beyond(op, closure, strings, tables, cells, registers, i, pc)
-}
-
-/// Puts a value into a field of a table whose metatable has no handler for stores.
-#[inline(always)]
-fn store_above(
-    closure: Closure,
-    strings: &Strings,
-    tables: &mut Pool<Table>,
-    cells: &Pool<Cell>,
-    registers: &[Value],
-    pc: usize,
-) -> Option<usize>
-    requires { HasInstruction closure.words.now closure.constants.now registers.now pc }
-    ensures stores { IfSome result (λ to. GoesBeyond (code closure.entry strings.now) tables.old.objects tables.new.objects cells.now.objects registers.now registers.now pc to) }
-    ensures kept { IfNone result (tables.new ≡ tables.old) }
-{
-    let i = fetch(closure.words, pc);
-    let op = opcode_in(i)?;
-    if !stores_beyond(op) {
-        return None;
-    }
-    store_beyond(op, closure, strings, tables, cells, registers, i, pc)
 }
 
 /// Whether an instruction reads a field or compares two registers.

@@ -1,8 +1,8 @@
 // The loop over the instructions of the frame that runs.
 ghost use Rattle.std.specs.Prelude.{◌≡◌, IfNone, IfSome};
-ghost use Rattle.machine_arms_tables.specs.Frame.{IsReadyAt, AreOpenAlike, RunsTo, StepsOn, code, moment};
+ghost use Rattle.machine_arms_tables.specs.Frame.{IsReadyAt, AreOpenAlike, RunsTo, code, moment};
 ghost use Rattle.machine_loop.specs.Knowing.{AllHold};
-ghost use Rattle.machine_loop.specs.Running.{IsStep, Running};
+ghost use Rattle.machine_loop.specs.Running.{Running, StepsOnce};
 
 use crate::around::go_around;
 use crate::decoding::opcode_in;
@@ -27,8 +27,7 @@ fn step_frame(
 ) -> Option<usize>
     ghost g: { Running }
     requires { IsReadyAt g.around g.string_metatable (code closure strings.now) (moment tables.old.objects cells.old.objects registers.old pc fuel.old) }
-    ensures steps { IfSome result (λ to. StepsOn g.around g.string_metatable (code closure.entry strings.now) (moment tables.old.objects cells.old.objects registers.old pc fuel.old) (moment tables.new.objects cells.new.objects registers.new to fuel.new)) }
-    ensures one { IfSome result (λ to. IsStep g (moment tables.old.objects cells.old.objects registers.old pc fuel.old) (moment tables.new.objects cells.new.objects registers.new to fuel.new)) }
+    ensures once { IfSome result (λ to. StepsOnce g (code closure.entry strings.now) (moment tables.old.objects cells.old.objects registers.old pc fuel.old) (moment tables.new.objects cells.new.objects registers.new to fuel.new)) }
     ensures tables { IfNone result (tables.new ≡ tables.old) }
     ensures cells { IfNone result (cells.new ≡ cells.old) }
     ensures registers { IfNone result (registers.new ≡ registers.old) }
@@ -55,8 +54,7 @@ fn go_on(
     ghost g: { Running }
     requires ready { IsReadyAt g.around g.string_metatable (code closure strings.now) (moment tables.old.objects cells.old.objects registers.old pc fuel.old) }
     requires known { AllHold g.around closure.upvalues.now cells.old.objects memo.now }
-    ensures steps { IfSome result (λ to. StepsOn g.around g.string_metatable (code closure.entry strings.now) (moment tables.old.objects cells.old.objects registers.old pc fuel.old) (moment tables.new.objects cells.new.objects registers.new to fuel.new)) }
-    ensures one { IfSome result (λ to. IsStep g (moment tables.old.objects cells.old.objects registers.old pc fuel.old) (moment tables.new.objects cells.new.objects registers.new to fuel.new)) }
+    ensures once { IfSome result (λ to. StepsOnce g (code closure.entry strings.now) (moment tables.old.objects cells.old.objects registers.old pc fuel.old) (moment tables.new.objects cells.new.objects registers.new to fuel.new)) }
     ensures tables { IfNone result (tables.new ≡ tables.old) }
     ensures cells { IfNone result (cells.new ≡ cells.old) }
     ensures registers { IfNone result (registers.new ≡ registers.old) }

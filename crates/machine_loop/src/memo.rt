@@ -28,39 +28,26 @@ pub struct Memo {
 pub fn add_known(memo: Memo, entry: Known) -> Option<Memo>
     ensures { IfSome result (λ more. Adds memo entry more) }
 {
-    match memo.first {
-        None => Some(Memo {
-            first: Some(entry),
+    let known = Some(entry);
+    if memo.first.is_none() {
+        return Some(Memo {
+            first: known,
             ..memo
-        }),
-        Some(_) => add_second(memo, entry),
+        });
     }
-}
-
-/// Behind the first.
-fn add_second(memo: Memo, entry: Known) -> Option<Memo>
-    ensures { IfSome result (λ more. Adds memo entry more) }
-{
-    match memo.second {
-        None => Some(Memo {
-            second: Some(entry),
+    if memo.second.is_none() {
+        return Some(Memo {
+            second: known,
             ..memo
-        }),
-        Some(_) => add_third(memo, entry),
+        });
     }
-}
-
-/// Behind the second.
-fn add_third(memo: Memo, entry: Known) -> Option<Memo>
-    ensures { IfSome result (λ more. Adds memo entry more) }
-{
-    match memo.third {
-        None => Some(Memo {
-            third: Some(entry),
+    if memo.third.is_none() {
+        return Some(Memo {
+            third: known,
             ..memo
-        }),
-        Some(_) => None,
+        });
     }
+    None
 }
 
 /// The value of an upvalue, where this is known of it.

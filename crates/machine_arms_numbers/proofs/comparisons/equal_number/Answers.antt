@@ -1,4 +1,4 @@
-use Rattle.std.proofs.Common.{rules, ◌≡◌, ◌-◌, refl, Some}
+use Rattle.std.proofs.Common.{rules, ◌≡◌, refl, Some}
 use Rattle.code_core.specs.Instruction.{a_of, sb_of}
 use Rattle.machine_view.proofs.Places.{register_there}
 use Rattle.table_core.specs.declared.value.Value.TheVariants.{Int}
@@ -7,12 +7,12 @@ use Rattle.machine_arms_numbers.proofs.NumberRows.{equal_number_does, branch_the
 use Rattle.machine_arms_numbers.proofs.comparisons.equal_number.Goals as goal
 
 pub get_a-requires : goal.get_a-requires
-get_a-requires c = register_there c.requires 0 (a_of c.args.i) refl
+get_a-requires c = register_there c.requires 0 (a_of c.args.site.word) refl
 
-pub branch-words-requires : goal.branch-words-requires
-branch-words-requires c = branch_there c.requires refl
+pub branch-site-requires : goal.branch-site-requires
+branch-site-requires c = branch_there c.requires refl
 
-pub returns-clause-goes : goal.returns-clause-goes
-returns-clause-goes c =
-    let q : Some c.in_ok-truth.truth ≡ equal_at_once c.get_a.result (Int (sb_of c.args.i)) = search rules in
-    equal_number_does c.get_a.result c.in_ok-truth.truth c.requires c.get_a.ensures q c.branch-words.ensures
+pub returns : goal.returns
+returns c =
+    let q : Some c.in_ok-truth.truth ≡ equal_at_once c.get_a.result (Int (sb_of c.args.site.word)) = search rules in
+    equal_number_does c.get_a.result c.in_ok-truth.truth c.requires c.get_a.ensures q c.branch-site.ensures

@@ -1,4 +1,4 @@
-use Rattle.std.proofs.Common.{◌≡◌, ◌+◌, ◌-◌, ◌∙◌, ap, sym, refl, Some, true, false, arith}
+use Rattle.std.proofs.Common.{◌≡◌, ◌+◌, ◌-◌, ◌∙◌, ap, sym, refl, Some, arith}
 use Rattle.machine_view.proofs.Places.{next_there}
 use Rattle.table_core.specs.declared.value.Value.TheVariants.{Nil}
 use Rattle.machine_arms_numbers.proofs.LoopRows.{each_back, each_value, each_ends, each_goes}
@@ -11,8 +11,8 @@ get_above-v-requires c = each_value c.requires 4 (omega arith)
 pub behind-requires : goal.behind-requires
 behind-requires c = next_there c.requires refl
 
-pub returns-then-eq-clause-goes : goal.returns-then-eq-clause-goes
-returns-then-eq-clause-goes c =
+pub returns-then-eq : goal.returns-then-eq
+returns-then-eq c =
     let v : c.get_above-v.result ≡ Nil = nil_is c.get_above-v.result (sym c.eq.ensures ∙ c.if-eq.true) in
     each_ends c.requires (c.get_above-v.ensures ∙ ap Some v) c.behind.ensures
 
@@ -22,5 +22,5 @@ set_above-requires c = each_value c.requires 2 (omega arith)
 pub back-requires : goal.back-requires
 back-requires c = let l = each_back c.requires in let m = l.0 in let e = c.bx.ensures in record { there = next_there c.requires refl; near = omega (arith, m, e) }
 
-pub returns-clause-goes : goal.returns-clause-goes
-returns-clause-goes c = each_goes c.get_above-v.result c.requires c.get_above-v.ensures (sym c.eq.ensures ∙ c.if-eq.false) c.in_ok-pay.ensures.paid c.set_above.ensures (c.back.ensures ∙ ap (λ d. c.args.pc + 1 - d) c.bx.ensures)
+pub returns : goal.returns
+returns c = each_goes c.get_above-v.result c.requires c.get_above-v.ensures (sym c.eq.ensures ∙ c.if-eq.false) c.in_ok-pay.ensures.paid c.set_above.ensures (c.back.ensures ∙ ap (λ d. c.args.site.pc + 1 - d) c.bx.ensures)

@@ -21,8 +21,8 @@ get_above-requires-3 c = loop_register 2 (omega arith) c.requires
 pub behind-requires : goal.behind-requires
 behind-requires c = next_there c.requires refl
 
-pub returns-then-count-eq0-clause-goes : goal.returns-then-count-eq0-clause-goes
-returns-then-count-eq0-clause-goes c =
+pub returns-then-count-eq0 : goal.returns-then-count-eq0
+returns-then-count-eq0 c =
     let z : same_integer c.in_ok-count.count (pos 0) ≡ true = search rules in
     round_ends c.in_ok-from.from c.in_ok-count.count c.in_ok-step.step c.requires c.get_above.ensures c.get_above-2.ensures c.get_above-3.ensures c.in_ok-from.ensures c.in_ok-count.ensures c.in_ok-step.ensures z c.behind.ensures
 
@@ -38,10 +38,10 @@ set_above_integer-requires-3 c = let l = loop_register 3 (omega arith) c.require
 pub back-requires : goal.back-requires
 back-requires c = let l = loop_back c.requires in let m = l.0 in let e = c.bx.ensures in record { there = next_there c.requires refl; near = omega (arith, m, e) }
 
-pub returns-clause-goes : goal.returns-clause-goes
-returns-clause-goes c =
+pub returns : goal.returns
+returns c =
     let z : same_integer c.in_ok-count.count (pos 0) ≡ false = search rules in
-    let s1 : c.set_above_integer.new.registers ≡ slice_set c.args.registers.now (a_of c.args.i + 1) (Int (sub c.in_ok-count.count (pos 1))) = search rules in
-    let s2 : c.set_above_integer-2.new.registers ≡ slice_set c.set_above_integer.new.registers (a_of c.args.i + 0) (Int (add c.in_ok-from.from c.in_ok-step.step)) = search rules in
-    let s3 : c.set_above_integer-3.new.registers ≡ slice_set c.set_above_integer-2.new.registers (a_of c.args.i + 3) (Int (add c.in_ok-from.from c.in_ok-step.step)) = search rules in
-    round_goes c.in_ok-from.from c.in_ok-count.count c.in_ok-step.step c.requires c.get_above.ensures c.get_above-2.ensures c.get_above-3.ensures c.in_ok-from.ensures c.in_ok-count.ensures c.in_ok-step.ensures z c.in_ok-pay.ensures.paid s1 s2 s3 (c.back.ensures ∙ ap (λ d. c.args.pc + 1 - d) c.bx.ensures)
+    let s1 : c.set_above_integer.new.registers ≡ slice_set c.args.registers.now (a_of c.args.site.word + 1) (Int (sub c.in_ok-count.count (pos 1))) = search rules in
+    let s2 : c.set_above_integer-2.new.registers ≡ slice_set c.set_above_integer.new.registers (a_of c.args.site.word + 0) (Int (add c.in_ok-from.from c.in_ok-step.step)) = search rules in
+    let s3 : c.set_above_integer-3.new.registers ≡ slice_set c.set_above_integer-2.new.registers (a_of c.args.site.word + 3) (Int (add c.in_ok-from.from c.in_ok-step.step)) = search rules in
+    round_goes c.in_ok-from.from c.in_ok-count.count c.in_ok-step.step c.requires c.get_above.ensures c.get_above-2.ensures c.get_above-3.ensures c.in_ok-from.ensures c.in_ok-count.ensures c.in_ok-step.ensures z c.in_ok-pay.ensures.paid s1 s2 s3 (c.back.ensures ∙ ap (λ d. c.args.site.pc + 1 - d) c.bx.ensures)

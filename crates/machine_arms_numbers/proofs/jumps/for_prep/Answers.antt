@@ -1,4 +1,4 @@
-use Rattle.std.proofs.Common.{rules, ◌≡◌, ◌+◌, ◌-◌, ◌∙◌, ap, refl, length, true, false, arith}
+use Rattle.std.proofs.Common.{rules, ◌≡◌, ◌+◌, ◌∙◌, ap, refl, length, true, false, arith}
 use Rattle.std.specs.Prelude.{pos, slice_set}
 use Rattle.code_core.specs.Instruction.{a_of}
 use Rattle.int_core.specs.Value.{same_integer}
@@ -21,11 +21,11 @@ get_above-requires-3 c = prep_register 2 (omega arith) c.requires
 pub behind-requires : goal.behind-requires
 behind-requires c = let l = prep_place c.requires in let e = c.bx.ensures in omega (arith, l, e)
 
-pub returns-then-not-has_round-clause-goes : goal.returns-then-not-has_round-clause-goes
-returns-then-not-has_round-clause-goes c =
+pub returns-then-not-has_round : goal.returns-then-not-has_round
+returns-then-not-has_round c =
     let z : same_integer c.in_ok-step.step (pos 0) ≡ false = search rules in
     let b : runs c.in_ok-from.from c.in_ok-limit.limit c.in_ok-step.step ≡ false = search rules in
-    prep_passes c.in_ok-from.from c.in_ok-limit.limit c.in_ok-step.step c.requires c.get_above.ensures c.get_above-2.ensures c.get_above-3.ensures c.in_ok-from.ensures c.in_ok-limit.ensures c.in_ok-step.ensures z b (c.behind.ensures ∙ ap (λ n. c.args.pc + (n + 2)) c.bx.ensures)
+    prep_passes c.in_ok-from.from c.in_ok-limit.limit c.in_ok-step.step c.requires c.get_above.ensures c.get_above-2.ensures c.get_above-3.ensures c.in_ok-from.ensures c.in_ok-limit.ensures c.in_ok-step.ensures z b (c.behind.ensures ∙ ap (λ n. c.args.site.pc + (n + 2)) c.bx.ensures)
 
 pub set_above_integer-requires : goal.set_above_integer-requires
 set_above_integer-requires c = prep_register 1 (omega arith) c.requires
@@ -36,10 +36,10 @@ set_above_integer-requires-2 c = let l = prep_register 3 (omega arith) c.require
 pub behind-requires-2 : goal.behind-requires-2
 behind-requires-2 c = next_there c.requires refl
 
-pub returns-clause-goes : goal.returns-clause-goes
-returns-clause-goes c =
+pub returns : goal.returns
+returns c =
     let z : same_integer c.in_ok-step.step (pos 0) ≡ false = search rules in
     let b : runs c.in_ok-from.from c.in_ok-limit.limit c.in_ok-step.step ≡ true = search rules in
-    let s1 : c.set_above_integer.new.registers ≡ slice_set c.args.registers.now (a_of c.args.i + 1) (Int (rounds c.in_ok-from.from c.in_ok-limit.limit c.in_ok-step.step)) = search rules in
-    let s2 : c.set_above_integer-2.new.registers ≡ slice_set c.set_above_integer.new.registers (a_of c.args.i + 3) (Int c.in_ok-from.from) = search rules in
+    let s1 : c.set_above_integer.new.registers ≡ slice_set c.args.registers.now (a_of c.args.site.word + 1) (Int (rounds c.in_ok-from.from c.in_ok-limit.limit c.in_ok-step.step)) = search rules in
+    let s2 : c.set_above_integer-2.new.registers ≡ slice_set c.set_above_integer.new.registers (a_of c.args.site.word + 3) (Int c.in_ok-from.from) = search rules in
     prep_starts c.in_ok-from.from c.in_ok-limit.limit c.in_ok-step.step c.requires c.get_above.ensures c.get_above-2.ensures c.get_above-3.ensures c.in_ok-from.ensures c.in_ok-limit.ensures c.in_ok-step.ensures z b s1 s2 c.behind-2.ensures

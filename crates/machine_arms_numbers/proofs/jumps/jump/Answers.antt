@@ -14,7 +14,7 @@ pub returns-then-not-leads_back-clause-goes : goal.returns-then-not-leads_back-c
 returns-then-not-leads_back-clause-goes c =
     let z : leads_back c.sj-by.result ≡ false = search rules in
     let e : c.distance_of-distance.result ≡ distance_of c.sj-by.result = search rules in
-    forward_does c.sj-by.result c.requires (sym c.sj-by.ensures) z (c.behind.ensures ∙ ap (λ d. c.args.pc + (d + 1)) e)
+    forward_does c.sj-by.result c.requires (sym c.sj-by.ensures) z (c.behind.ensures ∙ ap (λ d. c.args.site.pc + (d + 1)) e)
 
 pub back-requires : goal.back-requires
 back-requires c =
@@ -27,4 +27,4 @@ pub returns-clause-goes : goal.returns-clause-goes
 returns-clause-goes c =
     let z : leads_back c.sj-by.result ≡ true = search rules in
     let e : c.distance_of-distance.result ≡ distance_of c.sj-by.result = search rules in
-    back_does c.sj-by.result c.requires (sym c.sj-by.ensures) z (c.back.ensures ∙ ap (λ d. c.args.pc + 1 - d) e) c.in_ok-pay.ensures.paid
+    back_does c.sj-by.result c.requires (sym c.sj-by.ensures) z (c.back.ensures ∙ ap (λ d. c.args.site.pc + 1 - d) e) c.in_ok-pay.ensures.paid

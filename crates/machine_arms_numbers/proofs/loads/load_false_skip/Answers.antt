@@ -1,4 +1,4 @@
-use Rattle.std.proofs.Common.{◌<◌, ◌-◌, sym, refl, subst, length, false}
+use Rattle.std.proofs.Common.{◌<◌, sym, refl, subst, length, false}
 use Rattle.code_core.specs.Instruction.{a_of}
 use Rattle.machine_core.specs.Text.{written}
 use Rattle.machine_view.proofs.Places.{register_there}
@@ -8,7 +8,7 @@ use Rattle.machine_arms_numbers.proofs.LoadRows.{skip_lands}
 use Rattle.machine_arms_numbers.proofs.loads.load_false_skip.Goals as goal
 
 pub put_value-requires : goal.put_value-requires
-put_value-requires c = record { there = register_there c.requires 0 (a_of c.args.i) refl; next = skip_lands c.requires }
+put_value-requires c = record { there = register_there c.requires 0 (a_of c.args.site.word) refl; next = skip_lands c.requires }
 
 pub returns : goal.returns
-returns c = written_does (written (Rattle.int_core.specs.Value.boolean false)) 2 (Boolean false) (λ p pc. refl) (λ texts. refl) (subst (λ n. n < length c.args.words.now) (sym c.put_value.ensures.next) (skip_lands c.requires)) (register_there c.requires 0 (a_of c.args.i) refl) c.put_value.ensures.registers c.put_value.ensures.next
+returns c = written_does (written (Rattle.int_core.specs.Value.boolean false)) 2 (Boolean false) (λ p pc. refl) (λ texts. refl) (subst (λ n. n < length c.args.site.words.now) (sym c.put_value.ensures.next) (skip_lands c.requires)) (register_there c.requires 0 (a_of c.args.site.word) refl) c.put_value.ensures.registers c.put_value.ensures.next

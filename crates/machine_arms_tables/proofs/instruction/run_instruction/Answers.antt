@@ -12,7 +12,7 @@ run_on_objects-requires c = subst (λ r. IsAt c.args.op c.args.i c.args.closure.
 
 pub returns-in-None : goal.returns-in-None
 returns-in-None c = record {
-  goes = if_some c.run_on_objects.result (λ to goes. as_before c.in-None.ensures.kept c.in-None.ensures.unpaid goes) c.run_on_objects.ensures.goes;
+  goes = if_some c.run_on_objects.result (λ to goes. as_before c.in-None.ensures.kept c.in-None.ensures.unpaid goes.leads) c.run_on_objects.ensures.goes;
   tables = c.run_on_objects.ensures.tables;
   cells = c.run_on_objects.ensures.cells;
   registers = if_none c.run_on_objects.result (λ same. same ∙ c.in-None.ensures.kept) c.run_on_objects.ensures.registers;

@@ -1,21 +1,16 @@
-use Rattle.std.proofs.Common.{refl}
-use Rattle.code_core.specs.Fields.{name}
-use Rattle.code_core.specs.Instruction.{a_of, b_of, c_of}
-use Rattle.machine_view.proofs.Places.{register_there, constant_there, next_there}
-use Rattle.machine_arms_tables.specs.Frame.{code}
-use Rattle.machine_arms_tables.proofs.FieldRows.{get_field_does}
-use Rattle.machine_arms_tables.proofs.Leading.{below, got}
+use Rattle.machine_arms_tables.specs.Leading.{code_at}
+use Rattle.machine_arms_tables.proofs.FieldNames.{get_does, read_names, read_next, read_target}
 use Rattle.machine_arms_tables.proofs.reads.get_field.Goals as goal
 
-pub register-object-requires : goal.register-object-requires
-register-object-requires c = below c.b.ensures (register_there c.requires 1 (b_of c.args.i) refl)
+pub object_of-requires : goal.object_of-requires
+object_of-requires c = record { at = c.requires.at; form = read_names c.args.op c.requires.form }
 
-pub constant-key-requires : goal.constant-key-requires
-constant-key-requires c = below c.c.ensures (constant_there c.requires 0 (c_of c.args.i) name refl)
+pub key_of-key-requires : goal.key_of-key-requires
+key_of-key-requires c = record { at = c.requires.at; form = read_names c.args.op c.requires.form }
 
 pub store-requires : goal.store-requires
-store-requires c = record { there = register_there c.requires 0 (a_of c.args.i) refl; next = next_there c.requires refl }
+store-requires c = record { there = read_target c.args.op c.requires.at c.requires.form; next = read_next c.args.op c.requires.at c.requires.form }
 
-pub returns-clause-goes : goal.returns-clause-goes
-returns-clause-goes c =
-    get_field_does (code c.args.closure c.args.strings.now) c.requires (got c.args.registers.now c.b.ensures c.register-object.ensures) (got c.args.closure.constants.now c.c.ensures c.constant-key.ensures) c.in_ok-v.ensures c.store.ensures.registers c.store.ensures.next
+pub returns : goal.returns
+returns c =
+    get_does (code_at c.args.site) c.args.op c.requires.at c.requires.form c.in_ok-object.ensures c.key_of-key.ensures c.in_ok-v.ensures c.store.ensures.registers c.store.ensures.next

@@ -1,30 +1,19 @@
-use Rattle.std.proofs.Common.{refl, cond}
-use Rattle.std.specs.Prelude.{[], ◌∷◌}
-use Rattle.code_core.specs.Fields.{anything, name}
-use Rattle.code_core.specs.Instruction.{a_of, b_of, c_of}
-use Rattle.machine_view.proofs.Places.{register_there, constant_there, next_there}
-use Rattle.machine_arms_tables.specs.Frame.{code}
-use Rattle.machine_arms_tables.proofs.FieldRows.{set_field_does}
-use Rattle.machine_arms_tables.proofs.Leading.{below, got}
-use Rattle.machine_arms_tables.proofs.Operands.{operand_constant, operand_register}
+use Rattle.machine_arms_tables.specs.Leading.{code_at}
+use Rattle.machine_arms_tables.proofs.FieldNames.{set_does, store_constant, store_names, store_next, store_register}
 use Rattle.machine_arms_tables.proofs.writes.set_field.Goals as goal
 
-pub register-object-requires : goal.register-object-requires
-register-object-requires c = below c.a.ensures (register_there c.requires 0 (a_of c.args.i) refl)
+pub returns : goal.returns
+returns c =
+    set_does (code_at c.args.site) c.args.op c.requires.at c.requires.form c.in_ok-object.ensures c.key_of-key.ensures c.operand-v.ensures c.in_ok-put_within.ensures.settles c.next.ensures
 
-pub constant-key-requires : goal.constant-key-requires
-constant-key-requires c = below c.b.ensures (constant_there c.requires 0 (b_of c.args.i) name refl)
+pub object_of-requires : goal.object_of-requires
+object_of-requires c = record { at = c.requires.at; form = store_names c.args.op c.requires.form }
+
+pub key_of-key-requires : goal.key_of-key-requires
+key_of-key-requires c = record { at = c.requires.at; form = store_names c.args.op c.requires.form }
 
 pub operand-v-requires : goal.operand-v-requires
-operand-v-requires c =
-    record {
-      constant = operand_constant c.requires anything (λ k. (name, b_of c.args.i) ∷ cond k ((anything, c_of c.args.i) ∷ []) []) 1 refl refl;
-      register = operand_register c.requires (λ k. a_of c.args.i ∷ cond k [] (c_of c.args.i ∷ [])) 1 refl refl;
-    }
+operand-v-requires c = record { constant = store_constant c.args.op c.requires.at c.requires.form; register = store_register c.args.op c.requires.at c.requires.form }
 
 pub next-requires : goal.next-requires
-next-requires c = next_there c.requires refl
-
-pub returns-clause-goes : goal.returns-clause-goes
-returns-clause-goes c =
-    set_field_does (code c.args.closure c.args.strings.now) c.requires (got c.args.registers.now c.a.ensures c.register-object.ensures) (got c.args.closure.constants.now c.b.ensures c.constant-key.ensures) c.operand-v.ensures c.in_ok-put_within.ensures.settles c.next.ensures
+next-requires c = store_next c.args.op c.requires.at c.requires.form

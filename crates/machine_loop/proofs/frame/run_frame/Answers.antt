@@ -13,11 +13,11 @@ go_on-requires g c =
 
 pub rounds-smaller : goal.rounds-smaller
 rounds-smaller g c =
-    nearer c.steps_fall.ensures g.g (moment c.rounds.tables.objects c.rounds.cells.objects c.rounds.registers c.rounds.pc c.rounds.fuel) _ c.in-Some.ensures.one
+    nearer c.steps_fall.ensures g.g (moment c.rounds.tables.objects c.rounds.cells.objects c.rounds.registers c.rounds.pc c.rounds.fuel) _ c.in-Some.ensures.once.one
 
 pub rounds-preserved : goal.rounds-preserved
 rounds-preserved g c =
-    let s = c.in-Some.ensures.steps in
+    let s = c.in-Some.ensures.once.steps in
     record {
       ready = s.ready;
       opened = c.rounds.invariant.opened ∙ s.opened;
