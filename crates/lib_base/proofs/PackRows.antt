@@ -19,7 +19,8 @@ use Rattle.lua_heap.specs.declared.world.World.{World as Memory}
 use Rattle.lua_heap.specs.Changes.{AddsTable}
 use Rattle.lua_heap.specs.Plain.{table}
 use Rattle.lua_heap.specs.Reading.{row, value}
-use Rattle.lib_base.specs.Raw.{AreAlike, heap_of}
+use Rattle.lib_base.specs.Raw.{AreAlike}
+use Rattle.pure_functions.specs.Answers.{heap_of}
 use Rattle.lib_base.specs.Packing.{packed_rows}
 
 set_new : {A : Type 0} (xs : List A) (x y : A) → slice_set (xs ++ x ∷ []) (length xs) y ≡ xs ++ y ∷ []

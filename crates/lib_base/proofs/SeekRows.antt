@@ -1,14 +1,13 @@
 -- The row that gives a match in a new table.
 use Rattle.std.proofs.Common.{◌≡◌, ℕ, suc, ◌+◌, ◌-◌, ◌<◌, ◌≤◌, List, [], ◌∷◌, ◌++◌, length, map, drop, Option, Some, None, refl, ap, sym, ◌∙◌, arith, Ok, Err}
-use Rattle.std.specs.Prelude.{ℤ, pos, codes, slice_get, option_map}
+use Rattle.std.specs.Prelude.{ℤ, pos, codes}
 use Rattle.std.proofs.lemmas.List.{drop_all, length-map}
-use Rattle.std.proofs.lemmas.Option.{slice_get-map}
 use Rattle.int_core.specs.Heap.{Heap}
 use Rattle.int_core.specs.Rows.{set}
-use Rattle.int_core.specs.Value.{Plain, Value, known, nil, integer, string, Shape, shape, object, a_table, table_values, nth}
+use Rattle.int_core.specs.Value.{Plain, Value, known, integer, string, Shape, shape, object, a_table, table_values, nth}
 use Rattle.library_rows.specs.Arguments.{argument}
 use Rattle.library_rows.specs.Base.{seek}
-use Rattle.library_rows.specs.Look.{Look, read, written, gives, no_word, Done, done, looked}
+use Rattle.library_rows.specs.Look.{Look, read, written, gives, Done, done, looked}
 use Rattle.library_rows.specs.Searches.{match_rows, numbered, seeks, writes}
 use Rattle.library_arguments.specs.declared.refusal.Fault.{Fault}
 use Rattle.library_arguments.specs.declared.refusal.Fault.TheVariants.{Refused, Memory as NoMemory}
@@ -22,19 +21,13 @@ use Rattle.table_core.specs.declared.value.Value.TheVariants.{Int}
 use Rattle.lua_heap.specs.declared.world.World.{World as Memory}
 use Rattle.lua_heap.specs.Changes.{AddsTable}
 use Rattle.lua_heap.specs.Reading.{row, value}
-use Rattle.lib_base.specs.Answers.{Answers}
+use Rattle.pure_functions.specs.Answers.{Answers, heap_of}
+use Rattle.pure_functions.proofs.QuickRows.{argument_is}
 use Rattle.lib_base.specs.Matches.{numbered_from, numbered_rows}
-use Rattle.lib_base.specs.Raw.{AreAlike, heap_of}
+use Rattle.lib_base.specs.Raw.{AreAlike}
 use Rattle.lib_base.proofs.PackRows.{added_rows, drop_next, last, last_is, set_last, with_rows}
 
 -- what the row sees of its first arguments is what its function takes from all of them
-
-pub argument_is : (vs : List Value) (i : ℕ) → argument (map shape vs) (suc i) ≡ shape (nth vs i)
-argument_is vs i = ap {A = Option Shape} (λ o. elim o as (λ _. Shape) [ None ↦ no_word | Some s ↦ s ]) (slice_get-map shape vs i) ∙ go (slice_get vs i)
-  where
-    go : (o : Option Value) → elim (option_map shape o) as (λ _. Shape) [ None ↦ no_word | Some s ↦ s ] ≡ shape (elim o [ None ↦ known nil | Some v ↦ v ])
-    go None = refl
-    go (Some v) = refl
 
 pub seek_sees : (vs : List Value) (H : Heap) → looked seek vs H ≡ looked (seeks (map shape vs)) vs H
 seek_sees vs H =

@@ -3,14 +3,13 @@ ghost use Rattle.std.specs.Prelude.{◌≡◌, ◌≢◌, ◌+◌, ◌-◌, ◌<
 ghost use Rattle.int_core.specs.Value.{known, string};
 ghost use Rattle.library_rows.specs.Base.{packs};
 ghost use Rattle.lua_heap.specs.Reading.{row, value};
-ghost use Rattle.lib_base.specs.Answers.{Answers, Changes, OnlyStrings, Stands};
+ghost use Rattle.pure_functions.specs.Answers.{Answers, Changes, OnlyStrings, Stands};
 ghost use Rattle.lib_base.specs.Packing.{packed_rows};
 
-use crate::answer::{Answer, argument};
 use crate::raw::reads_alike;
-use crate::strings::string;
 use library_arguments::Fault;
 use lua_heap::World;
+use pure_functions::{Answer, argument, string};
 use std::alloc::AllocError;
 use table_core::{Key, Table, Value};
 

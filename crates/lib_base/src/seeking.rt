@@ -9,18 +9,14 @@ ghost use Rattle.library_rows.specs.Plainly.{fits_length};
 ghost use Rattle.library_rows.specs.Searches.{seeks};
 ghost use Rattle.lib_string.specs.Searches.{IsSought, gives_values};
 ghost use Rattle.lua_heap.specs.Reading.{row, value};
-ghost use Rattle.lib_base.specs.Answers.{Answers, Changes, OnlyStrings, Stands, told};
+ghost use Rattle.pure_functions.specs.Answers.{Answers, Changes, OnlyStrings, Stands, told, heap_of};
 ghost use Rattle.lib_base.specs.Matches.{numbered_rows};
-ghost use Rattle.lib_base.specs.Raw.{heap_of};
 
-use crate::answer::{Answer, argument};
-use crate::plain::values_of;
 use crate::raw::reads_alike;
-use crate::shapes::argument_shape;
-use crate::strings::string;
 use lib_string::Sought;
 use library_arguments::Fault;
 use lua_heap::World;
+use pure_functions::{Answer, argument, argument_shape, string, values_of};
 use std::alloc::AllocError;
 use table_core::{Key, Table, Value};
 

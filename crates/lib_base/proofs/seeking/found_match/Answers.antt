@@ -6,10 +6,9 @@ use Rattle.library_rows.specs.Look.{done, looked}
 use Rattle.lib_string.specs.Searches.{gives_values}
 use Rattle.table_core.specs.declared.value.Value.TheVariants.{Int, Table}
 use Rattle.lua_heap.specs.Reading.{row, value}
-use Rattle.lib_base.specs.Answers.{MeanAll, OnlyStrings}
+use Rattle.pure_functions.specs.Answers.{MeanAll, OnlyStrings, heap_of}
 use Rattle.lib_base.specs.Matches.{numbered_rows}
-use Rattle.lib_base.specs.Raw.{heap_of}
-use Rattle.lib_base.proofs.Interning.{changes_both, changes_strings, same_heap, same_world, then_strings, whatever}
+use Rattle.pure_functions.proofs.Interning.{changes_both, changes_strings, same_heap, same_world, then_strings, whatever}
 use Rattle.lib_base.proofs.SeekRows.{match_told}
 use Rattle.lib_base.proofs.seeking.found_match.Goals as goal
 
