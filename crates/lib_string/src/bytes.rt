@@ -116,6 +116,20 @@ pub enum Change {
     Upper,
 }
 
+impl Change {
+    /// The name of its function, for errors.
+    #[inline(always)]
+    fn name(self) -> &'static [u8]
+        ensures { result.now ≡ change_name self }
+    {
+        match self {
+            Change::Lower => b"lower",
+            Change::Reverse => b"reverse",
+            Change::Upper => b"upper",
+        }
+    }
+}
+
 /// `string.lower`, `string.reverse` and `string.upper`: a text whose bytes are changed.
 ///
 /// # Errors
@@ -125,22 +139,10 @@ pub enum Change {
 pub fn changed(alloc: Global, change: Change, shapes: &[Shape]) -> Result<Results, Fault>
     ensures { IsAnswer result (change_row change (shapes_of shapes.now)) }
 {
-    let text = text_argument(change_name(change), 1, argument(shapes, 1))?;
+    let text = text_argument(change.name(), 1, argument(shapes, 1))?;
     let bytes = changed_bytes(alloc, change, text.as_slice())?;
     let results = Results::string(bytes)?;
     Ok(results)
-}
-
-/// The name of its function, for errors.
-#[inline(always)]
-fn change_name(change: Change) -> &'static [u8]
-    ensures { result.now ≡ change_name change }
-{
-    match change {
-        Change::Lower => b"lower",
-        Change::Reverse => b"reverse",
-        Change::Upper => b"upper",
-    }
 }
 
 #[inline(always)]
