@@ -6,6 +6,7 @@ mod Glanced
 mod JoinRows
 mod ListRows
 mod MetatableRows
+mod Numbered
 mod PackRows
 mod SeekRows
 mod Sorted

@@ -2,9 +2,8 @@ pub mod Raw
 pub mod Select
 pub mod Metatables
 pub mod Lists
-pub mod Packing
+pub mod Numbering
 pub mod Sorting
 pub mod Texts
 pub mod Functions
 pub mod Expanding
-pub mod Matches

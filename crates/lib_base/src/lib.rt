@@ -10,6 +10,7 @@ mod joining;
 pub mod law;
 mod lists;
 mod metatables;
+mod numbering;
 mod packing;
 pub mod raw;
 mod seeking;

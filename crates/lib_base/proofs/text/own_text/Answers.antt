@@ -1,4 +1,4 @@
-use Rattle.std.proofs.Common.{◌≡◌, [], ◌∷◌, ap, sym, ◌∙◌, map, subst}
+use Rattle.std.proofs.Common.{◌≡◌, [], ◌∷◌, ap, ◌∙◌, map, subst}
 use Rattle.int_core.specs.Value.{known, nth, string}
 use Rattle.library_rows.specs.Look.{done}
 use Rattle.lua_heap.specs.Plain.{plain}
