@@ -13,7 +13,8 @@ use Rattle.table_core.specs.declared.value.Value.{Value as Kept}
 use Rattle.table_core.specs.declared.value.Value.TheVariants.{Nil, Bool as Boolean, Int, Str, Prim, Table, Func, Coro}
 use Rattle.lua_heap.specs.declared.world.World.{World as Memory}
 use Rattle.lua_heap.specs.Reading.{value}
-use Rattle.lib_base.specs.Raw.{heap_of, Operates, told_border}
+use Rattle.lib_base.specs.Raw.{Operates, told_border}
+use Rattle.pure_functions.specs.Answers.{heap_of}
 use Rattle.lib_base.specs.Select.{selected_place}
 
 module _ (vs : List Value) (H : Heap) where

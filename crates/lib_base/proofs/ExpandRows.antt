@@ -3,9 +3,8 @@ use Rattle.std.proofs.Common.{◌≡◌, ℕ, ◌-◌, ◌≤◌, List, [], ◌�
 use Rattle.std.specs.Prelude.{cond, codes, ◌==◌, ◌&&◌, nat_le}
 use Rattle.std.specs.List.{list_all, list_any}
 use Rattle.std.proofs.lemmas.Bool.{or_parts}
-use Rattle.std.proofs.lemmas.Bool.Decides.{nat_tests}
 use Rattle.int_core.specs.Heap.{Heap}
-use Rattle.int_core.specs.Value.{Plain, Value, known, string, Shape, shape, nth, object, a_table, greatest_string}
+use Rattle.int_core.specs.Value.{Value, known, string, Shape, shape, nth, object, a_table, greatest_string}
 use Rattle.library_arguments.specs.Answers.{IsAnswer, AnswersAreDone, RefusalsAreDone, results_of}
 use Rattle.library_arguments.specs.Refusals.{refusal_text}
 use Rattle.library_arguments.specs.declared.refusal.Fault.{Fault}
@@ -13,11 +12,12 @@ use Rattle.library_arguments.specs.declared.refusal.Fault.TheVariants.{Refused, 
 use Rattle.library_arguments.specs.declared.results.Results.{Results}
 use Rattle.library_rows.specs.Arguments.{is_table, one, text_argument, with, with_look, wrong_type}
 use Rattle.library_rows.specs.Base.{expand, reads_shapes}
-use Rattle.library_rows.specs.Look.{read, written, args_of, Look, look, gives, refuses, does, Done, done, refused, looked}
+use Rattle.library_rows.specs.Look.{read, written, Look, look, gives, refuses, does, done, refused, looked}
 use Rattle.library_rows.specs.Plainly.{Outcome, results, error, too_large, fits_length, told_as, done_as}
 use Rattle.library_rows.specs.Formats.{onto, then_ok}
 use Rattle.library_rows.specs.Searches.{expanded, expansion}
 use Rattle.table_core.specs.declared.value.TableId.{TableId}
+use Rattle.pure_functions.proofs.QuickRows.{by_limit, within}
 use Rattle.lib_base.specs.Expanding.{IsExpanded, is_escape}
 use Rattle.lib_base.specs.Lists.{items_from}
 use Rattle.lib_base.proofs.JoinRows.{reads_shapes_are}
@@ -36,9 +36,6 @@ told_is (results ps) env H = by (list_all fits_length ps)
 abbrev Made : Type 0
 Made = Result (List ℕ) (List ℕ)
 
-pub within : (m n : ℕ) → m ≤ n → nat_le m n ≡ true
-within m n h = grind (arith, nat_tests)
-
 unescaped : (ss : List Shape) (text : List ℕ) (room : ℕ) → list_any is_escape text ≡ false → length text ≤ room → expanded ss false text room ≡ Ok text
 unescaped ss [] room none fits = refl
 unescaped ss (b ∷ text) room none fits =
@@ -51,9 +48,6 @@ unescaped ss (b ∷ text) room none fits =
 
 unescaped_expansion : (ss : List Shape) (text : List ℕ) → list_any is_escape text ≡ false → length text ≤ greatest_string → expansion text ss ≡ results (string text ∷ [])
 unescaped_expansion ss text none short = ap (λ r. with r (λ bytes. one (string bytes))) (unescaped ss text greatest_string none short)
-
-abbrev pub by_limit : Heap → List Plain → Bool → Done
-by_limit H ps b = cond b (done H (map known ps)) (refused too_large)
 
 module _ (vs : List Value) (H : Heap) where
   abbrev with_table : List ℕ → Bool → Look

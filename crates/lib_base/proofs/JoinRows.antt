@@ -17,14 +17,13 @@ use Rattle.library_arguments.specs.declared.refusal.Fault.TheVariants.{Refused, 
 use Rattle.text_functions.specs.Made.{IsFaultOf as IsNoRoom}
 use Rattle.text_functions.specs.declared.fault.StringFault.{StringFault}
 use Rattle.text_functions.specs.declared.fault.StringFault.TheVariants.{TooLarge, Memory as NoMemory}
-use Rattle.lib_base.specs.Answers.{Answers}
+use Rattle.pure_functions.specs.Answers.{Answers, heap_of}
 use Rattle.lib_base.specs.Lists.{item, items_from, IsCounted, IsFaultOf, IsText}
 use Rattle.lib_base.proofs.ListRows.{pushed, with_count}
 use Rattle.table_core.specs.declared.value.TableId.{TableId}
 use Rattle.table_core.specs.declared.value.Value.{Value as Kept}
 use Rattle.lua_heap.specs.declared.world.World.{World as InMemory}
 use Rattle.lua_heap.specs.Reading.{value}
-use Rattle.lib_base.specs.Raw.{heap_of}
 
 module _ (H : Heap) (t : Value) where
   abbrev shapes : ℕ → ℕ → List Shape

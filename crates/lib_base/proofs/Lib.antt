@@ -1,15 +1,13 @@
 mod BaseRows
-mod Bests
 mod ExpandRows
 mod Fields
 mod Following
-pub mod Interning
+mod Glanced
 mod JoinRows
 mod ListRows
-mod Meaning
 mod MetatableRows
+mod Numbered
 mod PackRows
-mod QuickRows
 mod SeekRows
 mod Sorted
 mod SortRows

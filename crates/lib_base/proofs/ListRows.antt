@@ -1,5 +1,5 @@
 -- Rows that read the items of a table.
-use Rattle.std.proofs.Common.{◌≡◌, ℕ, zero, suc, ◌+◌, List, [], ◌∷◌, ◌++◌, map, length, Err, true, false, refl, ap, sym, ◌∙◌, arith}
+use Rattle.std.proofs.Common.{◌≡◌, ℕ, zero, suc, ◌+◌, List, [], ◌∷◌, ◌++◌, map, length, Err, true, false, refl, ap, sym, subst, ◌∙◌, arith}
 use Rattle.std.specs.Prelude.{pos, codes}
 use Rattle.int_core.specs.Heap.{Heap, raw_get}
 use Rattle.int_core.specs.Value.{Value, Shape, known, integer, shape, nth, object, a_table}
@@ -14,7 +14,8 @@ use Rattle.table_core.specs.declared.value.Value.{Value as Kept}
 use Rattle.table_core.specs.declared.value.Value.TheVariants.{Int, Table}
 use Rattle.lua_heap.specs.declared.world.World.{World as Memory}
 use Rattle.lua_heap.specs.Reading.{value}
-use Rattle.lib_base.specs.Raw.{heap_of, Operates}
+use Rattle.lib_base.specs.Raw.{Operates}
+use Rattle.pure_functions.specs.Answers.{heap_of}
 use Rattle.lib_base.specs.Lists.{item, items_from, IsCounted}
 
 -- the values at hand after some were read one after another
@@ -74,9 +75,12 @@ module _ (f : List ℕ) (k : ℕ → Look) (vs : List Value) (H : Heap) where
       looked (with_number f k) vs H ≡ refused (refusal_text why)
   with_no_count id why e c = ap (λ t. looked (first t) vs H) e ∙ ap (λ r. looked (with_look r (λ many. k (natural many))) vs H) c
 
-pub spread_is : (vs : List Value) (H : Heap) (id : TableId) (many : ℕ) → nth vs 0 ≡ object a_table id.0 → IsCounted (codes "spread") (shape (nth vs 1)) many →
-    looked spreads vs H ≡ done H (items_from H (object a_table id.0) many 1)
-spread_is vs H id many e c = with_count (codes "spread") (λ many. reads many 1 0 (gives (newest many))) vs H id many e c ∙ gives_read H (object a_table id.0) many vs e
+pub spread_is : (vs : List Value) (H : Heap) (id : TableId) {many n : ℕ} {seen : Shape} → nth vs 0 ≡ object a_table id.0 → seen ≡ shape (nth vs 1) → IsCounted (codes "spread") seen many → many ≡ n →
+    looked spreads vs H ≡ done H (items_from H (object a_table id.0) n 1)
+spread_is vs H id {many = many} e is c q =
+    with_count (codes "spread") (λ many. reads many 1 0 (gives (newest many))) vs H id many e (subst (λ s. IsCounted (codes "spread") s many) is c)
+    ∙ gives_read H (object a_table id.0) many vs e
+    ∙ ap (λ many. done H (items_from H (object a_table id.0) many 1)) q
 
 -- an item that is read goes behind those that were
 module _ (W : Memory) (id : TableId) where

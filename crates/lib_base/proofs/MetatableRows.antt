@@ -10,7 +10,8 @@ use Rattle.table_core.specs.declared.value.Value.{Value as Kept}
 use Rattle.table_core.specs.declared.value.Value.TheVariants.{Nil, Table}
 use Rattle.lua_heap.specs.declared.world.World.{World as Memory}
 use Rattle.lua_heap.specs.Reading.{value}
-use Rattle.lib_base.specs.Raw.{heap_of, Operates, table_or_nil}
+use Rattle.lib_base.specs.Raw.{Operates, table_or_nil}
+use Rattle.pure_functions.specs.Answers.{heap_of}
 use Rattle.lib_base.specs.Metatables.{field_or, IsMetatableArgument, IsNoMetatable}
 
 pub present : (texts : List (List ℕ)) (v : Kept) → (v ≡ Nil → ⊥) → is_absent (shape (value texts v)) ≡ false

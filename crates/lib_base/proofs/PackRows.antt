@@ -1,7 +1,7 @@
 -- The row that packs its arguments into a new table.
-use Rattle.std.proofs.Common.{◌≡◌, ℕ, zero, suc, List, [], ◌∷◌, ◌++◌, ◌+◌, ◌<◌, ◌≤◌, length, map, drop, Option, Some, None, refl, ap, sym, ◌∙◌, arith}
-use Rattle.std.specs.Prelude.{pos, codes, slice_set, option_map}
-use Rattle.std.proofs.lemmas.List.{drop_all, length-map}
+use Rattle.std.proofs.Common.{◌≡◌, ℕ, zero, suc, List, [], ◌∷◌, ◌++◌, ◌+◌, ◌<◌, length, map, drop, Option, Some, None, refl, ap, ap₂, sym, ◌∙◌, arith}
+use Rattle.std.specs.Prelude.{◌-◌, pos, codes, slice_set, option_map}
+use Rattle.std.proofs.lemmas.List.{length-map}
 use Rattle.list_laws.proofs.Items.{get_new}
 use Rattle.int_core.specs.Heap.{Table, Heap, filled, raw_set}
 use Rattle.int_core.specs.Rows.{set}
@@ -9,18 +9,15 @@ use Rattle.int_core.specs.Value.{Value, known, integer, string, object, a_table,
 use Rattle.library_rows.specs.Base.{packs, packs_from}
 use Rattle.library_rows.specs.Look.{Look, read, gives, done, looked}
 use Rattle.library_rows.specs.Searches.{writes}
-use Rattle.table_core.specs.Value.{lua_values}
-use Rattle.table_core.specs.declared.value.Value.{Value as Kept}
-use Rattle.table_core.specs.declared.value.Value.TheVariants.{Int}
 use Rattle.table_core.specs.Table.{Contents}
 use Rattle.table_core.specs.declared.value.TableId.{TableId}
 use Rattle.machine_core.specs.World.{World}
 use Rattle.lua_heap.specs.declared.world.World.{World as Memory}
 use Rattle.lua_heap.specs.Changes.{AddsTable}
 use Rattle.lua_heap.specs.Plain.{table}
-use Rattle.lua_heap.specs.Reading.{row, value}
-use Rattle.lib_base.specs.Raw.{AreAlike, heap_of}
-use Rattle.lib_base.specs.Packing.{packed_rows}
+use Rattle.lua_heap.specs.Reading.{row}
+use Rattle.pure_functions.specs.Answers.{heap_of}
+use Rattle.lib_base.specs.Numbering.{numbered_from, numbered_rows}
 
 set_new : {A : Type 0} (xs : List A) (x y : A) → slice_set (xs ++ x ∷ []) (length xs) y ≡ xs ++ y ∷ []
 set_new [] x y = refl
@@ -69,33 +66,16 @@ module _ (H : Heap) where
         (ap (λ w. raw_set (with_rows rows) (length H.tables) (known (integer (pos (suc i)))) w) (drop_head vs i v rest e) ∙ set_last rows (known (integer (pos (suc i)))) v)
         ∙ packs_are rest (suc i) (set table_values rows (known (integer (pos (suc i)))) v) k (drop_tail vs i v rest e)
 
-    pub pack_is : looked packs vs H ≡ done (with_rows (packed_rows vs)) (last ∷ [])
+    filled_is : (rest : List Value) (i : ℕ) (rows : List (Value × Value)) → filled i rest rows ≡ numbered_from (suc i) rest rows
+    filled_is [] i rows = refl
+    filled_is (v ∷ rest) i rows = filled_is rest (suc i) (set table_values rows (known (integer (pos (suc i)))) v)
+
+    pub pack_is : looked packs vs H ≡ done (with_rows (numbered_rows 1 vs)) (last ∷ [])
     pack_is =
+        let many : length vs ≡ length vs + 1 - 1 = omega arith in
         packs_are vs 0 [] (writes ((string (codes "n"), integer (pos (length vs))) ∷ []) (gives (read 0 ∷ []))) refl
         ∙ ap (λ G. done G (last ∷ [])) (set_last (filled 0 vs []) (known (string (codes "n"))) (known (integer (pos (length vs)))))
-
--- the same rows, kept
-module _ (texts : List (List ℕ)) (a : AreAlike texts) where
-  pub filled_more : (vs : List Value) (at : ℕ) (rows now : List (Kept × Kept)) (v : Kept) → at < length vs → nth vs at ≡ value texts v → now ≡ set lua_values rows (Int (pos (at + 1))) v →
-      filled at (drop at vs) (map (row texts) rows) ≡ filled (at + 1) (drop (at + 1) vs) (map (row texts) now)
-  filled_more vs at rows now v h e f =
-      let q : at + 1 ≡ suc at = omega arith in
-      ap (λ ws. filled at ws (map (row texts) rows)) (drop_next vs at h)
-      ∙ ap (λ w. filled (suc at) (drop (suc at) vs) (set table_values (map (row texts) rows) (known (integer (pos (suc at)))) w)) e
-      ∙ ap (λ n. filled n (drop n vs) (set table_values (map (row texts) rows) (known (integer (pos n))) (value texts v))) (sym q)
-      ∙ ap (filled (at + 1) (drop (at + 1) vs)) ((a.read rows).written (Int (pos (at + 1))) v ∙ ap (map (row texts)) (sym f))
-
-  pub packed_are : (vs : List Kept) (at : ℕ) (rows now : List (Kept × Kept)) (name : Kept) → length vs ≤ at → value texts name ≡ known (string (codes "n")) →
-      filled at (drop at (map (value texts) vs)) (map (row texts) rows) ≡ filled 0 (map (value texts) vs) [] → now ≡ set lua_values rows name (Int (pos (length vs))) →
-      map (row texts) now ≡ packed_rows (map (value texts) vs)
-  packed_are vs at rows now name h n e f =
-      let l : length (map (value texts) vs) ≡ length vs = length-map vs (value texts) in
-      let d : drop at (map (value texts) vs) ≡ [] = drop_all at (map (value texts) vs) (omega (arith, h, l)) in
-      let r : map (row texts) rows ≡ filled 0 (map (value texts) vs) [] = sym (ap (λ ws. filled at ws (map (row texts) rows)) d) ∙ e in
-      ap (map (row texts)) f ∙ sym ((a.read rows).written name (Int (pos (length vs))))
-      ∙ ap (λ rows. set table_values rows (value texts name) (known (integer (pos (length vs))))) r
-      ∙ ap (λ k. set table_values (filled 0 (map (value texts) vs) []) k (known (integer (pos (length vs))))) n
-      ∙ ap (λ m. set table_values (filled 0 (map (value texts) vs) []) (known (string (codes "n"))) (known (integer (pos m)))) (sym l)
+        ∙ ap₂ (λ rows n. done (with_rows (set table_values rows (known (string (codes "n"))) (known (integer (pos n))))) (last ∷ [])) (filled_is vs 0 []) many
 
 -- a table that is added is the one that comes last
 pub added_rows : (W V : Memory) (t : Contents) (rows : List (Value × Value)) → AddsTable W V t → map (row W.strings) t.rows ≡ rows → t.metatable ≡ None → heap_of V ≡ with_rows (heap_of W) rows
@@ -107,9 +87,9 @@ added_rows W V t rows added r m =
 pub last_is : (W : Memory) (id : TableId) → id.0 ≡ length W.tables.objects → last (heap_of W) ≡ object a_table id.0
 last_is W id i = ap (λ n. object a_table n) (length-map W.tables.objects (table W.strings) ∙ sym i)
 
-pub packed_told : (W V : Memory) (t : Contents) (id : TableId) (vs : List Value) → AddsTable W V t → id.0 ≡ length W.tables.objects → map (row W.strings) t.rows ≡ packed_rows vs → t.metatable ≡ None →
+pub packed_told : (W V : Memory) (t : Contents) (id : TableId) (vs : List Value) → AddsTable W V t → id.0 ≡ length W.tables.objects → map (row W.strings) t.rows ≡ numbered_rows 1 vs → t.metatable ≡ None →
     looked packs vs (heap_of W) ≡ done (heap_of V) (object a_table id.0 ∷ [])
 packed_told W V t id vs added i r m =
     pack_is (heap_of W) vs
-    ∙ ap (λ v. done (with_rows (heap_of W) (packed_rows vs)) (v ∷ [])) (last_is W id i)
-    ∙ ap (λ H. done H (object a_table id.0 ∷ [])) (sym (added_rows W V t (packed_rows vs) added r m))
+    ∙ ap (λ v. done (with_rows (heap_of W) (numbered_rows 1 vs)) (v ∷ [])) (last_is W id i)
+    ∙ ap (λ H. done H (object a_table id.0 ∷ [])) (sym (added_rows W V t (numbered_rows 1 vs) added r m))

@@ -1,40 +1,30 @@
 -- The row that gives a match in a new table.
-use Rattle.std.proofs.Common.{◌≡◌, ℕ, suc, ◌+◌, ◌-◌, ◌<◌, ◌≤◌, List, [], ◌∷◌, ◌++◌, length, map, drop, Option, Some, None, refl, ap, sym, ◌∙◌, arith, Ok, Err}
-use Rattle.std.specs.Prelude.{ℤ, pos, codes, slice_get, option_map}
-use Rattle.std.proofs.lemmas.List.{drop_all, length-map}
-use Rattle.std.proofs.lemmas.Option.{slice_get-map}
+use Rattle.std.proofs.Common.{◌≡◌, ℕ, suc, ◌+◌, ◌-◌, ◌<◌, List, [], ◌∷◌, ◌++◌, length, map, Option, Some, None, refl, ap, sym, ◌∙◌, arith, Ok, Err}
+use Rattle.std.specs.Prelude.{ℤ, pos, codes}
+use Rattle.std.proofs.lemmas.List.{length-map}
 use Rattle.int_core.specs.Heap.{Heap}
 use Rattle.int_core.specs.Rows.{set}
-use Rattle.int_core.specs.Value.{Plain, Value, known, nil, integer, string, Shape, shape, object, a_table, table_values, nth}
+use Rattle.int_core.specs.Value.{Plain, Value, known, integer, string, Shape, shape, object, a_table, table_values, nth}
 use Rattle.library_rows.specs.Arguments.{argument}
 use Rattle.library_rows.specs.Base.{seek}
-use Rattle.library_rows.specs.Look.{Look, read, written, gives, no_word, Done, done, looked}
+use Rattle.library_rows.specs.Look.{Look, read, written, gives, Done, done, looked}
 use Rattle.library_rows.specs.Searches.{match_rows, numbered, seeks, writes}
 use Rattle.library_arguments.specs.declared.refusal.Fault.{Fault}
 use Rattle.library_arguments.specs.declared.refusal.Fault.TheVariants.{Refused, Memory as NoMemory}
 use Rattle.lib_string.specs.Searches.{gives_values, IsSought}
 use Rattle.lib_string.specs.declared.seeking.Sought.{Sought}
 use Rattle.table_core.specs.Table.{Contents}
-use Rattle.table_core.specs.Value.{lua_values}
 use Rattle.table_core.specs.declared.value.TableId.{TableId}
 use Rattle.table_core.specs.declared.value.Value.{Value as Kept}
-use Rattle.table_core.specs.declared.value.Value.TheVariants.{Int}
 use Rattle.lua_heap.specs.declared.world.World.{World as Memory}
 use Rattle.lua_heap.specs.Changes.{AddsTable}
 use Rattle.lua_heap.specs.Reading.{row, value}
-use Rattle.lib_base.specs.Answers.{Answers}
-use Rattle.lib_base.specs.Matches.{numbered_from, numbered_rows}
-use Rattle.lib_base.specs.Raw.{AreAlike, heap_of}
-use Rattle.lib_base.proofs.PackRows.{added_rows, drop_next, last, last_is, set_last, with_rows}
+use Rattle.pure_functions.specs.Answers.{Answers, heap_of}
+use Rattle.pure_functions.proofs.QuickRows.{argument_is}
+use Rattle.lib_base.specs.Numbering.{numbered_from, numbered_rows}
+use Rattle.lib_base.proofs.PackRows.{added_rows, last, last_is, set_last, with_rows}
 
 -- what the row sees of its first arguments is what its function takes from all of them
-
-pub argument_is : (vs : List Value) (i : ℕ) → argument (map shape vs) (suc i) ≡ shape (nth vs i)
-argument_is vs i = ap {A = Option Shape} (λ o. elim o as (λ _. Shape) [ None ↦ no_word | Some s ↦ s ]) (slice_get-map shape vs i) ∙ go (slice_get vs i)
-  where
-    go : (o : Option Value) → elim (option_map shape o) as (λ _. Shape) [ None ↦ no_word | Some s ↦ s ] ≡ shape (elim o [ None ↦ known nil | Some v ↦ v ])
-    go None = refl
-    go (Some v) = refl
 
 pub seek_sees : (vs : List Value) (H : Heap) → looked seek vs H ≡ looked (seeks (map shape vs)) vs H
 seek_sees vs H =
@@ -80,11 +70,11 @@ unfolding put
 put_numbered [] i more rows = refl
 put_numbered (p ∷ ps) i more rows = put_numbered ps (suc i) more (set table_values rows (known (integer (pos i))) (known p))
 
-put_match : (all : Plain) (ps : List Plain) → put (match_rows all ps) [] ≡ numbered_rows (map known (all ∷ ps))
+put_match : (all : Plain) (ps : List Plain) → put (match_rows all ps) [] ≡ numbered_rows 0 (map known (all ∷ ps))
 unfolding put
 put_match all ps =
     let l = length-map ps known in
-    let e : length ps ≡ length (known all ∷ map known ps) - 1 = omega (arith, l) in
+    let e : length ps ≡ length (known all ∷ map known ps) + 0 - 1 = omega (arith, l) in
     put_numbered ps 1 ((string (codes "n"), integer (pos (length ps))) ∷ []) (set table_values [] (known (integer (pos 0))) (known all))
     ∙ ap (λ n. set table_values (numbered_from 0 (map known (all ∷ ps)) []) (known (string (codes "n"))) (known (integer (pos n)))) e
 
@@ -97,42 +87,19 @@ module _ (H : Heap) where
       ∙ writes_are rs (set table_values rows (known r.0) (known r.1)) k env
 
   gives_match : (start next : ℤ) (all : Plain) (ps : List Plain) (env : List Value) →
-      looked (gives_values start next (all ∷ ps)) env H ≡ done (with_rows H (numbered_rows (map known (all ∷ ps)))) (known (integer start) ∷ known (integer next) ∷ last H ∷ [])
+      looked (gives_values start next (all ∷ ps)) env H ≡ done (with_rows H (numbered_rows 0 (map known (all ∷ ps)))) (known (integer start) ∷ known (integer next) ∷ last H ∷ [])
   gives_match start next all ps env =
       writes_are (match_rows all ps) [] (gives (written (integer start) ∷ written (integer next) ∷ read 0 ∷ [])) env
       ∙ ap (λ rows. done (with_rows H rows) (known (integer start) ∷ known (integer next) ∷ last H ∷ [])) (put_match all ps)
 
 pub match_told : (W V : Memory) (t : Contents) (id : TableId) (start next : ℤ) (ps : List Plain) → 0 < length ps → AddsTable W V t → id.0 ≡ length W.tables.objects →
-    map (row W.strings) t.rows ≡ numbered_rows (map known ps) → t.metatable ≡ None → (env : List Value) →
+    map (row W.strings) t.rows ≡ numbered_rows 0 (map known ps) → t.metatable ≡ None → (env : List Value) →
     looked (gives_values start next ps) env (heap_of W) ≡ done (heap_of V) (known (integer start) ∷ known (integer next) ∷ object a_table id.0 ∷ [])
 match_told W V t id start next [] l added i r m env = absurd (omega (arith, l))
 match_told W V t id start next (all ∷ ps) l added i r m env =
     gives_match (heap_of W) start next all ps env
-    ∙ ap (λ v. done (with_rows (heap_of W) (numbered_rows (map known (all ∷ ps)))) (known (integer start) ∷ known (integer next) ∷ v ∷ [])) (last_is W id i)
-    ∙ ap (λ H. done H (known (integer start) ∷ known (integer next) ∷ object a_table id.0 ∷ [])) (sym (added_rows W V t (numbered_rows (map known (all ∷ ps))) added r m))
-
--- the same rows, kept
-module _ (texts : List (List ℕ)) (a : AreAlike texts) where
-  pub numbered_more : (vs : List Value) (at : ℕ) (rows now : List (Kept × Kept)) (v : Kept) → at < length vs → nth vs at ≡ value texts v → now ≡ set lua_values rows (Int (pos at)) v →
-      numbered_from at (drop at vs) (map (row texts) rows) ≡ numbered_from (at + 1) (drop (at + 1) vs) (map (row texts) now)
-  numbered_more vs at rows now v h e f =
-      let q : at + 1 ≡ suc at = omega arith in
-      ap (λ ws. numbered_from at ws (map (row texts) rows)) (drop_next vs at h)
-      ∙ ap (λ w. numbered_from (suc at) (drop (suc at) vs) (set table_values (map (row texts) rows) (known (integer (pos at))) w)) e
-      ∙ ap (λ n. numbered_from n (drop n vs) (set table_values (map (row texts) rows) (known (integer (pos at))) (value texts v))) (sym q)
-      ∙ ap (numbered_from (at + 1) (drop (at + 1) vs)) ((a.read rows).written (Int (pos at)) v ∙ ap (map (row texts)) (sym f))
-
-  pub numbered_are : (vs : List Kept) (at : ℕ) (rows now : List (Kept × Kept)) (name : Kept) → length vs ≤ at → value texts name ≡ known (string (codes "n")) →
-      numbered_from at (drop at (map (value texts) vs)) (map (row texts) rows) ≡ numbered_from 0 (map (value texts) vs) [] → now ≡ set lua_values rows name (Int (pos (length vs - 1))) →
-      map (row texts) now ≡ numbered_rows (map (value texts) vs)
-  numbered_are vs at rows now name h n e f =
-      let l : length (map (value texts) vs) ≡ length vs = length-map vs (value texts) in
-      let d : drop at (map (value texts) vs) ≡ [] = drop_all at (map (value texts) vs) (omega (arith, h, l)) in
-      let r : map (row texts) rows ≡ numbered_from 0 (map (value texts) vs) [] = sym (ap (λ ws. numbered_from at ws (map (row texts) rows)) d) ∙ e in
-      ap (map (row texts)) f ∙ sym ((a.read rows).written name (Int (pos (length vs - 1))))
-      ∙ ap (λ rows. set table_values rows (value texts name) (known (integer (pos (length vs - 1))))) r
-      ∙ ap (λ k. set table_values (numbered_from 0 (map (value texts) vs) []) k (known (integer (pos (length vs - 1))))) n
-      ∙ ap (λ m. set table_values (numbered_from 0 (map (value texts) vs) []) (known (string (codes "n"))) (known (integer (pos (m - 1))))) (sym l)
+    ∙ ap (λ v. done (with_rows (heap_of W) (numbered_rows 0 (map known (all ∷ ps)))) (known (integer start) ∷ known (integer next) ∷ v ∷ [])) (last_is W id i)
+    ∙ ap (λ H. done H (known (integer start) ∷ known (integer next) ∷ object a_table id.0 ∷ [])) (sym (added_rows W V t (numbered_rows 0 (map known (all ∷ ps))) added r m))
 
 -- what is no match
 

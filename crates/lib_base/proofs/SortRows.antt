@@ -31,16 +31,16 @@ use Rattle.lua_heap.specs.Law.{StringsAreThere}
 use Rattle.lua_heap.specs.Plain.{plain}
 use Rattle.lua_heap.specs.Reading.{text_or, value}
 use Rattle.lua_heap.specs.declared.world.World.{World as Memory}
-use Rattle.lib_base.specs.Answers.{Answers, Stands}
+use Rattle.pure_functions.specs.Answers.{Answers, Stands, heap_of}
 use Rattle.lib_base.specs.Lists.{items_from}
-use Rattle.lib_base.specs.Raw.{heap_of}
-use Rattle.lib_base.specs.Shapes.{IsThere}
+use Rattle.pure_functions.specs.Shapes.{IsThere}
 use Rattle.lib_base.specs.Sorting.{AreItems, AreSorted, AreThere, GoesInOrder, IsSortedOf, TableHasPlaces, bytes_of, fields_put, is_integer, is_text, item_shapes, items_in, number_of, refuses_items, shapes_in}
 use Rattle.lib_base.proofs.JoinRows.{reads_shapes_are}
 use Rattle.lib_base.proofs.ListRows.{behind, pushed}
-use Rattle.lib_base.proofs.Seen.{or_nil_valid, there}
+use Rattle.lib_base.proofs.Seen.{or_nil_valid}
+use Rattle.pure_functions.proofs.Seen.{there}
 use Rattle.lib_base.proofs.Sorted.{at_most, integers_sorted, rises_map, rises_of, texts_sorted}
-use Rattle.lib_base.proofs.Meaning.{first_of, second_of}
+use Rattle.pure_functions.proofs.Meaning.{first_of, second_of}
 
 -- what the row sees of values
 

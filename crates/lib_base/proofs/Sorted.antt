@@ -1,5 +1,5 @@
 -- Insertion into a list in order, by any total order: whatever sorts a list gives the list that insertion gives.
-use Rattle.std.proofs.Common.{◌≡◌, ℕ, zero, suc, ◌+◌, ◌<◌, List, [], ◌∷◌, Bool, true, false, length, refl, ap, sym, subst, ◌∙◌, arith, get_or, set, ◌⊎◌, ⊎_elim}
+use Rattle.std.proofs.Common.{◌≡◌, ℕ, zero, suc, ◌+◌, ◌<◌, List, [], ◌∷◌, Bool, true, false, length, refl, ap, sym, subst, ◌∙◌, arith, get_or, set, ⊎_elim}
 use Rattle.std.specs.Prelude.{cond, not, map, slice_index_or, nat_eq, nat_lt, ℤ, pos, negsuc, int_le, int_lt}
 use Rattle.std.specs.List.{swap}
 use Rattle.std.specs.List.Sorted.{IsPermutation, IsSortedBy}

@@ -1,14 +1,9 @@
 pub mod Raw
-pub mod Shapes
-pub mod Answers
 pub mod Select
 pub mod Metatables
 pub mod Lists
-pub mod Packing
+pub mod Numbering
 pub mod Sorting
 pub mod Texts
-pub mod Math
 pub mod Functions
 pub mod Expanding
-pub mod Matches
-pub mod QuickAnswers

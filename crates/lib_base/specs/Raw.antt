@@ -1,7 +1,6 @@
 -- The operations of rows on the tables in memory: what each reads, tells and leaves.
 use Rattle.std.specs.Prelude.{◌≡◌, ℕ, ℤ, true, false, List, [], ◌∷◌, map, Option, Some, None, Result, Ok, Err}
 use Rattle.std.specs.Option.{option_map}
-use Rattle.int_core.specs.Heap.{Heap}
 use Rattle.int_core.specs.Rows.{next}
 use Rattle.int_core.specs.Value.{boolean, integer, Shape, is_known, same, table_values}
 use Rattle.library_rows.specs.Look.{HeapOp, does_op, step, no_word}
@@ -12,13 +11,9 @@ use Rattle.table_core.specs.declared.value.Value.{Value as Kept}
 use Rattle.table_core.specs.declared.value.Value.TheVariants.{Nil, Table}
 use Rattle.lua_heap.specs.declared.world.World.{World as Memory}
 use Rattle.lua_heap.specs.Law.{IsReadAs}
-use Rattle.lua_heap.specs.Plain.{heap}
 use Rattle.lua_heap.specs.Reading.{value, row}
 use Rattle.lua_heap.specs.Strings.{AreApart, AreShort}
-
--- the tables of a world in memory, in the words of the definitions
-abbrev pub heap_of : Memory → Heap
-heap_of W = heap W.strings W.tables.objects (option_map (λ m. m.0) W.string_meta)
+use Rattle.pure_functions.specs.Answers.{heap_of}
 
 -- an operation over kept values: the values that it read, what it told, and the world after it
 pub record Operates (op : HeapOp) (old : Memory) (arguments : List Kept) (new : Memory) (values : List Kept) (told : Shape) : Type 0 where

@@ -9,7 +9,8 @@ use Rattle.library_arguments.specs.declared.refusal.Refusal.{Refusal}
 use Rattle.table_core.specs.declared.value.Value.{Value as Kept}
 use Rattle.lua_heap.specs.declared.world.World.{World as Memory}
 use Rattle.lua_heap.specs.Reading.{value}
-use Rattle.lib_base.specs.Raw.{heap_of, told_border}
+use Rattle.lib_base.specs.Raw.{told_border}
+use Rattle.pure_functions.specs.Answers.{heap_of}
 
 -- where the arguments from the nth on begin, of so many behind the first one
 abbrev pub selected_place : ℤ → ℕ → Option ℕ

@@ -22,8 +22,10 @@ use Rattle.table_core.specs.declared.value.Value.TheVariants.{Int, Str}
 use Rattle.lua_heap.specs.declared.world.World.{World as Memory}
 use Rattle.lua_heap.specs.Reading.{value}
 use Rattle.lib_base.specs.Lists.{items_from}
-use Rattle.lib_base.specs.Raw.{heap_of}
-use Rattle.lib_base.specs.Shapes.{IsThere}
+use Rattle.lib_base.specs.declared.sorting.Items.{Items}
+use Rattle.lib_base.specs.declared.sorting.Items.TheVariants.{Integers, Texts}
+use Rattle.pure_functions.specs.Answers.{heap_of}
+use Rattle.pure_functions.specs.Shapes.{IsThere}
 
 -- of one value
 
@@ -34,6 +36,10 @@ is_integer _ = false
 abbrev pub is_text : Kept → Bool
 is_text (Str id) = true
 is_text _ = false
+
+abbrev pub is_item : Items → Kept → Bool
+is_item Integers = is_integer
+is_item Texts = is_text
 
 abbrev pub number_of : Kept → ℤ
 number_of (Int n) = n

@@ -2,18 +2,18 @@
 ghost use Rattle.std.specs.Prelude.{◌≡◌, OnErr};
 ghost use Rattle.library_arguments.specs.Shapes.{shape_of};
 ghost use Rattle.library_rows.specs.Base.{asserts, collects_garbage, is_count, next_of, raw_equal, raw_get, raw_length, raw_set, selects, types};
-ghost use Rattle.lib_base.specs.Answers.{Answers, Changes, OnlyStrings, Stands};
-ghost use Rattle.lib_base.specs.QuickAnswers.{IsQuickAnswer};
+ghost use Rattle.pure_functions.specs.Answers.{Answers, Changes, OnlyStrings, Stands};
+ghost use Rattle.pure_functions.specs.QuickAnswers.{IsQuickAnswer};
 ghost use Rattle.lib_base.specs.Select.{IsBorderValue, IsLength, selected_place};
 
-use crate::answer::{Answer, all_from, argument};
-use crate::quick::there;
 use crate::raw;
-use crate::shapes::{argument_shape, table_argument, wrong_type};
-use crate::strings::string;
 use library_arguments::{Fault, Refusal, Shape, integer_argument};
 use lua_heap::World;
 use lua_heap::law::strings_are_there;
+use pure_functions::{
+    Answer, all_from, argument, argument_shape, bad_argument, string, table_argument, there,
+    wrong_type,
+};
 use table_core::{Key, NoSuchKey, Value};
 
 /// `collectgarbage`: nothing is ever collected, and 0 bytes are in use.
@@ -125,11 +125,7 @@ pub fn select(world: &World, arguments: &[Value]) -> Result<Answer, Fault>
             let answer = all_from(world.alloc, arguments, from)?;
             Ok(answer)
         }
-        None => Err(Fault::Refused(Refusal::BadArgument {
-            place: 1,
-            function: b"select",
-            what: b"index out of range",
-        })),
+        None => Err(Fault::Refused(bad_argument(1, b"select", b"index out of range"))),
     }
 }
 

@@ -1,24 +1,12 @@
 // Each function by its name.
-ghost use Rattle.std.specs.Prelude.{◌≡◌, ◌≤◌, OnErr, length, map, take};
-ghost use Rattle.int_core.specs.Value.{shape};
-ghost use Rattle.library_arguments.specs.Answers.{IsAnswer};
-ghost use Rattle.library_arguments.specs.Shapes.{shapes_of};
-ghost use Rattle.library_rows.specs.Plainly.{plainly};
-ghost use Rattle.lua_heap.specs.Reading.{value};
-ghost use Rattle.lib_base.specs.Answers.{Answers, Changes, OnlyStrings, Stands};
-ghost use Rattle.lib_base.specs.Functions.{function_row, plain_row, text_row};
+ghost use Rattle.std.specs.Prelude.{OnErr};
+ghost use Rattle.pure_functions.specs.Answers.{Answers, Changes, OnlyStrings, Stands};
+ghost use Rattle.lib_base.specs.Functions.{function_row};
 
-use crate::answer::Answer;
-use crate::plain::{all_shapes, given};
-use crate::quick::quick_answer;
-use crate::shapes::argument_shape;
-use crate::{
-    base, expanding, joining, lists, math, metatables, packing, seeking, sorting, text, texts,
-};
-use library_arguments::{Fault, Results, Shape, answers_are_done, refusals_are_done};
-use library_rows::plain_rows_are_functions;
+use crate::{base, expanding, joining, lists, metatables, packing, seeking, sorting, text};
+use library_arguments::Fault;
 use lua_heap::World;
-use std::alloc::Global;
+use pure_functions::{Answer, Function as Pure, math, over_texts, texts};
 use table_core::Value;
 
 /// The functions that look at values and tables alone: of the base library, `table`, `math`, `string` and `utf8`, and some that serve the
@@ -73,7 +61,7 @@ pub fn call(world: &mut World, function: Function, arguments: &[Value]) -> Resul
         Function::TypeOf => base::type_of(world, arguments),
         Function::Pack => packing::pack(world, arguments),
         Function::Sort => sorting::sort(world, arguments),
-        Function::Math(function) => plain_function(world, Plain::Math(function), arguments),
+        Function::Math(function) => pure_functions::call(world, Pure::Math(function), arguments),
         Function::Join => joining::join(world, arguments),
         Function::MetaField => metatables::meta_field(world, arguments),
         Function::Spread => lists::spread(world, arguments),
@@ -81,139 +69,5 @@ pub fn call(world: &mut World, function: Function, arguments: &[Value]) -> Resul
         Function::Expand => expanding::expand(world, arguments),
         Function::Seek => seeking::seek(world, arguments),
         Function::OverTexts(function) => over_texts(world, function, arguments),
-    }
-}
-
-/// Calls a function that sees texts and integers alone.
-fn over_texts(
-    world: &mut World,
-    function: texts::Function,
-    arguments: &[Value],
-) -> Result<Answer, Fault>
-    requires { Stands world.old arguments.now }
-    ensures answers { Answers (plainly (text_row function)) arguments.now world.old world.new result }
-    ensures kept { OnlyStrings world.old world.new arguments.now }
-{
-    match quick_answer(world, function, arguments) {
-        Some(answer) => Ok(answer),
-        None => plain_function(world, Plain::OverTexts(function), arguments),
-    }
-}
-
-/// A function that looks at no table.
-#[derive(Debug, Clone, Copy, PartialEq, Eq)]
-enum Plain {
-    Math(math::Function),
-    OverTexts(texts::Function),
-}
-
-/// Calls a function that looks at no table.
-fn plain_function(world: &mut World, function: Plain, arguments: &[Value]) -> Result<Answer, Fault>
-    requires { Stands world.old arguments.now }
-    ensures answers { Answers (plainly (plain_row function)) arguments.now world.old world.new result }
-    ensures kept { OnlyStrings world.old world.new arguments.now }
-{
-    plain_rows_are_functions();
-    answers_are_done();
-    refusals_are_done();
-    let results = plain_results(world, function, arguments)?;
-    let answer = given(world, arguments, &results)?;
-    Ok(answer)
-}
-
-/// What such a function gives, before it becomes values.
-fn plain_results(world: &World, function: Plain, arguments: &[Value]) -> Result<Results, Fault>
-    requires { Stands world.now arguments.now }
-    ensures { IsAnswer result (plain_row function (map shape (map (value world.now.strings) arguments.now))) }
-{
-    if arguments.len() == 1 {
-        return one_result(world, function, arguments);
-    }
-    if arguments.len() == 2 {
-        return two_results(world, function, arguments);
-    }
-    if arguments.len() == 3 {
-        return three_results(world, function, arguments);
-    }
-    if arguments.len() <= FEW {
-        return few_results(world, function, arguments);
-    }
-    let shapes = all_shapes(world, arguments)?;
-    let results = results_of(world.alloc, function, shapes.as_slice())?;
-    Ok(results)
-}
-
-/// How many arguments are seen without asking for memory.
-const FEW: usize = 4;
-
-/// What such a function gives for one argument.
-fn one_result(world: &World, function: Plain, arguments: &[Value]) -> Result<Results, Fault>
-    requires many { length arguments.now ≡ 1 }
-    requires stands { Stands world.now arguments.now }
-    ensures { IsAnswer result (plain_row function (map shape (map (value world.now.strings) arguments.now))) }
-{
-    let seen = [argument_shape(world, arguments, 0)];
-    results_of(world.alloc, function, front(&seen, 1))
-}
-
-/// What such a function gives for two arguments.
-fn two_results(world: &World, function: Plain, arguments: &[Value]) -> Result<Results, Fault>
-    requires many { length arguments.now ≡ 2 }
-    requires stands { Stands world.now arguments.now }
-    ensures { IsAnswer result (plain_row function (map shape (map (value world.now.strings) arguments.now))) }
-{
-    let seen = [
-        argument_shape(world, arguments, 0),
-        argument_shape(world, arguments, 1),
-    ];
-    results_of(world.alloc, function, front(&seen, 2))
-}
-
-/// What such a function gives for three arguments.
-fn three_results(world: &World, function: Plain, arguments: &[Value]) -> Result<Results, Fault>
-    requires many { length arguments.now ≡ 3 }
-    requires stands { Stands world.now arguments.now }
-    ensures { IsAnswer result (plain_row function (map shape (map (value world.now.strings) arguments.now))) }
-{
-    let seen = [
-        argument_shape(world, arguments, 0),
-        argument_shape(world, arguments, 1),
-        argument_shape(world, arguments, 2),
-    ];
-    results_of(world.alloc, function, front(&seen, 3))
-}
-
-/// What such a function gives for few arguments.
-fn few_results(world: &World, function: Plain, arguments: &[Value]) -> Result<Results, Fault>
-    requires few { length arguments.now ≤ 4 }
-    requires stands { Stands world.now arguments.now }
-    ensures { IsAnswer result (plain_row function (map shape (map (value world.now.strings) arguments.now))) }
-{
-    let seen = [
-        argument_shape(world, arguments, 0),
-        argument_shape(world, arguments, 1),
-        argument_shape(world, arguments, 2),
-        argument_shape(world, arguments, 3),
-    ];
-    results_of(world.alloc, function, front(&seen, arguments.len()))
-}
-
-/// The first `count` of some shapes.
-fn front<'s, 'a>(shapes: &'s [Shape<'a>], count: usize) -> &'s [Shape<'a>]
-    requires { count ≤ length shapes.now }
-    ensures { result.now ≡ take count shapes.now }
-{
-    let (front, _) = shapes.split_at(count);
-    front
-}
-
-/// What such a function gives, by what it sees of its arguments.
-#[inline(always)]
-fn results_of(alloc: Global, function: Plain, shapes: &[Shape]) -> Result<Results, Fault>
-    ensures { IsAnswer result (plain_row function (shapes_of shapes.now)) }
-{
-    match function {
-        Plain::Math(function) => math::results(alloc, function, shapes),
-        Plain::OverTexts(function) => texts::results(alloc, function, shapes),
     }
 }

@@ -6,21 +6,18 @@ ghost use Rattle.library_arguments.specs.Shapes.{shapes_of};
 ghost use Rattle.library_rows.specs.Base.{expand};
 ghost use Rattle.table_core.specs.declared.value.Value.TheVariants.{Str, Table};
 ghost use Rattle.lua_heap.specs.Reading.{value};
-ghost use Rattle.lib_base.specs.Answers.{Answers, IsArgument, OnlyStrings, Stands};
+ghost use Rattle.pure_functions.specs.Answers.{Answers, IsArgument, OnlyStrings, Stands, heap_of};
 ghost use Rattle.lib_base.specs.Expanding.{IsExpanded, is_escape};
 ghost use Rattle.lib_base.specs.Lists.{items_from};
-ghost use Rattle.lib_base.specs.QuickAnswers.{IsQuickAnswer};
-ghost use Rattle.lib_base.specs.Raw.{heap_of};
+ghost use Rattle.pure_functions.specs.QuickAnswers.{IsQuickAnswer};
 
-use crate::answer::{Answer, argument};
-use crate::plain::given;
 use crate::raw;
-use crate::shapes::{argument_shape, shape, wrong_type};
 use library_arguments::{
     Fault, Results, Shape, answers_are_done, refusals_are_done, text_argument,
 };
 use lua_heap::World;
 use lua_heap::law::strings_are_there;
+use pure_functions::{Answer, argument, argument_shape, given, shape, wrong_type};
 use std::alloc::AllocError;
 use table_core::{StrId, TableId, Value};
 

@@ -1,17 +1,19 @@
 // Functions whose results change nothing and take no memory, most often.
-ghost use Rattle.std.specs.Prelude.{Ok, IfSome};
-ghost use Rattle.library_rows.specs.Base.{next_of, raw_equal, raw_get, raw_length};
-ghost use Rattle.lib_base.specs.Answers.{Answers, Stands};
+ghost use Rattle.std.specs.Prelude.{IfSome, List, Ok};
+ghost use Rattle.library_rows.specs.Look.{Look};
+ghost use Rattle.table_core.specs.declared.value.Value.{Value as Kept};
+ghost use Rattle.lua_heap.specs.declared.world.World.{World as Memory};
+ghost use Rattle.pure_functions.specs.Answers.{Answers, Stands};
 ghost use Rattle.lib_base.specs.Functions.{function_row};
-ghost use Rattle.lib_base.specs.QuickAnswers.{IsQuickAnswer};
+ghost use Rattle.pure_functions.specs.QuickAnswers.{IsQuickAnswer};
 
-use crate::answer::Answer;
 use crate::base::{count_of_arguments, name_of_type, next, raw_equal, raw_get, raw_length};
 use crate::calls::Function;
 use crate::metatables::field_of_metatable;
-use crate::quick::quick_first;
 use crate::text::text_of_string;
+use library_arguments::Fault;
 use lua_heap::World;
+use pure_functions::{Answer, quick_first};
 use table_core::Value;
 
 /// What a function gives where that is at hand: nothing changes, and no memory is taken. `None` says nothing.
@@ -22,10 +24,10 @@ pub fn glance(world: &World, function: Function, arguments: &[Value]) -> Option<
 {
     match function {
         Function::MetaField => Some(field_of_metatable(world, arguments)),
-        Function::Next => next_row(world, arguments),
-        Function::RawEqual => equality(world, arguments),
-        Function::RawGet => raw_field(world, arguments),
-        Function::RawLength => raw_size(world, arguments),
+        Function::Next => unless_refused(next(world, arguments)),
+        Function::RawEqual => unless_refused(raw_equal(world, arguments)),
+        Function::RawGet => unless_refused(raw_get(world, arguments)),
+        Function::RawLength => unless_refused(raw_length(world, arguments)),
         Function::Select => count_of_arguments(world, arguments),
         Function::Text => text_of_string(world, arguments),
         Function::TypeOf => name_of_type(world, arguments),
@@ -34,48 +36,12 @@ pub fn glance(world: &World, function: Function, arguments: &[Value]) -> Option<
     }
 }
 
-/// The next row of a table. `None` where the arguments are refused.
+/// What a function gave. `None` where it refused its arguments.
 #[inline(always)]
-fn next_row(world: &World, arguments: &[Value]) -> Option<Answer>
-    requires { Stands world.now arguments.now }
-    ensures { IsQuickAnswer next_of arguments.now world.now result }
+fn unless_refused(given: Result<Answer, Fault>) -> Option<Answer>
+    ensures { (row : Look) (arguments : List Kept) (W : Memory) → Answers row arguments W W given → IsQuickAnswer row arguments W result }
 {
-    match next(world, arguments) {
-        Ok(answer) => Some(answer),
-        Err(_) => None,
-    }
-}
-
-/// Whether two values are the same. `None` where the arguments are refused.
-#[inline(always)]
-fn equality(world: &World, arguments: &[Value]) -> Option<Answer>
-    ensures { IsQuickAnswer raw_equal arguments.now world.now result }
-{
-    match raw_equal(world, arguments) {
-        Ok(answer) => Some(answer),
-        Err(_) => None,
-    }
-}
-
-/// A field of a table. `None` where the arguments are refused.
-#[inline(always)]
-fn raw_field(world: &World, arguments: &[Value]) -> Option<Answer>
-    requires { Stands world.now arguments.now }
-    ensures { IsQuickAnswer raw_get arguments.now world.now result }
-{
-    match raw_get(world, arguments) {
-        Ok(answer) => Some(answer),
-        Err(_) => None,
-    }
-}
-
-/// The length of a table or a string. `None` where the arguments are refused.
-#[inline(always)]
-fn raw_size(world: &World, arguments: &[Value]) -> Option<Answer>
-    requires { Stands world.now arguments.now }
-    ensures { IsQuickAnswer raw_length arguments.now world.now result }
-{
-    match raw_length(world, arguments) {
+    match given {
         Ok(answer) => Some(answer),
         Err(_) => None,
     }

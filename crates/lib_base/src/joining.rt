@@ -2,18 +2,15 @@
 ghost use Rattle.std.specs.Prelude.{◌≡◌, ◌<◌, ◌^◌, map};
 ghost use Rattle.int_core.specs.Value.{a_table, greatest_string, object, shape};
 ghost use Rattle.library_rows.specs.Base.{joined_text, joins};
-ghost use Rattle.lib_base.specs.Answers.{Answers, OnlyStrings, Stands};
+ghost use Rattle.pure_functions.specs.Answers.{Answers, OnlyStrings, Stands, heap_of};
 ghost use Rattle.lib_base.specs.Lists.{IsFaultOf, IsText, items_from};
-ghost use Rattle.lib_base.specs.Raw.{heap_of};
 
-use crate::answer::Answer;
 use crate::lists::count;
 use crate::raw;
-use crate::shapes::{argument_shape, shape, table_argument};
-use crate::strings::string;
 use library_arguments::{Fault, Refusal, text_argument};
 use lua_heap::World;
 use lua_heap::law::strings_are_there;
+use pure_functions::{Answer, argument_shape, shape, string, table_argument};
 use table_core::{TableId, Value};
 use text_functions::{Builder, StringFault};
 

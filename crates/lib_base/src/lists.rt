@@ -4,15 +4,13 @@ ghost use Rattle.int_core.specs.Value.{a_table, object};
 ghost use Rattle.library_rows.specs.Base.{spreads};
 ghost use Rattle.library_arguments.specs.Shapes.{shape_of};
 ghost use Rattle.lua_heap.specs.Reading.{value};
-ghost use Rattle.lib_base.specs.Answers.{Answers, Stands};
+ghost use Rattle.pure_functions.specs.Answers.{Answers, Stands, heap_of};
 ghost use Rattle.lib_base.specs.Lists.{IsCount, items_from};
-ghost use Rattle.lib_base.specs.Raw.{heap_of};
 
-use crate::answer::Answer;
 use crate::raw;
-use crate::shapes::{argument_shape, table_argument};
 use library_arguments::{Fault, Refusal, Shape, integer_argument};
 use lua_heap::World;
+use pure_functions::{Answer, argument_shape, table_argument};
 use std::alloc::AllocError;
 use table_core::{TableId, Value};
 

@@ -3,15 +3,13 @@ ghost use Rattle.std.specs.Prelude.{◌≡◌, Ok, OnErr, map};
 ghost use Rattle.int_core.specs.Value.{nth};
 ghost use Rattle.library_rows.specs.Base.{gets_metatable, meta_field, sets_metatable};
 ghost use Rattle.lua_heap.specs.Reading.{value};
-ghost use Rattle.lib_base.specs.Answers.{Answers, Changes, OnlyStrings, Stands};
+ghost use Rattle.pure_functions.specs.Answers.{Answers, Changes, OnlyStrings, Stands};
 ghost use Rattle.lib_base.specs.Metatables.{IsMetatableArgument, field_or};
 
-use crate::answer::{Answer, argument};
 use crate::raw;
-use crate::shapes::{argument_shape, table_argument, wrong_type};
-use crate::strings::string;
 use library_arguments::{Fault, Refusal};
 use lua_heap::World;
+use pure_functions::{Answer, argument, argument_shape, string, table_argument, wrong_type};
 use table_core::{TableId, Value};
 
 /// The raw field of a value's metatable, for the prelude.

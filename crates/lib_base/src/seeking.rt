@@ -1,28 +1,23 @@
 // The next match of a pattern with its captures in a table, for `string.gmatch` and `gsub` of the prelude (Lua 5.4 manual, 6.4).
-ghost use Rattle.std.specs.Prelude.{◌≡◌, ◌<◌, List, IfOk, IfSome, OnErr, None, true, codes, length, map, pos};
+ghost use Rattle.std.specs.Prelude.{◌≡◌, ◌<◌, List, IfOk, IfSome, OnErr, true, length, map};
 ghost use Rattle.std.specs.List.{list_all};
-ghost use Rattle.int_core.specs.Value.{Value as Known, known, shape, string};
+ghost use Rattle.int_core.specs.Value.{Value as Known, shape};
 ghost use Rattle.library_arguments.specs.Shapes.{known_of};
 ghost use Rattle.library_rows.specs.Base.{seek};
 ghost use Rattle.library_rows.specs.Look.{looked};
 ghost use Rattle.library_rows.specs.Plainly.{fits_length};
 ghost use Rattle.library_rows.specs.Searches.{seeks};
 ghost use Rattle.lib_string.specs.Searches.{IsSought, gives_values};
-ghost use Rattle.lua_heap.specs.Reading.{row, value};
-ghost use Rattle.lib_base.specs.Answers.{Answers, Changes, OnlyStrings, Stands, told};
-ghost use Rattle.lib_base.specs.Matches.{numbered_rows};
-ghost use Rattle.lib_base.specs.Raw.{heap_of};
+ghost use Rattle.lua_heap.specs.Reading.{value};
+ghost use Rattle.pure_functions.specs.Answers.{Answers, Changes, OnlyStrings, Stands, told, heap_of};
 
-use crate::answer::{Answer, argument};
-use crate::plain::values_of;
-use crate::raw::reads_alike;
-use crate::shapes::argument_shape;
-use crate::strings::string;
+use crate::numbering::numbered_table;
 use lib_string::Sought;
 use library_arguments::Fault;
 use lua_heap::World;
+use pure_functions::{Answer, argument_shape, string, values_of};
 use std::alloc::AllocError;
-use table_core::{Key, Table, Value};
+use table_core::Value;
 
 /// The next match: its place, the place behind it, and a table of the whole match at 0, its captures, and their number at `n`.
 pub fn seek(world: &mut World, arguments: &[Value]) -> Result<Answer, Fault>
@@ -68,28 +63,11 @@ fn found_match(world: &mut World, arguments: &[Value], found: &Sought) -> Result
 {
     let values = values_of(world, arguments, found.values.as_slice())?;
     let name = string(world, arguments, b"n")?;
-    let table = match_table(world, values.as_slice(), name)?;
+    let table = numbered_table(world, values.as_slice(), 0, name)?;
     let mut results = Vec::with_capacity(world.alloc, 3)?;
     let id = world.add_table(table)?;
     results.push_reserved(Value::Int(found.start));
     results.push_reserved(Value::Int(found.next));
     results.push_reserved(Value::Table(id));
     Ok(Answer::Gives(results))
-}
-
-/// The table of a match: its values from 0 on, and at `name`, which is the string `n`, the number of all but the first.
-fn match_table(world: &World, values: &[Value], name: Value) -> Result<Table, AllocError>
-    requires { value world.now.strings name ≡ known (string (codes "n")) }
-    ensures rows { IfOk result (λ table. map (row world.now.strings) table.rows ≡ numbered_rows (map (value world.now.strings) values.now)) }
-    ensures metatable { IfOk result (λ table. table.metatable ≡ None) }
-{
-    reads_alike(world);
-    let mut table = Table::new(world.alloc);
-    for at in 0..values.len() {
-        let key = Key::of(Value::Int(at as i64)).unwrap();
-        table.set(key, argument(values, at))?;
-    }
-    let captures = values.len().saturating_sub(1);
-    table.set(Key::of(name).unwrap(), Value::Int(captures as i64))?;
-    Ok(table)
 }

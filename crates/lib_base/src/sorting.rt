@@ -4,17 +4,15 @@ ghost use Rattle.std.specs.List.{list_all};
 ghost use Rattle.int_core.specs.Value.{a_table, nth, object};
 ghost use Rattle.library_rows.specs.Base.{sorts};
 ghost use Rattle.lua_heap.specs.Reading.{value};
-ghost use Rattle.lib_base.specs.Answers.{Answers, Changes, Stands};
-ghost use Rattle.lib_base.specs.Raw.{heap_of};
-ghost use Rattle.lib_base.specs.Sorting.{AreSorted, AreThere, HasPlaces, IsInOrder, IsSortedOf, NamesNoComparator, TableHasPlaces, bytes_of, fields_put, is_integer, is_text, items_in, number_of, rows_put};
+ghost use Rattle.pure_functions.specs.Answers.{Answers, Changes, Stands, heap_of};
+ghost use Rattle.lib_base.specs.Sorting.{AreSorted, AreThere, HasPlaces, IsInOrder, IsSortedOf, NamesNoComparator, TableHasPlaces, bytes_of, fields_put, is_integer, is_item, is_text, items_in, number_of, rows_put};
 
-use crate::answer::{Answer, argument};
 use crate::lists::items;
 use crate::raw::{self, reads_alike};
-use crate::shapes::table_argument;
 use library_arguments::{Fault, Refusal};
 use lua_heap::World;
 use lua_heap::law::strings_are_there;
+use pure_functions::{Answer, argument, bad_argument, table_argument};
 use table_core::{Table, TableId, Value};
 
 /// `table.sort`: the items 1 to n of a table, which are all integers or all strings, in ascending order. A refusal changes nothing.
@@ -41,11 +39,7 @@ fn no_comparator(arguments: &[Value]) -> Result<(), Refusal>
 {
     match argument(arguments, 1) {
         Value::Nil => Ok(()),
-        _ => Err(Refusal::BadArgument {
-            place: 2,
-            function: b"sort",
-            what: b"comparator not supported",
-        }),
+        _ => Err(bad_argument(2, b"sort", b"comparator not supported")),
     }
 }
 
@@ -83,47 +77,39 @@ fn put_in_order(world: &World, items: &mut [Value]) -> Result<(), Refusal>
     requires { AreThere world.now.strings items.old }
     ensures { IsInOrder world.now.strings items.old items.new result }
 {
-    if are_integers(items) {
+    if are_all(Items::Integers, items) {
         sort_integers(items);
         Ok(())
-    } else if are_texts(items) {
+    } else if are_all(Items::Texts, items) {
         sort_texts(world, items);
         Ok(())
     } else {
-        Err(Refusal::BadArgument {
-            place: 1,
-            function: b"sort",
-            what: b"sort takes only integers or only strings",
-        })
+        Err(bad_argument(1, b"sort", b"sort takes only integers or only strings"))
     }
 }
 
-/// Whether all values are integers.
-fn are_integers(items: &[Value]) -> bool
-    ensures { result ≡ list_all is_integer items.now }
-{
-    items.iter().all(|item| is_integer(*item))
+/// What a table is sorted of.
+#[derive(Debug, Clone, Copy, PartialEq, Eq)]
+enum Items {
+    Integers,
+    Texts,
 }
 
-/// Whether a value is an integer.
-fn is_integer(v: Value) -> bool
-    ensures { result ≡ is_integer v }
+/// Whether all values are such items.
+fn are_all(wanted: Items, values: &[Value]) -> bool
+    ensures { result ≡ list_all (is_item wanted) values.now }
 {
-    matches!(v, Value::Int(_))
+    values.iter().all(|value| is_item(wanted, *value))
 }
 
-/// Whether all values are strings.
-fn are_texts(items: &[Value]) -> bool
-    ensures { result ≡ list_all is_text items.now }
+/// Whether a value is such an item.
+fn is_item(wanted: Items, v: Value) -> bool
+    ensures { result ≡ is_item wanted v }
 {
-    items.iter().all(|item| is_text(*item))
-}
-
-/// Whether a value is a string.
-fn is_text(v: Value) -> bool
-    ensures { result ≡ is_text v }
-{
-    matches!(v, Value::Str(_))
+    match wanted {
+        Items::Integers => matches!(v, Value::Int(_)),
+        Items::Texts => matches!(v, Value::Str(_)),
+    }
 }
 
 /// Puts integers in ascending order.

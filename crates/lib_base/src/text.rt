@@ -5,18 +5,15 @@ ghost use Rattle.library_arguments.specs.Shapes.{shape_of};
 ghost use Rattle.library_rows.specs.Base.{kind_text, texts};
 ghost use Rattle.table_core.specs.declared.value.Value.TheVariants.{Int, Str};
 ghost use Rattle.lua_heap.specs.Reading.{value};
-ghost use Rattle.lib_base.specs.Answers.{Answers, IsArgument, OnlyStrings, Stands};
-ghost use Rattle.lib_base.specs.QuickAnswers.{IsQuickAnswer};
-ghost use Rattle.lib_base.specs.Raw.{heap_of};
+ghost use Rattle.pure_functions.specs.Answers.{Answers, IsArgument, OnlyStrings, Stands, heap_of};
+ghost use Rattle.pure_functions.specs.QuickAnswers.{IsQuickAnswer};
 ghost use Rattle.lib_base.specs.Texts.{IsShown, shown_of};
 
-use crate::answer::{Answer, argument};
 use crate::raw;
-use crate::shapes::{argument_shape, shape};
-use crate::strings::{new_string, string};
 use library_arguments::{Digits, Fault, Refusal, Shape};
 use lua_heap::World;
-use lua_heap::law::strings_are_there;
+use lua_heap::law::{new_strings_keep, strings_are_there};
+use pure_functions::{Answer, argument, argument_shape, shape, string};
 use std::alloc::{AllocError, Global};
 use table_core::{StrId, Value};
 use text_functions::MAX_TEXT;
@@ -81,8 +78,9 @@ fn integer_text(world: &mut World, arguments: &[Value], n: i64) -> Result<Answer
     if bytes.len() > MAX_TEXT {
         return Err(Fault::Refused(Refusal::Text(b"resulting string too large")));
     }
-    let made = new_string(world, arguments, bytes)?;
-    Ok(Answer::One(made))
+    new_strings_keep();
+    let id = world.intern_new(bytes)?;
+    Ok(Answer::One(Value::Str(id)))
 }
 
 /// The text of a value as a string, which is added where there is none.

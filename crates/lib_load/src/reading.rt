@@ -3,16 +3,16 @@ ghost use Rattle.std.specs.Prelude.{◌≡◌, ◌≤◌, length, IfOk};
 ghost use Rattle.int_core.specs.Value.{greatest_string};
 ghost use Rattle.load_rows.specs.Loading.{after_building, fitted as fitted_text};
 ghost use Rattle.load_request.specs.Requests.{loaded_as};
-ghost use Rattle.lib_base.specs.Answers.{Stands};
+ghost use Rattle.pure_functions.specs.Answers.{Stands};
 ghost use Rattle.lib_load.specs.Loads.{ComesTo, load_in};
 
 use code_core::Checked;
 use compile_chunk::code_of;
 use compile_text::TextFault;
-use lib_base::argument_shape;
 use library_arguments::Refusal;
 use load_request::{Request, asked, mode_text, refusal_text};
 use lua_heap::World;
+use pure_functions::argument_shape;
 use std::alloc::{AllocError, Global};
 
 /// The most bytes of a string.

@@ -1,8 +1,9 @@
 -- What functions give without a list.
-use Rattle.std.specs.Prelude.{◌≡◌, List, [], ◌∷◌, Option, Some, None}
-use Rattle.int_core.specs.Value.{Plain, nil, integer, string}
+use Rattle.std.specs.Prelude.{◌≡◌, ℤ, List, [], ◌∷◌, Option, Some, None}
+use Rattle.int_core.specs.Value.{Plain, nil, integer, string, Shape, is_known}
 use Rattle.library_rows.specs.Plainly.{Outcome, results}
 use Rattle.lib_string.specs.declared.quick.Quick.{Quick}
+use Rattle.lib_string.specs.declared.quick.Span.{Span}
 use Rattle.lib_string.specs.declared.quick.Quick.TheVariants.{Nothing, Integer, Text, Places}
 
 abbrev pub quick_of : Quick → List Plain
@@ -15,3 +16,12 @@ quick_of (Places first last) = integer first ∷ integer last ∷ []
 abbrev pub IsQuick : Option Quick → Outcome → Type 0
 IsQuick None told = Unit {0}
 IsQuick (Some quick) told = told ≡ results (quick_of quick)
+
+-- what is seen of a text, a place, and a second place or none
+
+abbrev pub place_seen : Option ℤ → Shape
+place_seen None = is_known nil
+place_seen (Some n) = is_known (integer n)
+
+abbrev pub span_seen : Span → List Shape
+span_seen span = is_known (string span.bytes.now) ∷ is_known (integer span.first) ∷ place_seen span.last ∷ []

@@ -1,11 +1,11 @@
 // Functions of the bytes of a text.
 ghost use Rattle.std.specs.Prelude.{◌≡◌, map, IfOk};
 ghost use Rattle.library_rows.specs.Plainly.{results};
-ghost use Rattle.library_rows.specs.Strings.{byte_in, byte_row, char_row, codes_of, len_row, lower_row, reverse_row, sub_row, upper_row};
+ghost use Rattle.library_rows.specs.Strings.{byte_in, byte_row, char_row, codes_of, len_row, sub_row};
 ghost use Rattle.library_arguments.specs.Answers.{IsAnswer};
 ghost use Rattle.library_arguments.specs.Refusals.{IsRead};
 ghost use Rattle.library_arguments.specs.Shapes.{known_of, shape_of, shapes_of};
-ghost use Rattle.lib_string.specs.Bytes.{byte_argument};
+ghost use Rattle.lib_string.specs.Bytes.{byte_argument, change_name, change_row, changed};
 
 use library_arguments::{
     Fault, Plain, Refusal, Results, Shape, argument, integer_argument, integer_or, text_argument,
@@ -105,46 +105,55 @@ pub fn len(shapes: &[Shape]) -> Result<Results, Fault>
     Ok(Results::One(Plain::Integer(len as i64)))
 }
 
-/// `string.lower`: small letters in place of capitals.
+/// How the bytes of a text are changed.
+#[derive(Debug, Clone, Copy, PartialEq, Eq)]
+pub enum Change {
+    /// Small letters in place of capitals.
+    Lower,
+    /// The bytes from the last to the first.
+    Reverse,
+    /// Capitals in place of small letters.
+    Upper,
+}
+
+impl Change {
+    /// The name of its function, for errors.
+    #[inline(always)]
+    fn name(self) -> &'static [u8]
+        ensures { result.now ≡ change_name self }
+    {
+        match self {
+            Change::Lower => b"lower",
+            Change::Reverse => b"reverse",
+            Change::Upper => b"upper",
+        }
+    }
+}
+
+/// `string.lower`, `string.reverse` and `string.upper`: a text whose bytes are changed.
 ///
 /// # Errors
 ///
 /// The argument is no text; or memory runs out.
-pub fn lower(alloc: Global, shapes: &[Shape]) -> Result<Results, Fault>
-    ensures { IsAnswer result (lower_row (shapes_of shapes.now)) }
+#[inline(always)]
+pub fn changed(alloc: Global, change: Change, shapes: &[Shape]) -> Result<Results, Fault>
+    ensures { IsAnswer result (change_row change (shapes_of shapes.now)) }
 {
-    let text = text_argument(b"lower", 1, argument(shapes, 1))?;
-    let bytes = lowered(alloc, text.as_slice())?;
+    let text = text_argument(change.name(), 1, argument(shapes, 1))?;
+    let bytes = changed_bytes(alloc, change, text.as_slice())?;
     let results = Results::string(bytes)?;
     Ok(results)
 }
 
-/// `string.upper`: capitals in place of small letters.
-///
-/// # Errors
-///
-/// The argument is no text; or memory runs out.
-pub fn upper(alloc: Global, shapes: &[Shape]) -> Result<Results, Fault>
-    ensures { IsAnswer result (upper_row (shapes_of shapes.now)) }
+#[inline(always)]
+fn changed_bytes(alloc: Global, change: Change, text: &[u8]) -> Result<Vec<u8>, AllocError>
+    ensures { IfOk result (λ bytes. bytes.items ≡ changed change text.now) }
 {
-    let text = text_argument(b"upper", 1, argument(shapes, 1))?;
-    let bytes = uppered(alloc, text.as_slice())?;
-    let results = Results::string(bytes)?;
-    Ok(results)
-}
-
-/// `string.reverse`: the bytes from the last to the first.
-///
-/// # Errors
-///
-/// The argument is no text; or memory runs out.
-pub fn reverse(alloc: Global, shapes: &[Shape]) -> Result<Results, Fault>
-    ensures { IsAnswer result (reverse_row (shapes_of shapes.now)) }
-{
-    let text = text_argument(b"reverse", 1, argument(shapes, 1))?;
-    let bytes = reversed(alloc, text.as_slice())?;
-    let results = Results::string(bytes)?;
-    Ok(results)
+    match change {
+        Change::Lower => lowered(alloc, text),
+        Change::Reverse => reversed(alloc, text),
+        Change::Upper => uppered(alloc, text),
+    }
 }
 
 /// `string.sub`: the bytes from one place up to another one.

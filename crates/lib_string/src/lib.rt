@@ -16,7 +16,7 @@ mod quick_searches;
 mod repeating;
 mod seeking;
 
-pub use bytes::{byte, char, len, lower, reverse, sub, upper};
+pub use bytes::{Change, byte, changed, char, len, sub};
 pub use expanding::expand;
 pub use filling::{kinds, layout};
 pub use matching::{find, match_pattern};

@@ -1,6 +1,5 @@
 // What searches give where their arguments are of the usual types and there are no captures: no list is made, and no text is copied.
 ghost use Rattle.std.specs.Prelude.{◌≤◌, ◌+◌, ◌∷◌, [], Ok, length, IfSome};
-ghost use Rattle.int_core.specs.Value.{is_known, string};
 ghost use Rattle.library_rows.specs.Searches.{find_row, found_match, found_places, found_text, match_row};
 ghost use Rattle.library_arguments.specs.Shapes.{shape_of};
 ghost use Rattle.text_match.specs.Told.{IsWithin, told_hit};
@@ -23,40 +22,14 @@ pub fn quick_find<'a>(
 ) -> Option<Quick<'a>>
     ensures { IsQuick result (find_row (shape_of text.entry ∷ shape_of pattern.entry ∷ shape_of place.entry ∷ shape_of plain.entry ∷ [])) }
 {
-    match text {
-        Shape::String(subject) => find_in(alloc, subject, pattern, place, plain),
-        _ => None,
-    }
-}
-
-fn find_in<'a>(
-    alloc: Global,
-    subject: &'a [u8],
-    pattern: Shape,
-    place: Shape,
-    plain: Shape,
-) -> Option<Quick<'a>>
-    ensures { IsQuick result (find_row (is_known (string subject.now) ∷ shape_of pattern.entry ∷ shape_of place.entry ∷ shape_of plain.entry ∷ [])) }
-{
-    match pattern {
-        Shape::String(text) => find_text(alloc, subject, text, place, plain),
-        _ => None,
-    }
-}
-
-fn find_text<'a>(
-    alloc: Global,
-    subject: &'a [u8],
-    text: &[u8],
-    place: Shape,
-    plain: Shape,
-) -> Option<Quick<'a>>
-    ensures { IsQuick result (find_row (is_known (string subject.now) ∷ is_known (string text.now) ∷ shape_of place.entry ∷ shape_of plain.entry ∷ [])) }
-{
     let plain = plain.holds();
-    match place {
-        Shape::Nil => find_from(alloc, subject, text, 1, plain),
-        Shape::Integer(at) => find_from(alloc, subject, text, at, plain),
+    match (text, pattern, place) {
+        (Shape::String(subject), Shape::String(text), Shape::Nil) => {
+            find_from(alloc, subject, text, 1, plain)
+        }
+        (Shape::String(subject), Shape::String(text), Shape::Integer(at)) => {
+            find_from(alloc, subject, text, at, plain)
+        }
         _ => None,
     }
 }
@@ -140,27 +113,13 @@ pub fn quick_match<'a>(
 ) -> Option<Quick<'a>>
     ensures { IsQuick result (match_row (shape_of text.entry ∷ shape_of pattern.entry ∷ shape_of place.entry ∷ [])) }
 {
-    match text {
-        Shape::String(subject) => match_in(alloc, subject, pattern, place),
-        _ => None,
-    }
-}
-
-fn match_in<'a>(alloc: Global, subject: &'a [u8], pattern: Shape, place: Shape) -> Option<Quick<'a>>
-    ensures { IsQuick result (match_row (is_known (string subject.now) ∷ shape_of pattern.entry ∷ shape_of place.entry ∷ [])) }
-{
-    match pattern {
-        Shape::String(text) => match_text(alloc, subject, text, place),
-        _ => None,
-    }
-}
-
-fn match_text<'a>(alloc: Global, subject: &'a [u8], text: &[u8], place: Shape) -> Option<Quick<'a>>
-    ensures { IsQuick result (match_row (is_known (string subject.now) ∷ is_known (string text.now) ∷ shape_of place.entry ∷ [])) }
-{
-    match place {
-        Shape::Nil => matched_from(alloc, subject, text, 1),
-        Shape::Integer(at) => matched_from(alloc, subject, text, at),
+    match (text, pattern, place) {
+        (Shape::String(subject), Shape::String(text), Shape::Nil) => {
+            matched_from(alloc, subject, text, 1)
+        }
+        (Shape::String(subject), Shape::String(text), Shape::Integer(at)) => {
+            matched_from(alloc, subject, text, at)
+        }
         _ => None,
     }
 }

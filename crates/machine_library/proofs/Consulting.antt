@@ -14,10 +14,9 @@ use Rattle.table_core.specs.declared.value.Value.{Value as Kept}
 use Rattle.lua_heap.specs.declared.world.World.{World as Memory}
 use Rattle.lua_heap.specs.Plain.{plain}
 use Rattle.lua_heap.specs.Reading.{value}
-use Rattle.lib_base.specs.declared.answer.Answer.{Answer}
-use Rattle.lib_base.specs.declared.answer.Answer.TheVariants.{One, Two, Gives, Raises}
-use Rattle.lib_base.specs.Answers.{Changes, told}
-use Rattle.lib_base.specs.Raw.{heap_of}
+use Rattle.pure_functions.specs.declared.answer.Answer.{Answer}
+use Rattle.pure_functions.specs.declared.answer.Answer.TheVariants.{One, Two, Gives, Raises}
+use Rattle.pure_functions.specs.Answers.{Changes, told, heap_of}
 use Rattle.move_laws.specs.Memory.{Makes, Leads, HasStack, ReadsSame}
 use Rattle.machine_sound.proofs.Lists.{get_push_new}
 use Rattle.move_laws.proofs.Rows.{first, ended}

@@ -15,7 +15,7 @@ use Rattle.lua_heap.specs.Cells.{CellsAreListed}
 use Rattle.lua_heap.specs.Codes.{AreCodes}
 use Rattle.lua_heap.specs.Plain.{plain}
 use Rattle.lua_heap.specs.Reading.{value}
-use Rattle.lib_base.specs.Answers.{Stands, OnlyStrings}
+use Rattle.pure_functions.specs.Answers.{Stands, OnlyStrings}
 use Rattle.move_laws.specs.Memory.{Makes, InOrder, IsSound, ReadsSame}
 
 -- what moves is no part of what makes a world sound but for being valid

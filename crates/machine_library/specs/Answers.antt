@@ -7,8 +7,8 @@ use Rattle.table_core.specs.declared.value.Value.{Value as Kept}
 use Rattle.lua_heap.specs.declared.world.World.{World as Memory}
 use Rattle.lua_heap.specs.Plain.{plain}
 use Rattle.lua_heap.specs.Reading.{value}
-use Rattle.lib_base.specs.declared.answer.Answer.{Answer}
-use Rattle.lib_base.specs.declared.answer.Answer.TheVariants.{One, Two, Gives, Raises}
+use Rattle.pure_functions.specs.declared.answer.Answer.{Answer}
+use Rattle.pure_functions.specs.declared.answer.Answer.TheVariants.{One, Two, Gives, Raises}
 use Rattle.move_laws.specs.Memory.{Leads}
 use Rattle.machine_moves.specs.declared.ending.Ending.{Ending as KeptEnding}
 use Rattle.machine_moves.specs.declared.ending.Ending.TheVariants.{Go, Returned, Raised}

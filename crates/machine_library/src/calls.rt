@@ -11,11 +11,12 @@ ghost use Rattle.machine_moves.specs.Ending.{ending_of};
 ghost use Rattle.machine_moves.specs.declared.ending.Ending.TheVariants.{Raised};
 ghost use Rattle.machine_library.specs.Answers.{Goes, Tells};
 
-use lib_base::{Answer, Function, call};
+use lib_base::{Function, call};
 use library_arguments::{Fault, Refusal};
 use lua_heap::World;
 use machine_errors::blame;
 use machine_moves::{Ending, give_values, hand_over, take_moving};
+use pure_functions::Answer;
 use std::alloc::AllocError;
 use table_core::Value;
 

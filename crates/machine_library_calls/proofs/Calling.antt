@@ -21,10 +21,9 @@ use Rattle.lua_heap.specs.declared.world.World.{World as Memory}
 use Rattle.lua_heap.specs.Cells.{CellsAreListed}
 use Rattle.lua_heap.specs.Plain.{plain}
 use Rattle.lua_heap.specs.Reading.{value}
-use Rattle.lib_base.specs.declared.answer.Answer.{Answer}
-use Rattle.lib_base.specs.declared.answer.Answer.TheVariants.{Raises}
-use Rattle.lib_base.specs.Answers.{Changes, OnlyStrings, Stands, told}
-use Rattle.lib_base.specs.Raw.{heap_of}
+use Rattle.pure_functions.specs.declared.answer.Answer.{Answer}
+use Rattle.pure_functions.specs.declared.answer.Answer.TheVariants.{Raises}
+use Rattle.pure_functions.specs.Answers.{Changes, OnlyStrings, Stands, told, heap_of}
 use Rattle.move_laws.specs.Memory.{HasFrame, InOrder, IsSound, Leads, Makes, ReadsSame}
 use Rattle.move_laws.proofs.Order.{steps_of}
 use Rattle.machine_moves.specs.Ending.{ending_of}

@@ -15,9 +15,8 @@ use Rattle.lua_stack.specs.declared.frame.Wait.TheVariants.{ForCall, ForIterator
 use Rattle.lua_heap.specs.declared.world.World.{World as Memory}
 use Rattle.lua_heap.specs.Plain.{plain}
 use Rattle.lua_heap.specs.Reading.{value}
-use Rattle.lib_base.specs.declared.answer.Answer.{Answer}
-use Rattle.lib_base.specs.Answers.{Changes, told}
-use Rattle.lib_base.specs.Raw.{heap_of}
+use Rattle.pure_functions.specs.declared.answer.Answer.{Answer}
+use Rattle.pure_functions.specs.Answers.{Changes, told, heap_of}
 use Rattle.move_laws.specs.Memory.{InOrder}
 use Rattle.instruction_forms.specs.declared.form.Form.TheVariants.{Call}
 use Rattle.step_laws.specs.Steps.{Does, IsReady}

@@ -10,9 +10,8 @@ use Rattle.machine_core.specs.Moves.{go}
 use Rattle.table_core.specs.declared.value.Value.{Value as Kept}
 use Rattle.lua_heap.specs.declared.world.World.{World as Memory}
 use Rattle.lua_heap.specs.Reading.{value}
-use Rattle.lib_base.specs.Answers.{told}
-use Rattle.lib_base.specs.Raw.{heap_of}
-use Rattle.lib_base.specs.declared.answer.Answer.{Answer}
+use Rattle.pure_functions.specs.Answers.{told, heap_of}
+use Rattle.pure_functions.specs.declared.answer.Answer.{Answer}
 use Rattle.instruction_forms.specs.declared.form.Form.TheVariants.{Call}
 use Rattle.step_laws.specs.Steps.{IsReady}
 use Rattle.running_frame.specs.declared.place.Here.{Here}

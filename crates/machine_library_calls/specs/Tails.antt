@@ -11,9 +11,8 @@ use Rattle.machine_core.specs.Moves.{go, is_given, lua_top, see_top}
 use Rattle.table_core.specs.declared.value.Value.{Value as Kept}
 use Rattle.lua_heap.specs.declared.world.World.{World as Memory}
 use Rattle.lua_heap.specs.Reading.{value}
-use Rattle.lib_base.specs.declared.answer.Answer.{Answer}
-use Rattle.lib_base.specs.Answers.{Changes, told}
-use Rattle.lib_base.specs.Raw.{heap_of}
+use Rattle.pure_functions.specs.declared.answer.Answer.{Answer}
+use Rattle.pure_functions.specs.Answers.{Changes, told, heap_of}
 use Rattle.move_laws.specs.Memory.{InOrder, Makes}
 use Rattle.instruction_forms.specs.declared.form.Form.TheVariants.{TailCall}
 use Rattle.step_laws.specs.Steps.{IsReady}

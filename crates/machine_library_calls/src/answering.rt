@@ -11,12 +11,12 @@ ghost use Rattle.source_builds.specs.Builds.{BuildsSources};
 ghost use Rattle.tree_core.specs.Tree.{Body};
 ghost use Rattle.machine_library_calls.specs.Calls.{Begun, Comes, IsAnswered, IsGiven, wait_by};
 
-use lib_base::Answer;
 use loaded_code::loading_is_safe;
 use lua_heap::World;
 use lua_stack::Wait;
 use machine_moves::{Ending, put_in_front};
 use machine_returns::{set_wait, take_results};
+use pure_functions::Answer;
 use running_frame::Here;
 use std::alloc::AllocError;
 use table_core::Value;

@@ -16,12 +16,13 @@ ghost use Rattle.machine_library_calls.specs.Glances.{IsSeen, MayGive};
 
 use crate::answering::take_answer;
 use crate::calls::CallAt;
-use lib_base::{Answer, glance};
+use lib_base::glance;
 use loaded_code::loading_is_safe;
 use lua_heap::World;
 use machine_call_rows::{arguments_of_call, wait_for_primitive};
 use machine_moves::{Ending, read_register};
 use machine_primitives::library_function;
+use pure_functions::Answer;
 use running_frame::Here;
 use std::alloc::AllocError;
 use table_core::Value;

@@ -18,7 +18,7 @@ ghost use Rattle.machine_library_calls.specs.Tails.{HasLuaOnTop, IsTailAnswered,
 
 use crate::answering::{go_on, raise_value};
 use crate::calls::call_later;
-use lib_base::{Answer, Function, call};
+use lib_base::{Function, call};
 use loaded_code::loading_is_safe;
 use lua_heap::World;
 use lua_stack::{Top, Wait};
@@ -27,6 +27,7 @@ use machine_moves::{Ending, see_top};
 use machine_primitives::library_function;
 use machine_returns::{set_wait, wait_on_top};
 use machine_step::go_on_with;
+use pure_functions::Answer;
 use running_frame::{Here, find_here};
 use std::alloc::AllocError;
 use table_core::Value;

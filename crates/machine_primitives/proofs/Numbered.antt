@@ -9,8 +9,8 @@ use Rattle.loaded_code.specs.Laws.{library, load_by}
 use Rattle.machine_core.specs.Moves.{Row, traps}
 use Rattle.machine_core.specs.PrimitiveRows.{primitive_row}
 use Rattle.lib_base.specs.declared.calls.Function.TheVariants.{Assert, CollectGarbage, GetMetatable, Next, RawEqual, RawGet, RawLength, RawSet, Select, SetMetatable, TypeOf, Pack, Expand, Join, MetaField, Seek, Sort, Spread, Text, Math, OverTexts}
-use Rattle.lib_base.specs.declared.math.Function.TheVariants.{Abs as MathAbs, Fmod as MathFmod, Max as MathMax, Min as MathMin, ToInteger as MathToInteger, TypeOf as MathTypeOf, Ult as MathUlt}
-use Rattle.lib_base.specs.declared.texts.Function.TheVariants.{ToNumber as TextToNumber, Byte as TextByte, Char as TextChar, Find as TextFind, Len as TextLen, Lower as TextLower, Match as TextMatch, Rep as TextRep, Reverse as TextReverse, Sub as TextSub, Upper as TextUpper, Utf8Char as TextUtf8Char, Utf8Codepoint as TextUtf8Codepoint, Utf8Codes as TextUtf8Codes, Utf8Len as TextUtf8Len, Utf8Offset as TextUtf8Offset, From as TextFrom, Kinds as TextKinds, Layout as TextLayout, ToInteger as TextToInteger, Walk as TextWalk, WalkLax as TextWalkLax}
+use Rattle.pure_functions.specs.declared.math.Function.TheVariants.{Abs as MathAbs, Fmod as MathFmod, Max as MathMax, Min as MathMin, ToInteger as MathToInteger, TypeOf as MathTypeOf, Ult as MathUlt}
+use Rattle.pure_functions.specs.declared.texts.Function.TheVariants.{ToNumber as TextToNumber, Byte as TextByte, Char as TextChar, Find as TextFind, Len as TextLen, Lower as TextLower, Match as TextMatch, Rep as TextRep, Reverse as TextReverse, Sub as TextSub, Upper as TextUpper, Utf8Char as TextUtf8Char, Utf8Codepoint as TextUtf8Codepoint, Utf8Codes as TextUtf8Codes, Utf8Len as TextUtf8Len, Utf8Offset as TextUtf8Offset, From as TextFrom, Kinds as TextKinds, Layout as TextLayout, ToInteger as TextToInteger, Walk as TextWalk, WalkLax as TextWalkLax}
 use Rattle.machine_primitives.specs.declared.primitives.Called.{Called}
 use Rattle.machine_primitives.specs.declared.primitives.Called.TheVariants.{Library, Error, Pcall, Xpcall, Close, Create, IsYieldable, Resume, Running, Status, Yield, Build, Print}
 use Rattle.machine_primitives.specs.Primitives.{row_by}

@@ -14,14 +14,14 @@ ghost use Rattle.machine_primitives.specs.Primitives.{row_by};
 
 use int_core::Allocated;
 use lib_base::Function;
-use lib_base::math::Function as MathFunction;
-use lib_base::texts::Function as TextFunction;
 use lib_coroutine::{close, create, is_yieldable, resume, running, status, yield_running};
 use lib_load::load;
 use lua_heap::World;
 use machine_errors::{error, pcall, xpcall};
 use machine_library::{call_function, print};
 use machine_moves::Ending;
+use pure_functions::math::Function as MathFunction;
+use pure_functions::texts::Function as TextFunction;
 
 /// A function of the libraries that is no Lua text.
 #[derive(Debug, Clone, Copy, PartialEq, Eq)]

@@ -3,9 +3,9 @@ use Rattle.std.specs.Prelude.{codes}
 use Rattle.int_core.specs.Value.{nth, known, nil, string, holds, shape}
 use Rattle.library_rows.specs.Look.{raised}
 use Rattle.lua_heap.specs.Reading.{value}
-use Rattle.lib_base.specs.Raw.{heap_of}
+use Rattle.pure_functions.specs.Answers.{heap_of}
 use Rattle.lib_base.proofs.BaseRows.{assert_fails}
-use Rattle.lib_base.proofs.Interning.{same_heap}
+use Rattle.pure_functions.proofs.Interning.{same_heap}
 use Rattle.lib_base.proofs.base.assert.Goals as goal
 
 pub returns-in_ok-message-in-Nil-clause-answers : goal.returns-in_ok-message-in-Nil-clause-answers

@@ -5,9 +5,9 @@ use Rattle.library_rows.specs.Look.{done, refused}
 use Rattle.machine_sound.specs.Sound.{sizes, Valid}
 use Rattle.lua_heap.specs.Plain.{plain}
 use Rattle.lua_heap.specs.Reading.{value}
-use Rattle.lib_base.specs.Raw.{heap_of}
+use Rattle.pure_functions.specs.Answers.{heap_of}
 use Rattle.lib_base.proofs.BaseRows.{no_length, table_length}
-use Rattle.lib_base.proofs.Seen.{nth_valid}
+use Rattle.pure_functions.proofs.Seen.{nth_valid}
 use Rattle.lib_base.proofs.base.length.Goals as goal
 
 pub bytes-requires : goal.bytes-requires

@@ -2,7 +2,7 @@ use Rattle.std.proofs.Common.{rules, ◌≡◌, map}
 use Rattle.int_core.specs.Operations.{type_name}
 use Rattle.int_core.specs.Value.{nth, shape}
 use Rattle.lua_heap.specs.Reading.{value}
-use Rattle.lib_base.proofs.QuickRows.{type_row}
+use Rattle.lib_base.proofs.Glanced.{type_row}
 use Rattle.lib_base.proofs.base.name_of_type.Goals as goal
 
 pub returns : goal.returns

@@ -3,8 +3,9 @@ use Rattle.std.specs.Prelude.{◌-◌, codes}
 use Rattle.int_core.specs.Value.{nth, shape}
 use Rattle.library_rows.specs.Arguments.{integer_argument}
 use Rattle.library_rows.specs.Base.{is_count}
+use Rattle.library_rows.specs.Look.{refused}
 use Rattle.lua_heap.specs.Reading.{value}
-use Rattle.lib_base.specs.Raw.{heap_of}
+use Rattle.pure_functions.specs.Answers.{heap_of}
 use Rattle.lib_base.specs.Select.{selected_place}
 use Rattle.lib_base.proofs.BaseRows.{behind_first, select_none, select_some}
 use Rattle.lib_base.proofs.base.select.Goals as goal
@@ -17,7 +18,7 @@ returns-in-None c =
     let f : integer_argument (codes "select") 1 (shape (nth vs 0)) ≡ Ok c.in_ok-n.n = search rules in
     let m : length (drop 1 vs) ≡ length c.args.arguments.now - 1 = behind_first (value texts) c.args.arguments.now in
     let g : selected_place c.in_ok-n.n (length c.args.arguments.now - 1) ≡ None = search rules in
-    select_none vs (heap_of c.args.world.now) c.in_ok-n.n e f (ap (selected_place c.in_ok-n.n) m ∙ g)
+    select_none vs (heap_of c.args.world.now) c.in_ok-n.n e f (ap (selected_place c.in_ok-n.n) m ∙ g) ∙ ap refused (sym c.bad_argument.ensures)
 
 pub returns-in_ok-answer-in-Some : goal.returns-in_ok-answer-in-Some
 returns-in_ok-answer-in-Some c =

@@ -3,8 +3,8 @@ use Rattle.int_core.specs.Operations.{type_name}
 use Rattle.int_core.specs.Value.{nth, known, string, shape}
 use Rattle.library_rows.specs.Look.{done}
 use Rattle.lua_heap.specs.Reading.{value}
-use Rattle.lib_base.specs.Raw.{heap_of}
-use Rattle.lib_base.proofs.Interning.{same_heap}
+use Rattle.pure_functions.specs.Answers.{heap_of}
+use Rattle.pure_functions.proofs.Interning.{same_heap}
 use Rattle.lib_base.proofs.base.type_of.Goals as goal
 
 pub returns-clause-answers : goal.returns-clause-answers

@@ -1,5 +1,5 @@
 use Rattle.std.proofs.lemmas.Result.{on_err_weaker}
-use Rattle.lib_base.proofs.Interning.{changes_strings, same_strings}
+use Rattle.pure_functions.proofs.Interning.{changes_strings, same_strings}
 use Rattle.lib_base.proofs.calls.call.Goals as goal
 
 pub returns-in-Assert-clause-changes : goal.returns-in-Assert-clause-changes
@@ -12,7 +12,7 @@ pub returns-in-TypeOf-clause-changes : goal.returns-in-TypeOf-clause-changes
 returns-in-TypeOf-clause-changes c = changes_strings c.args.world.now c.type_of.new.world c.args.arguments.now c.type_of.ensures.kept
 
 pub returns-in-Math-clause-changes : goal.returns-in-Math-clause-changes
-returns-in-Math-clause-changes c = changes_strings c.args.world.now c.plain_function.new.world c.args.arguments.now c.plain_function.ensures.kept
+returns-in-Math-clause-changes c = changes_strings c.args.world.now c.call.new.world c.args.arguments.now c.call.ensures.kept
 
 pub returns-in-OverTexts-clause-changes : goal.returns-in-OverTexts-clause-changes
 returns-in-OverTexts-clause-changes c = changes_strings c.args.world.now c.over_texts.new.world c.args.arguments.now c.over_texts.ensures.kept

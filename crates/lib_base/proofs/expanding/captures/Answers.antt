@@ -5,9 +5,10 @@ use Rattle.library_arguments.specs.Shapes.{shape_of, shapes_of}
 use Rattle.library_rows.specs.Look.{no_word, read_field}
 use Rattle.table_core.specs.declared.value.Value.TheVariants.{Int, Table}
 use Rattle.lib_base.specs.Lists.{items_from}
-use Rattle.lib_base.specs.Raw.{heap_of, Operates}
+use Rattle.lib_base.specs.Raw.{Operates}
+use Rattle.pure_functions.specs.Answers.{heap_of}
 use Rattle.lib_base.proofs.ListRows.{next_shape}
-use Rattle.lib_base.proofs.Meaning.{map_more}
+use Rattle.pure_functions.proofs.Meaning.{map_more}
 use Rattle.lib_base.proofs.Seen.{read_there}
 use Rattle.lib_base.proofs.expanding.captures.Goals as goal
 

@@ -2,7 +2,7 @@ use Rattle.std.proofs.Common.{ap, sym, ◌∙◌, map}
 use Rattle.int_core.specs.Value.{known}
 use Rattle.library_arguments.specs.Answers.{results_of}
 use Rattle.library_rows.specs.Look.{done}
-use Rattle.lib_base.proofs.Interning.{nothing, same_heap}
+use Rattle.pure_functions.proofs.Interning.{nothing, same_heap}
 use Rattle.lib_base.proofs.expanding.expand.Goals as goal
 
 pub returns-clause-answers : goal.returns-clause-answers

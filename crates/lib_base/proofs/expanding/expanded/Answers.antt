@@ -9,9 +9,9 @@ use Rattle.library_rows.specs.Searches.{expansion}
 use Rattle.lua_heap.specs.Reading.{value}
 use Rattle.lib_base.specs.Expanding.{IsExpanded}
 use Rattle.lib_base.specs.Lists.{items_from}
-use Rattle.lib_base.specs.Raw.{heap_of}
+use Rattle.pure_functions.specs.Answers.{heap_of}
 use Rattle.lib_base.proofs.ExpandRows.{expand_no_table, expanded_is}
-use Rattle.lib_base.proofs.Seen.{no_table}
+use Rattle.pure_functions.proofs.Seen.{no_table}
 use Rattle.lib_base.proofs.expanding.expanded.Goals as goal
 
 pub returns-in_default : goal.returns-in_default

@@ -6,9 +6,9 @@ use Rattle.library_rows.specs.Arguments.{text_argument}
 use Rattle.library_rows.specs.Look.{done}
 use Rattle.lua_heap.specs.Reading.{value}
 use Rattle.lib_base.specs.Expanding.{is_escape}
-use Rattle.lib_base.specs.Raw.{heap_of}
+use Rattle.pure_functions.specs.Answers.{heap_of}
 use Rattle.lib_base.proofs.ExpandRows.{unescaped_is}
-use Rattle.lib_base.proofs.Seen.{argument_bytes, argument_there}
+use Rattle.pure_functions.proofs.Seen.{argument_bytes, argument_there}
 use Rattle.lib_base.proofs.expanding.own_text.Goals as goal
 
 pub bytes-requires : goal.bytes-requires

@@ -4,10 +4,9 @@ use Rattle.int_core.specs.Value.{known, nth, shape, string}
 use Rattle.library_rows.specs.Base.{joins}
 use Rattle.library_rows.specs.Look.{done}
 use Rattle.lua_heap.specs.Reading.{value}
-use Rattle.lib_base.specs.Answers.{Answers}
+use Rattle.pure_functions.specs.Answers.{Answers, heap_of}
 use Rattle.lib_base.specs.Lists.{IsCounted}
-use Rattle.lib_base.specs.Raw.{heap_of}
-use Rattle.lib_base.proofs.Interning.{same_heap}
+use Rattle.pure_functions.proofs.Interning.{same_heap}
 use Rattle.lib_base.proofs.JoinRows.{join_faults, join_is}
 use Rattle.lib_base.proofs.joining.join.Goals as goal
 

@@ -7,7 +7,7 @@ use Rattle.library_arguments.specs.declared.refusal.Fault.TheVariants.{Refused}
 use Rattle.library_rows.specs.Arguments.{text_argument}
 use Rattle.library_rows.specs.Base.{joined_text}
 use Rattle.lib_base.specs.Lists.{IsText, items_from}
-use Rattle.lib_base.specs.Raw.{heap_of}
+use Rattle.pure_functions.specs.Answers.{heap_of}
 use Rattle.lib_base.proofs.JoinRows.{IsJoined, no_room, not_pushed, not_read, piece_added}
 use Rattle.lib_base.proofs.ListRows.{item_shape}
 use Rattle.lib_base.proofs.Seen.{read_there}

@@ -1,5 +1,5 @@
 use Rattle.int_core.specs.Value.{a_table, object}
-use Rattle.lib_base.specs.Raw.{heap_of}
+use Rattle.pure_functions.specs.Answers.{heap_of}
 use Rattle.lib_base.proofs.JoinRows.{IsJoined}
 use Rattle.lib_base.proofs.joining.joined.Given as goal
 

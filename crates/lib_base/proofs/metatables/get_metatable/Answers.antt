@@ -2,7 +2,7 @@ use Rattle.std.proofs.Common.{rules, ◌∙◌, map}
 use Rattle.library_rows.specs.Base.{gets_metatable}
 use Rattle.lua_heap.specs.Reading.{value}
 use Rattle.lib_base.proofs.MetatableRows.{gets_metatable_is}
-use Rattle.lib_base.proofs.Interning.{as_before}
+use Rattle.pure_functions.proofs.Interning.{as_before}
 use Rattle.lib_base.proofs.metatables.get_metatable.Goals as goal
 
 pub returns-clause-answers : goal.returns-clause-answers

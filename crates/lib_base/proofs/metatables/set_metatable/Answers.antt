@@ -4,7 +4,7 @@ use Rattle.library_rows.specs.Base.{sets_metatable}
 use Rattle.lua_heap.specs.Reading.{value}
 use Rattle.lib_base.specs.Raw.{table_or_nil}
 use Rattle.lib_base.proofs.MetatableRows.{metatable_value, sets_metatable_is, sets_protected}
-use Rattle.lib_base.proofs.Interning.{as_before, changes_both, changes_strings}
+use Rattle.pure_functions.proofs.Interning.{as_before, changes_both, changes_strings}
 use Rattle.lib_base.proofs.metatables.set_metatable.Goals as goal
 
 pub returns-in_err-name-clause-changes : goal.returns-in_err-name-clause-changes

@@ -1,7 +1,7 @@
 use Rattle.std.proofs.Common.{rules, ◌≡◌, ◌∙◌, map}
 use Rattle.library_rows.specs.Base.{packs}
 use Rattle.lua_heap.specs.Reading.{value}
-use Rattle.lib_base.proofs.Interning.{as_before, changes_both, changes_strings, same_world}
+use Rattle.pure_functions.proofs.Interning.{as_before, changes_both, changes_strings, same_world}
 use Rattle.lib_base.proofs.PackRows.{packed_told}
 use Rattle.lib_base.proofs.packing.pack.Goals as goal
 

@@ -6,10 +6,9 @@ use Rattle.library_rows.specs.Look.{done, looked}
 use Rattle.lib_string.specs.Searches.{gives_values}
 use Rattle.table_core.specs.declared.value.Value.TheVariants.{Int, Table}
 use Rattle.lua_heap.specs.Reading.{row, value}
-use Rattle.lib_base.specs.Answers.{MeanAll, OnlyStrings}
-use Rattle.lib_base.specs.Matches.{numbered_rows}
-use Rattle.lib_base.specs.Raw.{heap_of}
-use Rattle.lib_base.proofs.Interning.{changes_both, changes_strings, same_heap, same_world, then_strings, whatever}
+use Rattle.pure_functions.specs.Answers.{MeanAll, OnlyStrings, heap_of}
+use Rattle.lib_base.specs.Numbering.{numbered_rows}
+use Rattle.pure_functions.proofs.Interning.{changes_both, changes_strings, same_heap, same_world, then_strings, whatever}
 use Rattle.lib_base.proofs.SeekRows.{match_told}
 use Rattle.lib_base.proofs.seeking.found_match.Goals as goal
 
@@ -30,13 +29,13 @@ returns-clause-answers c env =
     let k : OnlyStrings W mid c.args.arguments.now = then_strings W c.values_of.new.world mid c.args.arguments.now c.values_of.ensures.kept c.string.ensures.kept in
     let mean : MeanAll c.values_of.new.world.strings values ps = search rules in
     let m : map (value mid.strings) values ≡ map known ps = ap (λ texts. map (value texts) values) c.string.ensures.kept.grown ∙ mean.means c.string.ensures.kept.more in
-    let r : map (row mid.strings) c.in_ok-table.table.rows ≡ numbered_rows (map (value mid.strings) values) = search rules in
+    let r : map (row mid.strings) c.in_ok-table.table.rows ≡ numbered_rows 0 (map (value mid.strings) values) = search rules in
     let n = length-map found.values.items known_of in
     let some = c.requires.some in
     let l : 0 < length ps = omega (arith, n, some) in
     let items : c.push_reserved-3.new.self.items ≡ Int found.start ∷ Int found.next ∷ Table c.in_ok-id.id ∷ [] = search rules in
     ap (λ H. looked (gives_values found.start found.next ps) env H) (same_heap W mid c.args.arguments.now k)
-    ∙ match_told mid new c.in_ok-table.table c.in_ok-id.id found.start found.next ps l c.in_ok-id.ensures.added c.in_ok-id.ensures.id (r ∙ ap numbered_rows m) c.in_ok-table.ensures.metatable env
+    ∙ match_told mid new c.in_ok-table.table c.in_ok-id.id found.start found.next ps l c.in_ok-id.ensures.added c.in_ok-id.ensures.id (r ∙ ap (numbered_rows 0) m) c.in_ok-table.ensures.metatable env
     ∙ ap (λ vs. done (heap_of new) (map (value new.strings) vs)) (sym items)
 
 pub returns-in_err-values-clause-changes : goal.returns-in_err-values-clause-changes

@@ -6,8 +6,7 @@ use Rattle.library_rows.specs.Look.{done, looked}
 use Rattle.library_rows.specs.Searches.{seeks}
 use Rattle.lib_string.specs.Searches.{gives_values, IsSought}
 use Rattle.lua_heap.specs.Reading.{value}
-use Rattle.lib_base.specs.Answers.{Answers}
-use Rattle.lib_base.specs.Raw.{heap_of}
+use Rattle.pure_functions.specs.Answers.{Answers, heap_of}
 use Rattle.lib_base.proofs.SeekRows.{empty, no_hit, seek_faults, seek_sees}
 use Rattle.lib_base.proofs.seeking.seek.Goals as goal
 

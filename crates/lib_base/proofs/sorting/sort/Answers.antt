@@ -5,8 +5,7 @@ use Rattle.library_arguments.specs.declared.refusal.Fault.TheVariants.{Refused}
 use Rattle.library_rows.specs.Base.{sorts}
 use Rattle.library_rows.specs.Look.{done}
 use Rattle.lua_heap.specs.Reading.{value}
-use Rattle.lib_base.specs.Answers.{Answers}
-use Rattle.lib_base.specs.Raw.{heap_of}
+use Rattle.pure_functions.specs.Answers.{Answers, heap_of}
 use Rattle.lib_base.specs.Sorting.{NamesNoComparator, fields_put}
 use Rattle.lib_base.proofs.SortRows.{sort_answers, sort_faults, sort_takes_none}
 use Rattle.lib_base.proofs.sorting.sort.Goals as goal

@@ -3,8 +3,8 @@ use Rattle.int_core.specs.Value.{greatest_string, known, string}
 use Rattle.library_rows.specs.Base.{texts}
 use Rattle.library_rows.specs.Look.{done}
 use Rattle.lua_heap.specs.Reading.{value}
-use Rattle.lib_base.specs.Raw.{heap_of}
-use Rattle.lib_base.proofs.Interning.{as_before, same_heap, then_strings}
+use Rattle.pure_functions.specs.Answers.{heap_of}
+use Rattle.pure_functions.proofs.Interning.{as_before, same_heap, then_strings}
 use Rattle.lib_base.proofs.TextRows.{shown_is, shown_too_long}
 use Rattle.lib_base.proofs.text.made_text.Goals as goal
 

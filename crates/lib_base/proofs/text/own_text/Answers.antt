@@ -1,11 +1,11 @@
-use Rattle.std.proofs.Common.{◌≡◌, [], ◌∷◌, ap, sym, ◌∙◌, map, subst}
+use Rattle.std.proofs.Common.{◌≡◌, [], ◌∷◌, ap, ◌∙◌, map, subst}
 use Rattle.int_core.specs.Value.{known, nth, string}
 use Rattle.library_rows.specs.Look.{done}
 use Rattle.lua_heap.specs.Plain.{plain}
 use Rattle.lua_heap.specs.Reading.{text_or, value}
 use Rattle.machine_sound.specs.Sound.{Valid, sizes}
-use Rattle.lib_base.specs.Raw.{heap_of}
-use Rattle.lib_base.proofs.Seen.{nth_valid}
+use Rattle.pure_functions.specs.Answers.{heap_of}
+use Rattle.pure_functions.proofs.Seen.{nth_valid}
 use Rattle.lib_base.proofs.TextRows.{own_text_is}
 use Rattle.lib_base.proofs.text.own_text.Goals as goal
 

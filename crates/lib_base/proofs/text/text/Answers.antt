@@ -1,6 +1,6 @@
 use Rattle.std.proofs.Common.{rules, ◌≡◌, ap, ◌∙◌, of_z, to_z, w64}
 use Rattle.lua_heap.specs.Reading.{value}
-use Rattle.lib_base.proofs.Interning.{nothing}
+use Rattle.pure_functions.proofs.Interning.{nothing}
 use Rattle.lib_base.proofs.text.text.Goals as goal
 
 pub own_text-requires-clause-first : goal.own_text-requires-clause-first

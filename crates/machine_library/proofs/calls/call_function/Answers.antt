@@ -2,7 +2,7 @@ use Rattle.std.proofs.Common.{Err, refl, subst, sym, ◌∙◌}
 use Rattle.library_arguments.specs.declared.refusal.Fault.{Fault}
 use Rattle.library_arguments.specs.declared.refusal.Fault.TheVariants.{Refused}
 use Rattle.library_arguments.specs.Refusals.{refusal_text}
-use Rattle.lib_base.specs.Answers.{Answers}
+use Rattle.pure_functions.specs.Answers.{Answers}
 use Rattle.lib_base.specs.Functions.{function_row}
 use Rattle.move_laws.specs.Memory.{ReadsSame}
 use Rattle.machine_moves.specs.Ending.{ending_of}

@@ -1,7 +1,7 @@
 use Rattle.std.proofs.Common.{[], ap, subst, sym, ◌∙◌}
 use Rattle.std.specs.Prelude.{map}
 use Rattle.lua_heap.specs.Reading.{value}
-use Rattle.lib_base.specs.declared.answer.Answer.TheVariants.{One, Two, Gives, Raises}
+use Rattle.pure_functions.specs.declared.answer.Answer.TheVariants.{One, Two, Gives, Raises}
 use Rattle.machine_core.specs.Moves.{raised as ends_raised}
 use Rattle.machine_moves.specs.Ending.{ending_of}
 use Rattle.machine_library.specs.Answers.{Tells}

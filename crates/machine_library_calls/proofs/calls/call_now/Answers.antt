@@ -3,9 +3,8 @@ use Rattle.std.specs.Prelude.{map}
 use Rattle.std.proofs.lemmas.Result.{IfOk-weaker}
 use Rattle.library_rows.specs.Look.{looked}
 use Rattle.lua_heap.specs.Reading.{value}
-use Rattle.lib_base.specs.Answers.{Changes, OnlyStrings, Stands, told}
+use Rattle.pure_functions.specs.Answers.{Changes, OnlyStrings, Stands, told, heap_of}
 use Rattle.lib_base.specs.Functions.{function_row}
-use Rattle.lib_base.specs.Raw.{heap_of}
 use Rattle.loaded_code.specs.Laws.{library}
 use Rattle.machine_core.specs.Moves.{calls_primitive}
 use Rattle.machine_moves.specs.Ending.{ending_of}

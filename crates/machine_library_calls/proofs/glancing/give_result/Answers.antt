@@ -3,9 +3,8 @@ use Rattle.library_rows.specs.Library.{all_entries}
 use Rattle.library_rows.specs.Look.{looked}
 use Rattle.lua_heap.specs.declared.world.World.{World as Memory}
 use Rattle.lua_heap.specs.Reading.{value}
-use Rattle.lib_base.specs.Answers.{told}
-use Rattle.lib_base.specs.Raw.{heap_of}
-use Rattle.lib_base.proofs.Interning.{changes_nothing}
+use Rattle.pure_functions.specs.Answers.{told, heap_of}
+use Rattle.pure_functions.proofs.Interning.{changes_nothing}
 use Rattle.machine_core.specs.Moves.{go}
 use Rattle.machine_step.proofs.ByForm.{keeps}
 use Rattle.step_laws.proofs.Ready.{ready_is_sound}

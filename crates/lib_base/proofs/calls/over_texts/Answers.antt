@@ -1,5 +1,0 @@
-use Rattle.lib_base.proofs.Interning.{nothing}
-use Rattle.lib_base.proofs.calls.over_texts.Goals as goal
-
-pub returns-in-Some-clause-kept : goal.returns-in-Some-clause-kept
-returns-in-Some-clause-kept c = nothing c.args.world.now c.args.arguments.now c.requires

@@ -1,4 +1,0 @@
-use Rattle.lib_base.proofs.glances.raw_size.Goals as goal
-
-pub returns-in-Ok : goal.returns-in-Ok
-returns-in-Ok c = c.in-Ok.ensures

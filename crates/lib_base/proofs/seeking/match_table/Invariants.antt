@@ -1,9 +1,0 @@
-use Rattle.std.proofs.Common.{◌≡◌, [], None, drop, map}
-use Rattle.lua_heap.specs.Reading.{row, value}
-use Rattle.lib_base.specs.Matches.{numbered_from}
-use Rattle.lib_base.proofs.seeking.match_table.Given as goal
-
-abbrev pub invariant-loop-at : goal.invariant-loop-at
-invariant-loop-at l =
-    let vs = map (value l.world.strings) l.values in
-    (numbered_from l.at (drop l.at vs) (map (row l.world.strings) l.table.rows) ≡ numbered_from 0 vs []) × (l.table.metatable ≡ None)

@@ -1,0 +1,5 @@
+mod Bests
+pub mod Interning
+pub mod Meaning
+pub mod QuickRows
+pub mod Seen

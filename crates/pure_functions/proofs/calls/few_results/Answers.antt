@@ -1,0 +1,16 @@
+use Rattle.std.proofs.Common.{rules, ◌≡◌, [], ◌∷◌, ap, ◌∙◌, length, subst, take}
+use Rattle.library_arguments.specs.Answers.{IsAnswer}
+use Rattle.library_arguments.specs.Shapes.{shapes_of}
+use Rattle.pure_functions.specs.Functions.{plain_row}
+use Rattle.pure_functions.proofs.Meaning.{few_seen}
+use Rattle.pure_functions.proofs.calls.few_results.Goals as goal
+
+pub returns : goal.returns
+returns c =
+    let a = c.argument_shape.result in
+    let b = c.argument_shape-2.result in
+    let d = c.argument_shape-3.result in
+    let e = c.argument_shape-4.result in
+    let seen : c.front.result.now ≡ take (length c.args.arguments.now) (a ∷ b ∷ d ∷ e ∷ []) = search rules in
+    let all = ap shapes_of seen ∙ few_seen c.args.world.now.strings c.args.arguments.now a b d e c.requires.few c.argument_shape.ensures c.argument_shape-2.ensures c.argument_shape-3.ensures c.argument_shape-4.ensures in
+    subst (λ ss. IsAnswer c.results_of.result (plain_row c.args.function ss)) all c.results_of.ensures

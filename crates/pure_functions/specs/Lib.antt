@@ -1,0 +1,5 @@
+pub mod Answers
+pub mod Functions
+pub mod Math
+pub mod QuickAnswers
+pub mod Shapes
