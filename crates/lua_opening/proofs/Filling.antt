@@ -14,7 +14,7 @@ use Rattle.lua_heap.specs.Reading.{value, row}
 use Rattle.lua_heap.specs.Plain.{table}
 use Rattle.lua_heap.specs.Law.{TablesAreRead}
 use Rattle.list_laws.proofs.Items.{append_nil}
-use Rattle.lua_opening.specs.Opened.{set_all, kept_all, Filled, IsTable, AreTables}
+use Rattle.lua_opening.specs.Opened.{set_all, kept_all, Filled, IsTable, AreTables, AddsTable}
 
 -- a list that begins with another is that one with more
 behind : {A : Type 0} (xs ys more : List A) (b : Begins A xs ys) → ys ++ more ≡ xs ++ (b.more ++ more)
@@ -94,14 +94,15 @@ pub table_still : (old new : List (List ℕ)) (t : Contents) (m : Meant) → Beg
 table_still old new t m b i = record { written = i.written; filled = filled_still old new t i.written b i.filled; is = i.is }
 
 -- one table more
-pub pushed : (old new : List (List ℕ)) (ts us : List Contents) (t : Contents) (ms : List Meant) (m : Meant) → Begins (List ℕ) old new → AreTables old ts ms → IsTable new t m → us ≡ ts ++ t ∷ [] → AreTables new us (ms ++ m ∷ [])
-pushed old new ts us t ms m b h i e = subst (λ us. AreTables new us (ms ++ m ∷ [])) (sym e) (more ts ms h)
+pub one_more : {old new : List (List ℕ)} {ts us : List Contents} {written : List (Value × Value)} {m : Meant} (ms : List Meant) → AreTables old ts ms → AddsTable old new ts us written → m ≡ record { rows = set_all [] written; metatable = None }
+    → AreTables new us (ms ++ m ∷ [])
+one_more {old} {new} {ts} {us} {written} {m} ms h a e = subst (λ us. AreTables new us (ms ++ m ∷ [])) (sym a.objects) (more ts ms h)
   where
-    more : (ts : List Contents) (ms : List Meant) → AreTables old ts ms → AreTables new (ts ++ t ∷ []) (ms ++ m ∷ [])
-    more [] [] h = (i, tt)
+    more : (ts : List Contents) (ms : List Meant) → AreTables old ts ms → AreTables new (ts ++ a.made ∷ []) (ms ++ m ∷ [])
+    more [] [] h = (record { written = written; filled = a.filled; is = e }, tt)
     more [] (n ∷ ms) h = absurd h
     more (u ∷ ts) [] h = absurd h
-    more (u ∷ ts) (n ∷ ms) h = (table_still old new u n b h.0, more ts ms h.1)
+    more (u ∷ ts) (n ∷ ms) h = (table_still old new u n a.strings h.0, more ts ms h.1)
 
 pub tables_are : TablesAreRead → (texts : List (List ℕ)) → AreApart texts → AreShort texts → (ts : List Contents) (ms : List Meant) → AreTables texts ts ms → map (table texts) ts ≡ ms
 tables_are law texts a s [] [] h = refl

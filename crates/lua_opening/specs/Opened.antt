@@ -9,6 +9,7 @@ use Rattle.lua_meaning.specs.Libraries.{library_table, environment, strings_meta
 use Rattle.table_core.specs.declared.value.Value.{Value as Kept}
 use Rattle.table_core.specs.Value.{lua_values}
 use Rattle.table_core.specs.Table.{Contents}
+use Rattle.lua_heap.specs.Adding.{Begins}
 use Rattle.lua_heap.specs.Reading.{row}
 use Rattle.lua_opening.specs.declared.rows.Item.{Item}
 use Rattle.lua_opening.specs.declared.rows.Item.TheVariants.{Primitive, Function, Table, Integer, Text}
@@ -60,6 +61,13 @@ pub record Filled (texts : List (List ℕ)) (t : Contents) (written : List (Valu
   pub read : (more : List (List ℕ)) → map (row (texts ++ more)) pairs ≡ written
   pub rows : t.rows ≡ kept_all [] pairs
   pub metatable : t.metatable ≡ None
+
+-- a table with these rows stands behind the others
+pub record AddsTable (old_texts new_texts : List (List ℕ)) (old new : List Contents) (written : List (Value × Value)) : Type 0 where
+  pub strings : Begins (List ℕ) old_texts new_texts
+  pub made : Contents
+  pub filled : Filled new_texts made written
+  pub objects : new ≡ old ++ made ∷ []
 
 -- so it stands for a table of the definitions
 pub record IsTable (texts : List (List ℕ)) (t : Contents) (means : Meant) : Type 0 where

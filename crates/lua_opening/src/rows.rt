@@ -1,5 +1,5 @@
 // Rows that are written into a new table.
-ghost use Rattle.std.specs.Prelude.{◌≡◌, ℕ, ◌≤◌, ◌++◌, List, true, map, length, IfOk};
+ghost use Rattle.std.specs.Prelude.{◌≡◌, ℕ, ◌≤◌, ◌++◌, List, [], None, true, map, length, IfOk, OnOk};
 ghost use Rattle.std.specs.List.{list_all};
 ghost use Rattle.int_core.specs.Value.{greatest_string, known, string};
 ghost use Rattle.lua_heap.specs.Adding.{Begins};
@@ -11,7 +11,7 @@ use std::alloc::{AllocError, Global};
 use table_core::{FuncId, Key, Table, TableId, Value};
 
 /// What stands at a name of a library's table.
-#[derive(Debug, Clone, Copy)]
+#[derive(Clone, Copy)]
 pub enum Item {
     /// The primitive of a number.
     Primitive(u16),
@@ -23,23 +23,24 @@ pub enum Item {
     Text(&'static [u8]),
 }
 
-/// A table with these rows, whose strings are added where they are not there.
-pub(crate) fn filled(
+/// Writes rows into a table where nothing is yet. Their strings are added where they are not there.
+pub(crate) fn fill(
     strings: &mut Strings,
+    table: &mut Table,
     rows: &[(&'static str, Item)],
-    alloc: Global,
-) -> Result<Table, AllocError>
-    requires { list_all (λ r. fits r.0.now r.1) rows.now ≡ true }
-    ensures strings { Begins (List ℕ) strings.old strings.new }
-    ensures table { IfOk result (λ table. Filled strings.new table (map (λ r. meant r.0.now r.1) rows.now)) }
+) -> Result<(), AllocError>
+    requires fits { list_all (λ r. fits r.0.now r.1) rows.now ≡ true }
+    requires none { table.old.rows ≡ [] }
+    requires plain { table.old.metatable ≡ None }
+    ensures strings { OnOk result (Begins (List ℕ) strings.old strings.new) }
+    ensures table { OnOk result (Filled strings.new table.new (map (λ r. meant r.0.now r.1) rows.now)) }
 {
-    let mut table = Table::new(alloc);
     for (name, item) in rows {
         let key = key_of(strings, name)?;
         let value = value_of(strings, *item)?;
         table.set(key, value)?;
     }
-    Ok(table)
+    Ok(())
 }
 
 /// A name as a key.

@@ -1,16 +1,16 @@
 // The tables of the libraries, row by row in the order of the names (luaL_Reg of Lua's sources).
-ghost use Rattle.std.specs.Prelude.{◌≡◌, ◌↔◌, ℕ, List, map, length, IfOk, IsTrue};
+ghost use Rattle.std.specs.Prelude.{◌≡◌, ◌↔◌, ℕ, ◌+◌, ◌<◌, List, [], true, map, length, IfOk, OnOk, IsTrue};
+ghost use Rattle.std.specs.List.{list_all};
 ghost use Rattle.code_core.specs.Prototype.{Prototype};
-ghost use Rattle.library_rows.specs.Library.{of_coroutine, of_globals, of_math, of_string, of_table, of_utf8};
 ghost use Rattle.library_rows.specs.PreludeText.{prelude_functions};
 ghost use Rattle.lua_heap.specs.Adding.{Begins};
 ghost use Rattle.lua_heap.specs.Plain.{table};
-ghost use Rattle.lua_meaning.specs.Libraries.{environment, library_table, strings_meta};
+ghost use Rattle.lua_meaning.specs.Libraries.{environment};
 ghost use Rattle.lua_meaning.specs.Opening.{prelude_of};
-ghost use Rattle.lua_opening.specs.Opened.{IsTable, tables_of};
+ghost use Rattle.lua_opening.specs.Opened.{AddsTable, fits, meant, tables_of};
 
 use crate::comparing::has_rows;
-use crate::rows::{Item, filled};
+use crate::rows::{Item, fill};
 use lua_heap::{Strings, law};
 use object_pool::Pool;
 use std::alloc::{AllocError, Global};
@@ -20,7 +20,7 @@ use table_core::Table;
 const CHARACTER_PATTERN: &[u8] = b"[\x00-\x7f\xc2-\xfd][\x80-\xbf]*";
 
 /// The globals (Lua 5.4 manual, 6.1).
-const GLOBALS: [(&str, Item); 27] = [
+static GLOBALS: [(&str, Item); 27] = [
     ("_G", Item::Table(0)),
     ("_VERSION", Item::Text(b"Lua 5.4")),
     ("assert", Item::Primitive(0)),
@@ -51,7 +51,7 @@ const GLOBALS: [(&str, Item); 27] = [
 ];
 
 /// The library `coroutine` (6.2).
-const COROUTINES: [(&str, Item); 8] = [
+static COROUTINES: [(&str, Item); 8] = [
     ("close", Item::Primitive(15)),
     ("create", Item::Primitive(16)),
     ("isyieldable", Item::Primitive(17)),
@@ -63,7 +63,7 @@ const COROUTINES: [(&str, Item); 8] = [
 ];
 
 /// The library `string` (6.4).
-const STRINGS: [(&str, Item); 13] = [
+static STRINGS: [(&str, Item); 13] = [
     ("byte", Item::Primitive(22)),
     ("char", Item::Primitive(23)),
     ("find", Item::Primitive(24)),
@@ -80,7 +80,7 @@ const STRINGS: [(&str, Item); 13] = [
 ];
 
 /// The library `table` (6.6).
-const TABLES: [(&str, Item); 7] = [
+static TABLES: [(&str, Item); 7] = [
     ("concat", Item::Function(11)),
     ("insert", Item::Function(9)),
     ("move", Item::Function(13)),
@@ -91,7 +91,7 @@ const TABLES: [(&str, Item); 7] = [
 ];
 
 /// The library `math` of whole numbers (6.7).
-const INTEGERS: [(&str, Item); 9] = [
+static INTEGERS: [(&str, Item); 9] = [
     ("abs", Item::Primitive(34)),
     ("fmod", Item::Primitive(35)),
     ("max", Item::Primitive(36)),
@@ -104,7 +104,7 @@ const INTEGERS: [(&str, Item); 9] = [
 ];
 
 /// The library `utf8` (6.5).
-const CHARACTERS: [(&str, Item); 6] = [
+static CHARACTERS: [(&str, Item); 6] = [
     ("char", Item::Primitive(41)),
     ("charpattern", Item::Text(CHARACTER_PATTERN)),
     ("codepoint", Item::Primitive(42)),
@@ -114,7 +114,7 @@ const CHARACTERS: [(&str, Item); 6] = [
 ];
 
 /// The prelude's environment: all functions. Of several with one name the first counts.
-const ENVIRONMENT: [(&str, Item); 77] = [
+static ENVIRONMENT: [(&str, Item); 77] = [
     ("abs", Item::Primitive(34)),
     ("after", Item::Function(18)),
     ("assert", Item::Primitive(0)),
@@ -195,93 +195,56 @@ const ENVIRONMENT: [(&str, Item); 77] = [
 ];
 
 /// The metatable of strings: by `__index` a string has its library's functions as methods (6.4).
-const STRING_METATABLE: [(&str, Item); 1] = [("__index", Item::Table(3))];
-
-/// The table of globals.
-fn globals(strings: &mut Strings, alloc: Global) -> Result<Table, AllocError>
-    ensures strings { Begins (List ℕ) strings.old strings.new }
-    ensures table { IfOk result (λ table. (codes : List Prototype) → length codes ≡ length prelude_functions → IsTable strings.new table (library_table of_globals (prelude_of codes))) }
-{
-    filled(strings, &GLOBALS, alloc)
-}
-
-/// The prelude's environment.
-fn environment(strings: &mut Strings, alloc: Global) -> Result<Table, AllocError>
-    ensures strings { Begins (List ℕ) strings.old strings.new }
-    ensures table { IfOk result (λ table. (codes : List Prototype) → length codes ≡ length prelude_functions → IsTable strings.new table (environment (prelude_of codes))) }
-{
-    filled(strings, &ENVIRONMENT, alloc)
-}
-
-/// The table `coroutine`.
-fn coroutines(strings: &mut Strings, alloc: Global) -> Result<Table, AllocError>
-    ensures strings { Begins (List ℕ) strings.old strings.new }
-    ensures table { IfOk result (λ table. (codes : List Prototype) → length codes ≡ length prelude_functions → IsTable strings.new table (library_table of_coroutine (prelude_of codes))) }
-{
-    filled(strings, &COROUTINES, alloc)
-}
-
-/// The table `string`.
-fn string_library(strings: &mut Strings, alloc: Global) -> Result<Table, AllocError>
-    ensures strings { Begins (List ℕ) strings.old strings.new }
-    ensures table { IfOk result (λ table. (codes : List Prototype) → length codes ≡ length prelude_functions → IsTable strings.new table (library_table of_string (prelude_of codes))) }
-{
-    filled(strings, &STRINGS, alloc)
-}
-
-/// The table `table`.
-fn table_library(strings: &mut Strings, alloc: Global) -> Result<Table, AllocError>
-    ensures strings { Begins (List ℕ) strings.old strings.new }
-    ensures table { IfOk result (λ table. (codes : List Prototype) → length codes ≡ length prelude_functions → IsTable strings.new table (library_table of_table (prelude_of codes))) }
-{
-    filled(strings, &TABLES, alloc)
-}
-
-/// The table `math`.
-fn integers(strings: &mut Strings, alloc: Global) -> Result<Table, AllocError>
-    ensures strings { Begins (List ℕ) strings.old strings.new }
-    ensures table { IfOk result (λ table. (codes : List Prototype) → length codes ≡ length prelude_functions → IsTable strings.new table (library_table of_math (prelude_of codes))) }
-{
-    filled(strings, &INTEGERS, alloc)
-}
-
-/// The table `utf8`.
-fn characters(strings: &mut Strings, alloc: Global) -> Result<Table, AllocError>
-    ensures strings { Begins (List ℕ) strings.old strings.new }
-    ensures table { IfOk result (λ table. (codes : List Prototype) → length codes ≡ length prelude_functions → IsTable strings.new table (library_table of_utf8 (prelude_of codes))) }
-{
-    filled(strings, &CHARACTERS, alloc)
-}
-
-/// The metatable of strings.
-fn string_metatable(strings: &mut Strings, alloc: Global) -> Result<Table, AllocError>
-    ensures strings { Begins (List ℕ) strings.old strings.new }
-    ensures table { IfOk result (λ table. IsTable strings.new table strings_meta) }
-{
-    filled(strings, &STRING_METATABLE, alloc)
-}
+static STRING_METATABLE: [(&str, Item); 1] = [("__index", Item::Table(3))];
 
 /// The tables of the libraries, each at its number.
 pub(crate) fn library_tables(
     strings: &mut Strings,
     alloc: Global,
 ) -> Result<Pool<Table>, AllocError>
-    ensures strings { Begins (List ℕ) strings.old strings.new }
+    ensures strings { OnOk result (Begins (List ℕ) strings.old strings.new) }
     ensures tables { IfOk result (λ tables. (codes : List Prototype) → length codes ≡ length prelude_functions → map (table strings.new) tables.objects ≡ tables_of (prelude_of codes)) }
 {
     let mut tables = Pool::new(alloc);
+    add_tables(strings, &mut tables)?;
+    Ok(tables)
+}
+
+/// Adds them where there is no table yet.
+fn add_tables(strings: &mut Strings, tables: &mut Pool<Table>) -> Result<(), AllocError>
+    requires { tables.old.objects ≡ [] }
+    ensures strings { OnOk result (Begins (List ℕ) strings.old strings.new) }
+    ensures tables { OnOk result ((codes : List Prototype) → length codes ≡ length prelude_functions → map (table strings.new) tables.new.objects ≡ tables_of (prelude_of codes)) }
+{
     tables.reserve(8)?;
-    tables.place(globals(strings, alloc)?);
-    tables.place(environment(strings, alloc)?);
-    tables.place(coroutines(strings, alloc)?);
-    tables.place(string_library(strings, alloc)?);
-    tables.place(table_library(strings, alloc)?);
-    tables.place(integers(strings, alloc)?);
-    tables.place(characters(strings, alloc)?);
-    tables.place(string_metatable(strings, alloc)?);
+    add_table(strings, tables, &GLOBALS)?;
+    add_table(strings, tables, &ENVIRONMENT)?;
+    add_table(strings, tables, &COROUTINES)?;
+    add_table(strings, tables, &STRINGS)?;
+    add_table(strings, tables, &TABLES)?;
+    add_table(strings, tables, &INTEGERS)?;
+    add_table(strings, tables, &CHARACTERS)?;
+    add_table(strings, tables, &STRING_METATABLE)?;
     strings.len();
     law::tables_are_read();
-    Ok(tables)
+    Ok(())
+}
+
+/// Adds a table with these rows.
+fn add_table(
+    strings: &mut Strings,
+    tables: &mut Pool<Table>,
+    rows: &[(&'static str, Item)],
+) -> Result<(), AllocError>
+    requires fits { list_all (λ r. fits r.0.now r.1) rows.now ≡ true }
+    requires room { 0 < tables.old.spare }
+    ensures added { OnOk result (AddsTable strings.old strings.new tables.old.objects tables.new.objects (map (λ r. meant r.0.now r.1) rows.now)) }
+    ensures room { OnOk result (tables.new.spare + 1 ≡ tables.old.spare) }
+{
+    let mut table = Table::new(tables.allocator());
+    fill(strings, &mut table, rows)?;
+    tables.place(table);
+    Ok(())
 }
 
 /// Whether a table is the prelude's environment as it is made.

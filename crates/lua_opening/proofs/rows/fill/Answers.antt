@@ -5,7 +5,7 @@ use Rattle.lua_opening.specs.declared.rows.Item.{Item}
 use Rattle.lua_opening.specs.declared.rows.Item.TheVariants.{Primitive}
 use Rattle.lua_opening.specs.Opened.{Filled, meant}
 use Rattle.lua_opening.proofs.Filling.{begins_on, filled_more, read_still, take_more}
-use Rattle.lua_opening.proofs.rows.filled.Goals as goal
+use Rattle.lua_opening.proofs.rows.fill.Goals as goal
 
 abbrev named : Bor (List ℕ) × Item → Value × Value
 named r = meant r.0.now r.1

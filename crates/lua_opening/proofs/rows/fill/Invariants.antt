@@ -1,7 +1,7 @@
 use Rattle.std.proofs.Common.{ℕ, List, map, take}
 use Rattle.lua_heap.specs.Adding.{Begins}
 use Rattle.lua_opening.specs.Opened.{Filled, meant}
-use Rattle.lua_opening.proofs.rows.filled.Given as goal
+use Rattle.lua_opening.proofs.rows.fill.Given as goal
 
 abbrev pub invariant-loop-name : goal.invariant-loop-name
 invariant-loop-name l = record {
