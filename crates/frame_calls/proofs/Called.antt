@@ -22,15 +22,13 @@ use Rattle.table_core.specs.declared.value.Value.{Value as Kept}
 use Rattle.table_core.specs.declared.value.Value.TheVariants.{Func as a_func}
 use Rattle.lua_stack.specs.declared.frame.Shape.{Shape}
 use Rattle.lua_stack.specs.Frames.{IsShapeOf, KeptStack, OnTop, frames, given_up, with_wait}
-use Rattle.lua_heap.specs.declared.codes.Codes.{Codes}
 use Rattle.lua_heap.specs.declared.world.Cell.{Cell}
-use Rattle.lua_heap.specs.declared.world.Func.{Func}
 use Rattle.lua_heap.specs.Plain.{cell, heap}
 use Rattle.lua_heap.specs.Reading.{value}
 use Rattle.machine_arms_tables.specs.Frame.{Code}
 use Rattle.machine_loop.specs.Running.{Running}
 use Rattle.machine_loop.proofs.Closing.{stays}
-use Rattle.frame_calls.specs.Calling.{AreFunctions, CallsIn, HasShapeIn, HoldsCallee, IteratesIn, TailCallsIn}
+use Rattle.frame_calls.specs.Calling.{AreFunctions, CallsIn, HasShapeIn, HoldsCallee, IteratesIn, Program, TailCallsIn}
 use Rattle.frame_calls.specs.Standing.{RunsAt, standing}
 use Rattle.frame_calls.proofs.Closed.{closes_nothing, frame_count}
 use Rattle.frame_calls.proofs.FrameRows.{call_steps, giving, iterate_steps, iterating, tail_call_steps}
@@ -79,7 +77,7 @@ module _ (g : Running) (k : Code) (s : KeptStack) (ts : List Contents) (cs : Lis
   pub depth_is : length s.frames ≡ length g.around.context.below + 1
   depth_is = frame_count (value g.around.texts) s g.around.context.below r.may.top r.may.is
 
-  module _ (u : KeptStack) (size : ℕ) (funcs : List Func) (codes : Codes) (w : Instruction) (left : ℕ) (x : CallsIn s u size funcs codes w fuel left) (q : Function)
+  module _ (u : KeptStack) (size : ℕ) (program : Program) (w : Instruction) (left : ℕ) (x : CallsIn s u size program w fuel left) (q : Function)
       (fn : slice_get g.around.context.base.functions x.enters.id.0 ≡ Some q) (shape_is : IsShapeOf q.code x.enters.shape) (size_is : size ≡ g.around.context.closure.code.own.stack) where
     abbrev ctx : Context
     ctx = g.around.context
@@ -114,7 +112,7 @@ module _ (g : Running) (k : Code) (s : KeptStack) (ts : List Contents) (cs : Lis
         )
 
   -- the iterator of a loop
-  module _ (u : KeptStack) (size : ℕ) (funcs : List Func) (codes : Codes) (w : Instruction) (left : ℕ) (x : IteratesIn s u size funcs codes w fuel left) (q : Function)
+  module _ (u : KeptStack) (size : ℕ) (program : Program) (w : Instruction) (left : ℕ) (x : IteratesIn s u size program w fuel left) (q : Function)
       (fn : slice_get g.around.context.base.functions x.enters.id.0 ≡ Some q) (shape_is : IsShapeOf q.code x.enters.shape) (size_is : size ≡ g.around.context.closure.code.own.stack) where
     abbrev in_loop : Context
     in_loop = g.around.context
@@ -149,7 +147,7 @@ module _ (g : Running) (k : Code) (s : KeptStack) (ts : List Contents) (cs : Lis
         )
 
   -- a function that takes the place of the frame
-  module _ (u : KeptStack) (funcs : List Func) (codes : Codes) (w : Instruction) (left : ℕ) (x : TailCallsIn s u funcs codes w fuel left) (q : Function)
+  module _ (u : KeptStack) (program : Program) (w : Instruction) (left : ℕ) (x : TailCallsIn s u program w fuel left) (q : Function)
       (fn : slice_get g.around.context.base.functions x.enters.id.0 ≡ Some q) (shape_is : IsShapeOf q.code x.enters.shape) where
     abbrev same_place : Context
     same_place = g.around.context
@@ -182,9 +180,9 @@ module _ (g : Running) (k : Code) (s : KeptStack) (ts : List Contents) (cs : Lis
 
 -- what is told of a function
 
-pub shape_known : (functions : List Function) (funcs : List Func) (codes : Codes) (a : AreFunctions functions funcs codes) (id : FuncId) (shape : Shape) (x : HasShapeIn funcs codes id shape)
+pub shape_known : (functions : List Function) (program : Program) (a : AreFunctions functions program) (id : FuncId) (shape : Shape) (x : HasShapeIn program id shape)
     → (q : Function) × (slice_get functions id.0 ≡ Some q) × IsShapeOf q.code shape
-shape_known functions funcs codes a id shape x =
+shape_known functions program a id shape x =
     let k = a.known id.0 x.func x.code x.func_there x.code_there in (
       k.function,
       k.is,

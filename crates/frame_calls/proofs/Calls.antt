@@ -1,25 +1,17 @@
 -- What a call on a stack tests.
 use Rattle.std.proofs.Common.{◌≡◌, ℕ, zero, suc, ◌≤◌, ◌∷◌, [], List, Option, Some, None, refl, ap, sym, arith, true}
 use Rattle.code_core.specs.declared.opcode.Opcode.{Opcode}
-use Rattle.code_core.specs.declared.opcode.Opcode.TheVariants.{Call, Return, TailCall, TForCall, VarArg}
+use Rattle.code_core.specs.declared.opcode.Opcode.TheVariants.{Call, Return, VarArg}
 use Rattle.machine_sound.proofs.Lists.{some_is}
 use Rattle.lua_stack.specs.declared.frame.OpenCell.{OpenCell}
 use Rattle.lua_stack.specs.Frames.{AllBelow, KeptStack, NoneFrom, top_number}
-use Rattle.frame_calls.specs.Calling.{is_call, is_iteration, is_tail_call, one_less}
+use Rattle.frame_calls.specs.Calling.{is_call, one_less}
 use Rattle.frame_calls.specs.Listing.{taken_of}
 use Rattle.frame_calls.specs.Returning.{count_of, said_of}
 
 pub call_is : (o : Option Opcode) → is_call o ≡ true → o ≡ Some Call
 call_is (Some Call) h = refl
 call_is _ h = absurd (cc)
-
-pub tail_call_is : (o : Option Opcode) → is_tail_call o ≡ true → o ≡ Some TailCall
-tail_call_is (Some TailCall) h = refl
-tail_call_is _ h = absurd (cc)
-
-pub iteration_is : (o : Option Opcode) → is_iteration o ≡ true → o ≡ Some TForCall
-iteration_is (Some TForCall) h = refl
-iteration_is _ h = absurd (cc)
 
 pub said_counts : (o : Option Opcode) (b n : ℕ) → said_of o b ≡ Some n → count_of o b ≡ Some n
 said_counts (Some Return) b n e = e

@@ -14,14 +14,14 @@ reaches_by rows p q r = (r.0, ap (steps rows r.0 go) p ∙ r.1 ∙ ap (ends go) 
 
 -- frames and activations by their parts
 
-abbrev frame_of : ℕ → Wait Value → Activation → LuaFrame
-frame_of function wait own = record { function = function; wait = wait; own = own }
+abbrev pub frame_with : ℕ → Wait Value → Activation → LuaFrame
+frame_with function wait own = record { function = function; wait = wait; own = own }
 
-pub frame_is : (t : LuaFrame) (function : ℕ) (own : Activation) → t.function ≡ function → t.wait ≡ running → t.own ≡ own → t ≡ frame_of function running own
+pub frame_is : (t : LuaFrame) (function : ℕ) (own : Activation) → t.function ≡ function → t.wait ≡ running → t.own ≡ own → t ≡ frame_with function running own
 frame_is t function own f w o =
-    ap (λ n. frame_of n t.wait t.own) f
-    ∙ ap (λ w. frame_of function w t.own) w
-    ∙ ap (frame_of function running) o
+    ap (λ n. frame_with n t.wait t.own) f
+    ∙ ap (λ w. frame_with function w t.own) w
+    ∙ ap (frame_with function running) o
 
 abbrev activation : ℕ → (registers varargs : List Value) → (pending : List ℕ) → (opened : ℕ) → Activation
 activation pc registers varargs pending opened = record { pc = pc; registers = registers; varargs = varargs; pending = pending; opened = opened }
@@ -69,6 +69,6 @@ module _ (W : World) (at : Place) (e : place_of W ≡ Some at) where
   -- and the frame on top in its place, where it runs
   pub world_same : (fuel : ℕ) → W.moving ≡ [] → at.top.wait ≡ running → world (context_at W at) (record { heap = W.heap; cells = W.cells; fuel = fuel; own = at.top.own }) ≡ record W { fuel = fuel }
   world_same fuel m w =
-      stacked_same (without_last at.stack.frames ++ lua (frame_of at.top.function running at.top.own) ∷ []) fuel m (
-      ap (λ w. without_last at.stack.frames ++ lua (frame_of at.top.function w at.top.own) ∷ []) (sym w)
+      stacked_same (without_last at.stack.frames ++ lua (frame_with at.top.function running at.top.own) ∷ []) fuel m (
+      ap (λ w. without_last at.stack.frames ++ lua (frame_with at.top.function w at.top.own) ∷ []) (sym w)
       ∙ sym (last_splits at.stack.frames (lua at.top) (place_is W at e).top))

@@ -11,4 +11,5 @@ pub mod Takers
 mod BelowTop
 mod Returned
 pub mod ListReturned
-pub mod SpreadCalls
+mod SpreadCalls
+pub mod CrossedOver

@@ -9,7 +9,7 @@ use Rattle.code_core.specs.declared.instruction.Instruction.{Instruction}
 use Rattle.code_core.specs.declared.opcode.Opcode.{Opcode}
 use Rattle.code_core.specs.declared.opcode.Opcode.TheVariants.{Call}
 use Rattle.int_core.specs.Value.{Value, nth, range, without_last, write_all}
-use Rattle.machine_core.specs.World.{running, for_call, Activation, Wait, LuaFrame, Frame, lua, World}
+use Rattle.machine_core.specs.World.{running, for_call, Wait, LuaFrame, Frame, lua, World}
 use Rattle.machine_core.specs.Text.{trap, write_list}
 use Rattle.machine_core.specs.InstructionRows.{next, rest_at, rest_by, write_values}
 use Rattle.machine_core.specs.Moves.{ends, go}
@@ -21,20 +21,19 @@ use Rattle.table_core.specs.Table.{Contents}
 use Rattle.table_core.specs.declared.value.FuncId.{FuncId}
 use Rattle.table_core.specs.declared.value.Value.{Value as Kept}
 use Rattle.lua_stack.specs.Frames.{KeptStack, lua_of, wait_of}
-use Rattle.lua_heap.specs.declared.codes.Codes.{Codes}
 use Rattle.lua_heap.specs.declared.world.Cell.{Cell}
-use Rattle.lua_heap.specs.declared.world.Func.{Func}
 use Rattle.lua_heap.specs.Plain.{cell, heap}
 use Rattle.lua_heap.specs.Reading.{value}
 use Rattle.machine_arms_tables.specs.Frame.{Code}
 use Rattle.machine_loop.specs.Running.{Running}
-use Rattle.frame_calls.specs.Calling.{AreFunctions, KnownFunction}
+use Rattle.frame_calls.specs.Calling.{AreFunctions, KnownFunction, Program}
 use Rattle.frame_calls.specs.Opening.{ReturnsList}
 use Rattle.frame_calls.specs.Standing.{RunsAt, standing}
 use Rattle.frame_calls.proofs.BelowTop.{below_waits, nothing_closed, nothing_pending, popped_waits, top_registers, values_there}
-use Rattle.frame_calls.proofs.Called.{held_on, own_now, ready_held, standing_is, word_is}
+use Rattle.frame_calls.proofs.Called.{held_on, ready_held, standing_is, word_is}
 use Rattle.frame_calls.proofs.FrameRows.{outer, return_steps}
 use Rattle.frame_calls.proofs.Returned.{row_returns}
+use Rattle.frame_calls.proofs.Held.{frame_with}
 use Rattle.frame_calls.proofs.Takers.{two_range}
 
 -- all items of a list
@@ -68,36 +67,27 @@ module _ (d : Context) (H : Held) (w : Instruction) (vs : List Value) where
       ∙ ap (λ b. cond b (local d next (vs ++ []) (held_own d (write_list (a_of w) 0) vs H)) None) there
       ∙ ap (λ (o : Option Instruction). elim o as (λ _. Option Held) [ None ↦ None | Some _ ↦ Some (with_pc written (H.own.pc + 1)) ]) behind_is
 
-module _ (g : Running) (k : Code) (s : KeptStack) (ts : List Contents) (cs : List Cell) (fuel pc : ℕ) (r : RunsAt g k s ts cs fuel pc) (u : KeptStack) (funcs : List Func) (codes : Codes) (w : Instruction)
-    (x : ReturnsList s u funcs codes w) (a : AreFunctions g.around.context.base.functions funcs codes) where
+module _ (g : Running) (k : Code) (s : KeptStack) (ts : List Contents) (cs : List Cell) (fuel pc : ℕ) (r : RunsAt g k s ts cs fuel pc) (u : KeptStack) (program : Program) (w : Instruction)
+    (x : ReturnsList s u program w) (a : AreFunctions g.around.context.base.functions program) where
   abbrev read : Kept → Value
   read = value g.around.texts
 
   abbrev ctx : Context
   ctx = g.around.context
 
-  abbrev own : Activation
-  own = own_now g k s ts cs fuel pc r
-
   -- the frame below, and its CALL
 
   abbrev waiting : LuaFrame
   waiting = lua_of read x.calls.frame
 
-  abbrev caller_at : ℕ → Wait Value → Activation → LuaFrame
-  caller_at n w own = record { function = n; wait = w; own = own }
-
   abbrev lower : List Frame
   lower = without_last ctx.below
 
-  abbrev number : ℕ
-  number = x.caller.function.0
+  below_is : ctx.below ≡ lower ++ lua (frame_with x.caller.function.0 for_call waiting.own) ∷ []
+  below_is = below_waits g k s ts cs fuel pc r x.caller x.calls ∙ ap (λ w. lower ++ lua (frame_with x.caller.function.0 (wait_of read w) waiting.own) ∷ []) x.takes.takes.waits
 
-  below_is : ctx.below ≡ lower ++ lua (caller_at number for_call waiting.own) ∷ []
-  below_is = below_waits g k s ts cs fuel pc r x.caller x.calls ∙ ap (λ w. lower ++ lua (caller_at number (wait_of read w) waiting.own) ∷ []) x.takes.takes.waits
-
-  abbrev known_function : KnownFunction ctx.base.functions number x.takes.code
-  known_function = a.known number x.takes.func x.takes.code x.takes.func_there x.takes.code_there
+  abbrev known_function : KnownFunction ctx.base.functions x.caller.function.0 x.takes.code
+  known_function = a.known x.caller.function.0 x.takes.func x.takes.code x.takes.func_there x.takes.code_there
 
   abbrev call_word : Instruction
   call_word = x.takes.takes.word
@@ -125,13 +115,13 @@ module _ (g : Running) (k : Code) (s : KeptStack) (ts : List Contents) (cs : Lis
   -- the values
 
   abbrev came : List Value
-  came = range (a_of w) x.count own.registers
+  came = range (a_of w) x.count r.may.top.own.registers
 
   few : x.count ≤ 2
   few = let f = x.takes.takes.few in let m = x.takes.takes.many in omega (arith, f, m)
 
   came_whole : range 0 x.count came ≡ came
-  came_whole = ap (λ n. range 0 n came) (sym (length_range (a_of w) x.count own.registers)) ∙ range_whole came
+  came_whole = ap (λ n. range 0 n came) (sym (length_range (a_of w) x.count r.may.top.own.registers)) ∙ range_whole came
 
   values_are : range 0 x.taker.count (read x.given.first ∷ read x.given.second ∷ []) ≡ came
   values_are =
@@ -144,30 +134,30 @@ module _ (g : Running) (k : Code) (s : KeptStack) (ts : List Contents) (cs : Lis
 
   abbrev after : ℕ → (register : ℕ) → List Value → (to count : ℕ) → World
   after n register vs to count =
-      stacked ctx.base ctx.coroutine (lower ++ lua (caller_at n running (record waiting.own { registers = write_all register vs waiting.own.registers; opened = count; pc = to })) ∷ []) (heap g.around.texts ts g.string_metatable) (map (cell g.around.texts) cs) fuel []
+      stacked ctx.base ctx.coroutine (lower ++ lua (frame_with n running (record waiting.own { registers = write_all register vs waiting.own.registers; opened = count; pc = to })) ∷ []) (heap g.around.texts ts g.string_metatable) (map (cell g.around.texts) cs) fuel []
 
-  standing_after : standing g u ts cs fuel ≡ after number (a_of call_word) came (waiting.own.pc + 1) (length came)
+  standing_after : standing g u ts cs fuel ≡ after x.caller.function.0 (a_of call_word) came (waiting.own.pc + 1) (length came)
   standing_after =
       ap (λ fs. stacked ctx.base ctx.coroutine fs (heap g.around.texts ts g.string_metatable) (map (cell g.around.texts) cs) fuel [])
       (x.hands.top read refl lower waiting (popped_waits g k s ts cs fuel pc r x.caller x.calls x.popped x.pops))
       ∙ ap (λ (id : FuncId). after id.0 x.taker.register (range 0 x.taker.count (read x.given.first ∷ read x.given.second ∷ [])) x.taker.to x.count) x.calls.knows.function
-      ∙ ap (λ vs. after number x.taker.register vs x.taker.to x.count) values_are
-      ∙ ap (λ n. after number n came x.taker.to x.count) x.takes.takes.register
-      ∙ ap (λ n. after number (a_of call_word) came n x.count) to_is
-      ∙ ap (after number (a_of call_word) came (waiting.own.pc + 1)) (sym (length_range (a_of w) x.count own.registers))
+      ∙ ap (λ vs. after x.caller.function.0 x.taker.register vs x.taker.to x.count) values_are
+      ∙ ap (λ n. after x.caller.function.0 n came x.taker.to x.count) x.takes.takes.register
+      ∙ ap (λ n. after x.caller.function.0 (a_of call_word) came n x.count) to_is
+      ∙ ap (after x.caller.function.0 (a_of call_word) came (waiting.own.pc + 1)) (sym (length_range (a_of w) x.count r.may.top.own.registers))
 
   pub list_returned_so : slice_get k.words pc ≡ Some w → Reaches g.around.rows (standing g s ts cs fuel) (standing g u ts cs fuel)
   list_returned_so word =
       let stands = (ready_held g k s ts cs fuel pc r).stands in
-      let h = held_on g k s ts cs fuel pc r fuel own in
+      let h = held_on g k s ts cs fuel pc r fuel r.may.top.own in
       let there = values_there g k s ts cs fuel pc r x.registers x.are (a_of w) x.count x.gives.room in
       let o = row_returns ctx stands h w x.count there (opcode_of w) x.is in
-      let d = outer ctx lower number known_function.function in
+      let d = outer ctx lower x.caller.function.0 known_function.function in
       let held : Held = record { heap = h.heap; cells = h.cells; fuel = h.fuel; own = waiting.own } in (
         2,
         ap (steps g.around.rows 2 go) (standing_is g k s ts cs fuel pc r)
             ∙ return_steps ctx stands h w o.op (word_is g k s ts cs fuel pc r w word) o.is (a_of w) x.count o.env o.row
-            (nothing_pending g k s ts cs fuel pc r x.closed) there (nothing_closed g k s ts cs fuel pc r x.closed) lower number known_function.function waiting.own for_call call_waits below_is known_function.is
+            (nothing_pending g k s ts cs fuel pc r x.closed) there (nothing_closed g k s ts cs fuel pc r x.closed) lower x.caller.function.0 known_function.function waiting.own for_call call_waits below_is known_function.is
             (listed d held call_word came) refl (opens_list d held call_word came behind_call.0 at_call x.takes.takes.is_call x.takes.takes.takes_all has_register at_next) g.around.rows
             ∙ ap (ends go) (sym standing_after),
       )

@@ -1,7 +1,7 @@
 -- A return on a stack is two steps of the machine: the frame is left, and the frame below goes on with what it returned.
-use Rattle.std.proofs.Common.{◌≡◌, inl, inr, ℕ, suc, ◌+◌, ◌-◌, List, [], ◌∷◌, ◌++◌, length, map, Option, Some, None, refl, ap, sym, subst, ◌∙◌, arith, true, false}
+use Rattle.std.proofs.Common.{◌≡◌, ℕ, suc, ◌+◌, ◌-◌, List, [], ◌∷◌, ◌++◌, length, map, Option, Some, refl, ap, sym, ◌∙◌, arith, true, false}
 use Rattle.std.proofs.lemmas.Bool.Decides.{nat_tests}
-use Rattle.std.specs.Prelude.{IfNone, IfSome, ◌==◌, cond, nat_le, slice_get}
+use Rattle.std.specs.Prelude.{◌==◌, cond, nat_le, slice_get}
 use Rattle.std.proofs.lemmas.List.{length-map}
 use Rattle.code_core.specs.Check.{at}
 use Rattle.code_core.specs.Instruction.{a_of, b_of, opcode_of}
@@ -22,23 +22,20 @@ use Rattle.table_core.specs.Table.{Contents}
 use Rattle.table_core.specs.declared.value.FuncId.{FuncId}
 use Rattle.table_core.specs.declared.value.Value.{Value as Kept}
 use Rattle.lua_stack.specs.Frames.{KeptStack, frames, lua_of, wait_of}
-use Rattle.lua_heap.specs.declared.codes.Codes.{Codes}
 use Rattle.lua_heap.specs.declared.world.Cell.{Cell as KeptCell}
-use Rattle.lua_heap.specs.declared.world.Func.{Func}
 use Rattle.lua_heap.specs.Plain.{cell, heap}
 use Rattle.lua_heap.specs.Reading.{value}
 use Rattle.machine_arms_tables.specs.Frame.{Code}
 use Rattle.machine_loop.specs.Running.{Running}
-use Rattle.frame_calls.specs.Calling.{AreFunctions, KnownFunction}
-use Rattle.frame_calls.specs.Returning.{CallsOrReturns, Crosses, GivesBack, ReturnsIn, count_of}
+use Rattle.frame_calls.specs.Calling.{AreFunctions, KnownFunction, Program}
+use Rattle.frame_calls.specs.Returning.{GivesBack, ReturnsIn, count_of}
 use Rattle.frame_calls.specs.Standing.{RunsAt, standing}
 use Rattle.frame_calls.proofs.BelowTop.{below_waits, nothing_closed, nothing_pending, popped_waits, top_registers, values_there}
 use Rattle.frame_calls.proofs.Calls.{less_is}
-use Rattle.frame_calls.proofs.Called.{behind_within, called_so, held_on, iterated_so, own_now, ready_held, shape_known, standing_is, tail_called_so, word_is}
-use Rattle.frame_calls.proofs.Chained.{reaches_none}
+use Rattle.frame_calls.proofs.Called.{behind_within, held_on, own_now, ready_held, standing_is, word_is}
 use Rattle.frame_calls.proofs.FrameRows.{given, handed, outer, return_row, return_steps, still_waits, takes, takes_all}
+use Rattle.frame_calls.proofs.Held.{frame_with}
 use Rattle.frame_calls.proofs.Takers.{two_range}
-use Rattle.frame_calls.proofs.TakenVarargs.{written_varargs_so}
 
 -- the row of a return, after what it reads first
 pub record RowReturns (c : Context) (h : Held) (w : Instruction) (count : ℕ) (o : Option Opcode) : Type 0 where
@@ -73,8 +70,8 @@ row_returns c s h w count there (Some Return1) e = record {
 }
 row_returns c s h w count there _ e = absurd (cc)
 
-module _ (g : Running) (k : Code) (s : KeptStack) (ts : List Contents) (cs : List KeptCell) (fuel pc : ℕ) (r : RunsAt g k s ts cs fuel pc) (u : KeptStack) (funcs : List Func) (codes : Codes) (w : Instruction)
-    (count : ℕ) (x : GivesBack s u funcs codes w count) (a : AreFunctions g.around.context.base.functions funcs codes) where
+module _ (g : Running) (k : Code) (s : KeptStack) (ts : List Contents) (cs : List KeptCell) (fuel pc : ℕ) (r : RunsAt g k s ts cs fuel pc) (u : KeptStack) (program : Program) (w : Instruction)
+    (count : ℕ) (x : GivesBack s u program w count) (a : AreFunctions g.around.context.base.functions program) where
   abbrev read : Kept → Value
   read = value g.around.texts
 
@@ -89,9 +86,6 @@ module _ (g : Running) (k : Code) (s : KeptStack) (ts : List Contents) (cs : Lis
   abbrev waiting : LuaFrame
   waiting = lua_of read x.calls.frame
 
-  abbrev caller_at : ℕ → Wait Value → Activation → LuaFrame
-  caller_at n w own = record { function = n; wait = w; own = own }
-
   abbrev lower : List Frame
   lower = without_last ctx.below
 
@@ -101,7 +95,7 @@ module _ (g : Running) (k : Code) (s : KeptStack) (ts : List Contents) (cs : Lis
   abbrev wait_is : Wait Value
   wait_is = wait_of read x.caller.wait
 
-  below_is : ctx.below ≡ lower ++ lua (caller_at number wait_is waiting.own) ∷ []
+  below_is : ctx.below ≡ lower ++ lua (frame_with number wait_is waiting.own) ∷ []
   below_is = below_waits g k s ts cs fuel pc r x.caller x.calls
 
   -- its CALL
@@ -146,7 +140,7 @@ module _ (g : Running) (k : Code) (s : KeptStack) (ts : List Contents) (cs : Lis
 
   abbrev after : ℕ → (register : ℕ) → List Value → (to : ℕ) → World
   after n register vs to =
-      stacked ctx.base ctx.coroutine (lower ++ lua (caller_at n running (record waiting.own { registers = write_all register vs waiting.own.registers; pc = to })) ∷ []) (heap g.around.texts ts g.string_metatable) (map (cell g.around.texts) cs) fuel []
+      stacked ctx.base ctx.coroutine (lower ++ lua (frame_with n running (record waiting.own { registers = write_all register vs waiting.own.registers; pc = to })) ∷ []) (heap g.around.texts ts g.string_metatable) (map (cell g.around.texts) cs) fuel []
 
   popped_is : frames read x.popped ≡ lower ++ lua waiting ∷ []
   popped_is = popped_waits g k s ts cs fuel pc r x.caller x.calls x.popped x.pops
@@ -181,44 +175,10 @@ module _ (g : Running) (k : Code) (s : KeptStack) (ts : List Contents) (cs : Lis
 
 -- an instruction does so that says how many values it returns
 
-returned_so : (g : Running) (k : Code) (s : KeptStack) (ts : List Contents) (cs : List KeptCell) (fuel pc : ℕ) → RunsAt g k s ts cs fuel pc → (u : KeptStack) (funcs : List Func) (codes : Codes) (w : Instruction) → ReturnsIn s u funcs codes w
-    → AreFunctions g.around.context.base.functions funcs codes → slice_get k.words pc ≡ Some w → Reaches g.around.rows (standing g s ts cs fuel) (standing g u ts cs fuel)
-returned_so g k s ts cs fuel pc r u funcs codes w x a word =
+pub returned_so : (g : Running) (k : Code) (s : KeptStack) (ts : List Contents) (cs : List KeptCell) (fuel pc : ℕ) → RunsAt g k s ts cs fuel pc → (u : KeptStack) (program : Program) (w : Instruction) → ReturnsIn s u program w
+    → AreFunctions g.around.context.base.functions program → slice_get k.words pc ≡ Some w → Reaches g.around.rows (standing g s ts cs fuel) (standing g u ts cs fuel)
+returned_so g k s ts cs fuel pc r u program w x a word =
     let b = x.gives_back in
     let h = held_on g k s ts cs fuel pc r fuel (own_now g k s ts cs fuel pc r) in
     let room = values_there g k s ts cs fuel pc r b.registers b.are (a_of w) x.count b.gives.room in
-    given_back_so g k s ts cs fuel pc r u funcs codes w x.count b a word (row_returns g.around.context (ready_held g k s ts cs fuel pc r).stands h w x.count room (opcode_of w) x.is)
-
--- a call or a return, or neither
-
-crossed_so : (g : Running) (k : Code) (s : KeptStack) (ts : List Contents) (cs : List KeptCell) (fuel pc : ℕ) → RunsAt g k s ts cs fuel pc → (u : KeptStack) (size : ℕ) (funcs : List Func) (codes : Codes) (w : Instruction) (left : ℕ)
-    → AreFunctions g.around.context.base.functions funcs codes → size ≡ g.around.context.closure.code.own.stack → slice_get k.words pc ≡ Some w → Crosses s u size funcs codes k.words pc w fuel left
-    → Reaches g.around.rows (standing g s ts cs fuel) (standing g u ts cs left)
-crossed_so g k s ts cs fuel pc r u size funcs codes w left a e word (inl (inl x)) =
-    let q = shape_known g.around.context.base.functions funcs codes a x.enters.id x.enters.shape x.enters.has in
-    called_so g k s ts cs fuel pc r u size funcs codes w left x q.0 q.1 q.2 e word
-crossed_so g k s ts cs fuel pc r u size funcs codes w left a e word (inl (inr x)) =
-    let q = shape_known g.around.context.base.functions funcs codes a x.enters.id x.enters.shape x.enters.has in
-    iterated_so g k s ts cs fuel pc r u size funcs codes w left x q.0 q.1 q.2 e word
-crossed_so g k s ts cs fuel pc r u size funcs codes w left a e word (inr (inl x)) =
-    subst (λ (n : ℕ). Reaches g.around.rows (standing g s ts cs fuel) (standing g u ts cs n)) (sym x.1) (written_varargs_so g k s ts cs fuel pc r u w x.0 word)
-crossed_so g k s ts cs fuel pc r u size funcs codes w left a e word (inr (inr (inl x))) =
-    let q = shape_known g.around.context.base.functions funcs codes a x.enters.id x.enters.shape x.enters.has in
-    tail_called_so g k s ts cs fuel pc r u funcs codes w left x q.0 q.1 q.2 word
-crossed_so g k s ts cs fuel pc r u size funcs codes w left a e word (inr (inr (inr x))) =
-    subst (λ (n : ℕ). Reaches g.around.rows (standing g s ts cs fuel) (standing g u ts cs n)) (sym x.1) (returned_so g k s ts cs fuel pc r u funcs codes w x.0 a word)
-
-pub crossed_or_not : (g : Running) (k : Code) (s : KeptStack) (ts : List Contents) (cs : List KeptCell) (fuel pc : ℕ) → RunsAt g k s ts cs fuel pc → (u : KeptStack) (size : ℕ) (funcs : List Func) (codes : Codes) (w : Instruction) (left : ℕ)
-    → AreFunctions g.around.context.base.functions funcs codes → size ≡ g.around.context.closure.code.own.stack → slice_get k.words pc ≡ Some w
-    → (o : Option (Unit {0})) → IfSome o (λ _. Crosses s u size funcs codes k.words pc w fuel left) → IfNone o ((u ≡ s) × (left ≡ fuel)) → Reaches g.around.rows (standing g s ts cs fuel) (standing g u ts cs left)
-crossed_or_not g k s ts cs fuel pc r u size funcs codes w left a e word None x y =
-    subst (λ (n : ℕ). Reaches g.around.rows (standing g s ts cs fuel) (standing g u ts cs n)) (sym y.1)
-    (subst (λ (u : KeptStack). Reaches g.around.rows (standing g s ts cs fuel) (standing g u ts cs fuel)) (sym y.0) (reaches_none g.around.rows (standing g s ts cs fuel)))
-crossed_or_not g k s ts cs fuel pc r u size funcs codes w left a e word (Some o) x y = crossed_so g k s ts cs fuel pc r u size funcs codes w left a e word x
-
--- a call or a return is one of these
-
-pub crosses_so : (s u : KeptStack) (size : ℕ) (funcs : List Func) (codes : Codes) (words : List Instruction) (pc : ℕ) (w : Instruction) (fuel left : ℕ) → CallsOrReturns s u size funcs codes w fuel left
-    → Crosses s u size funcs codes words pc w fuel left
-crosses_so s u size funcs codes words pc w fuel left (inl x) = inl (inl x)
-crosses_so s u size funcs codes words pc w fuel left (inr x) = inr (inr (inr x))
+    given_back_so g k s ts cs fuel pc r u program w x.count b a word (row_returns g.around.context (ready_held g k s ts cs fuel pc r).stands h w x.count room (opcode_of w) x.is)

@@ -1,6 +1,6 @@
 -- A call with an open list on a stack is a step of the machine, over the frame on top or in its place.
-use Rattle.std.proofs.Common.{◌≡◌, inl, inr, ℕ, suc, ◌+◌, ◌-◌, List, [], ◌∷◌, ◌++◌, length, map, Option, Some, None, refl, ap, sym, subst, ◌∙◌, arith, true}
-use Rattle.std.specs.Prelude.{◌==◌, IfNone, IfSome, cond, if◌then◌else◌, nat_le, nat_lt, option_and_then, slice_get}
+use Rattle.std.proofs.Common.{◌≡◌, ℕ, suc, ◌+◌, ◌-◌, List, [], ◌∷◌, ◌++◌, length, map, Option, Some, None, refl, ap, sym, ◌∙◌, arith, true}
+use Rattle.std.specs.Prelude.{◌==◌, cond, if◌then◌else◌, nat_le, nat_lt, option_and_then, slice_get}
 use Rattle.std.proofs.lemmas.List.{append_assoc}
 use Rattle.code_core.specs.Check.{Mark, at, fixed, in_front, leaves, left_by, mark, open_from, opened}
 use Rattle.code_core.specs.Fields.{opens}
@@ -21,22 +21,19 @@ use Rattle.machine_focus.proofs.Calls.{began, call_is, inner}
 use Rattle.machine_sound.proofs.Values.{le_true, length_range}
 use Rattle.table_core.specs.Table.{Contents}
 use Rattle.lua_stack.specs.Frames.{IsShapeOf, KeptStack, frames, given_up, with_wait}
-use Rattle.lua_heap.specs.declared.codes.Codes.{Codes}
 use Rattle.lua_heap.specs.declared.world.Cell.{Cell}
-use Rattle.lua_heap.specs.declared.world.Func.{Func}
 use Rattle.lua_heap.specs.Plain.{cell, heap}
 use Rattle.lua_heap.specs.Reading.{value}
 use Rattle.machine_arms_tables.specs.Frame.{Code}
 use Rattle.machine_loop.specs.Running.{Running}
 use Rattle.machine_loop.proofs.Closing.{stays}
-use Rattle.frame_calls.specs.Calling.{AreFunctions}
-use Rattle.frame_calls.specs.Spreading.{CrossesOver, ListEnds, ReturnsOpen, ReturnsSpread, Spreads, SpreadsIn, TailSpreadsIn}
+use Rattle.frame_calls.specs.Calling.{AreFunctions, Program}
+use Rattle.frame_calls.specs.Spreading.{ListEnds, ReturnsOpen, SpreadsIn, TailSpreadsIn}
 use Rattle.frame_calls.specs.Standing.{RunsAt, standing}
-use Rattle.frame_calls.proofs.Called.{callee_is, depth_is, held_on, own_now, ready_held, shape_known, standing_is, there, word_is}
+use Rattle.frame_calls.proofs.Called.{callee_is, depth_is, held_on, own_now, ready_held, standing_is, there, word_is}
 use Rattle.frame_calls.proofs.Closed.{closes_nothing}
 use Rattle.frame_calls.proofs.FrameRows.{giving, in_place, own_runs, row_is, tail_is}
-use Rattle.frame_calls.proofs.ListReturned.{list_returned_so}
-use Rattle.frame_calls.proofs.Returned.{crossed_or_not, given_back_so}
+use Rattle.frame_calls.proofs.Returned.{given_back_so}
 
 -- what a test of an instruction says
 
@@ -144,7 +141,7 @@ module _ (g : Running) (k : Code) (s : KeptStack) (ts : List Contents) (cs : Lis
         ∙ ap (λ n. Some (x.from + n)) (sym many_are)
         ∙ ap (λ n. Some n) (sym x.ends)
 
-  module _ (u : KeptStack) (size : ℕ) (funcs : List Func) (codes : Codes) (w : Instruction) (left : ℕ) (x : SpreadsIn s u size funcs codes k.words pc w fuel left) (q : Function)
+  module _ (u : KeptStack) (size : ℕ) (program : Program) (w : Instruction) (left : ℕ) (x : SpreadsIn s u size program k.words pc w fuel left) (q : Function)
       (fn : slice_get ctx.base.functions x.enters.call.id.0 ≡ Some q) (shape_is : IsShapeOf q.code x.enters.call.shape) (size_is : size ≡ ctx.closure.code.own.stack) where
     abbrev from_caller : ℕ → ℕ → LuaFrame
     from_caller n size = record (with_wait for_call (given_up (a_of w) size r.may.top)) { function = n }
@@ -164,7 +161,7 @@ module _ (g : Running) (k : Code) (s : KeptStack) (ts : List Contents) (cs : Lis
         ∙ ap (λ n. ctx.below ++ lua (giving ctx (a_of w) mine) ∷ callee n ∷ []) one_more
         ∙ sym (append_assoc ctx.below (lua (giving ctx (a_of w) mine) ∷ []) (callee (a_of w + 1) ∷ []))
 
-    spread_so : slice_get k.words pc ≡ Some w → Reaches g.around.rows (standing g s ts cs fuel) (standing g u ts cs left)
+    pub spread_so : slice_get k.words pc ≡ Some w → Reaches g.around.rows (standing g s ts cs fuel) (standing g u ts cs left)
     spread_so word =
         let e = x.enters.is in
         let given = x.enters.call.given in
@@ -178,7 +175,7 @@ module _ (g : Running) (k : Code) (s : KeptStack) (ts : List Contents) (cs : Lis
               ∙ ap (ends go) (sym (ap (λ fs. stacked ctx.base ctx.coroutine fs (heap g.around.texts ts g.string_metatable) (map (cell g.around.texts) cs) left []) frames_are)),
         )
 
-  module _ (u : KeptStack) (funcs : List Func) (codes : Codes) (w : Instruction) (left : ℕ) (x : TailSpreadsIn s u funcs codes k.words pc w fuel left) (q : Function)
+  module _ (u : KeptStack) (program : Program) (w : Instruction) (left : ℕ) (x : TailSpreadsIn s u program k.words pc w fuel left) (q : Function)
       (fn : slice_get ctx.base.functions x.enters.call.id.0 ≡ Some q) (shape_is : IsShapeOf q.code x.enters.call.shape) where
     abbrev follower : ℕ → Frame
     follower from = new_frame x.enters.call.id.0 q.code (range from x.enters.call.given mine.registers)
@@ -195,7 +192,7 @@ module _ (g : Running) (k : Code) (s : KeptStack) (ts : List Contents) (cs : Lis
         x.enters.replaces.replaced (value g.around.texts) refl q.code shape_is ctx.below r.may.top r.may.is
         ∙ ap (λ n. ctx.below ++ follower n ∷ []) one_more
 
-    spread_in_place_so : slice_get k.words pc ≡ Some w → Reaches g.around.rows (standing g s ts cs fuel) (standing g u ts cs left)
+    pub spread_in_place_so : slice_get k.words pc ≡ Some w → Reaches g.around.rows (standing g s ts cs fuel) (standing g u ts cs left)
     spread_in_place_so word =
         let e = x.enters.is in
         let given = x.enters.call.given in
@@ -210,42 +207,12 @@ module _ (g : Running) (k : Code) (s : KeptStack) (ts : List Contents) (cs : Lis
         )
 
   -- all values of the list go to the frame below
-  module _ (u : KeptStack) (funcs : List Func) (codes : Codes) (w : Instruction) (x : ReturnsOpen s u funcs codes k.words pc w) (a : AreFunctions ctx.base.functions funcs codes) where
-    open_returned_so : slice_get k.words pc ≡ Some w → Reaches g.around.rows (standing g s ts cs fuel) (standing g u ts cs fuel)
+  module _ (u : KeptStack) (program : Program) (w : Instruction) (x : ReturnsOpen s u program k.words pc w) (a : AreFunctions ctx.base.functions program) where
+    pub open_returned_so : slice_get k.words pc ≡ Some w → Reaches g.around.rows (standing g s ts cs fuel) (standing g u ts cs fuel)
     open_returned_so word =
-        given_back_so g k s ts cs fuel pc r u funcs codes w x.count x.gives_back a word (record {
+        given_back_so g k s ts cs fuel pc r u program w x.count x.gives_back a word (record {
           op = Return;
           is = x.is_return;
           env = range (a_of w) x.count mine.registers;
           row = open_row ctx (ready_held g k s ts cs fuel pc r).stands (held_on g k s ts cs fuel pc r fuel mine) w x.count x.end x.takes_all (list_ends x.end x.list) x.all;
         })
-
--- one of these
-
-spread_back_so : (g : Running) (k : Code) (s : KeptStack) (ts : List Contents) (cs : List Cell) (fuel pc : ℕ) → RunsAt g k s ts cs fuel pc → (u : KeptStack) (funcs : List Func) (codes : Codes) (w : Instruction)
-    → AreFunctions g.around.context.base.functions funcs codes → slice_get k.words pc ≡ Some w → ReturnsSpread s u funcs codes k.words pc w → Reaches g.around.rows (standing g s ts cs fuel) (standing g u ts cs fuel)
-spread_back_so g k s ts cs fuel pc r u funcs codes w a word (inl x) = list_returned_so g k s ts cs fuel pc r u funcs codes w x a word
-spread_back_so g k s ts cs fuel pc r u funcs codes w a word (inr x) = open_returned_so g k s ts cs fuel pc r u funcs codes w x a word
-
-spreads_so : (g : Running) (k : Code) (s : KeptStack) (ts : List Contents) (cs : List Cell) (fuel pc : ℕ) → RunsAt g k s ts cs fuel pc → (u : KeptStack) (size : ℕ) (funcs : List Func) (codes : Codes) (w : Instruction) (left : ℕ)
-    → AreFunctions g.around.context.base.functions funcs codes → size ≡ g.around.context.closure.code.own.stack → slice_get k.words pc ≡ Some w → Spreads s u size funcs codes k.words pc w fuel left
-    → Reaches g.around.rows (standing g s ts cs fuel) (standing g u ts cs left)
-spreads_so g k s ts cs fuel pc r u size funcs codes w left a e word (inl x) =
-    let q = shape_known g.around.context.base.functions funcs codes a x.enters.call.id x.enters.call.shape x.enters.is.has in
-    spread_so g k s ts cs fuel pc r u size funcs codes w left x q.0 q.1 q.2 e word
-spreads_so g k s ts cs fuel pc r u size funcs codes w left a e word (inr (inl x)) =
-    let q = shape_known g.around.context.base.functions funcs codes a x.enters.call.id x.enters.call.shape x.enters.is.has in
-    spread_in_place_so g k s ts cs fuel pc r u funcs codes w left x q.0 q.1 q.2 word
-spreads_so g k s ts cs fuel pc r u size funcs codes w left a e word (inr (inr x)) =
-    subst (λ (n : ℕ). Reaches g.around.rows (standing g s ts cs fuel) (standing g u ts cs n)) (sym x.1) (spread_back_so g k s ts cs fuel pc r u funcs codes w a word x.0)
-
--- one of these, a call or a return where no open list is taken, or neither
-pub crossed_over_or_not : (g : Running) (k : Code) (s : KeptStack) (ts : List Contents) (cs : List Cell) (fuel pc : ℕ) → RunsAt g k s ts cs fuel pc → (u : KeptStack) (size : ℕ) (funcs : List Func) (codes : Codes) (w : Instruction) (left : ℕ)
-    → AreFunctions g.around.context.base.functions funcs codes → size ≡ g.around.context.closure.code.own.stack → slice_get k.words pc ≡ Some w
-    → (o : Option (Unit {0})) → IfSome o (λ _. CrossesOver s u size funcs codes k.words pc w fuel left) → IfNone o ((u ≡ s) × (left ≡ fuel)) → Reaches g.around.rows (standing g s ts cs fuel) (standing g u ts cs left)
-crossed_over_or_not g k s ts cs fuel pc r u size funcs codes w left a e word None x y = crossed_or_not g k s ts cs fuel pc r u size funcs codes w left a e word None tt y
-crossed_over_or_not g k s ts cs fuel pc r u size funcs codes w left a e word (Some o) x y = by x
-  where
-    by : CrossesOver s u size funcs codes k.words pc w fuel left → Reaches g.around.rows (standing g s ts cs fuel) (standing g u ts cs left)
-    by (inl z) = crossed_or_not g k s ts cs fuel pc r u size funcs codes w left a e word (Some o) z tt
-    by (inr z) = spreads_so g k s ts cs fuel pc r u size funcs codes w left a e word z

@@ -28,7 +28,7 @@ use Rattle.frame_calls.specs.declared.returning.Given.{Given}
 use Rattle.frame_calls.specs.Listing.{TakesVarargs, WritesVarargs}
 use Rattle.frame_calls.specs.Returning.{AreFirst, HasKept, taken}
 use Rattle.frame_calls.specs.Standing.{RunsAt, standing}
-use Rattle.frame_calls.proofs.Called.{behind_within, held_on, own_now, ready_held, standing_is, word_is}
+use Rattle.frame_calls.proofs.Called.{behind_within, held_on, ready_held, standing_is, word_is}
 use Rattle.frame_calls.proofs.Calls.{taken_is}
 use Rattle.frame_calls.proofs.Held.{frame_is}
 use Rattle.frame_calls.proofs.Listed.{kept_top, listed_so}
@@ -62,48 +62,45 @@ module _ (g : Running) (k : Code) (s : KeptStack) (ts : List Contents) (cs : Lis
   abbrev read : Kept → Value
   read = value g.around.texts
 
-  abbrev own : Activation
-  own = own_now g k s ts cs fuel pc r
-
   abbrev now : Held
-  now = held_on g k s ts cs fuel pc r fuel own
+  now = held_on g k s ts cs fuel pc r fuel r.may.top.own
 
   abbrev after : Activation
-  after = record own { registers = write_all (a_of w) (range 0 x.count own.varargs) own.registers; pc = own.pc + 1 }
+  after = record r.may.top.own { registers = write_all (a_of w) (range 0 x.count r.may.top.own.varargs) r.may.top.own.registers; pc = r.may.top.own.pc + 1 }
 
   wanted : (opcode_of w ≡ Some VarArg) × (c_of w ≡ suc x.count)
   wanted = taken_is (opcode_of w) (c_of w) x.count x.is
 
-  there : nat_le (behind (a_of w) x.count) (length own.registers) ≡ true
+  there : nat_le (behind (a_of w) x.count) (length r.may.top.own.registers) ≡ true
   there =
       let many = ap length (sym (x.are read g.around.context.below r.may.top r.may.is)) ∙ length-map x.registers read in
-      le_true (behind (a_of w) x.count) (length own.registers) (behind_within (a_of w) x.count (length own.registers) (let l = x.room in omega (arith, l, many)))
+      le_true (behind (a_of w) x.count) (length r.may.top.own.registers) (behind_within (a_of w) x.count (length r.may.top.own.registers) (let l = x.room in omega (arith, l, many)))
 
-  at_next : (i : Instruction) × (at g.around.context.closure.code (own.pc + 1) ≡ Some i)
+  at_next : (i : Instruction) × (at g.around.context.closure.code (r.may.top.own.pc + 1) ≡ Some i)
   at_next =
       let t = get_there k.words (pc + 1) x.within in
       (t.0, ap (λ n. at g.around.context.closure.code (n + 1)) r.at_pc ∙ ap (λ ws. slice_get ws (pc + 1)) r.may.closure.code.code.words_are ∙ t.1)
 
-  comes_to : local g.around.context (row_of g.around.context.closure.code own.pc VarArg w) [] now ≡ Some (record now { own = after })
+  comes_to : local g.around.context (row_of g.around.context.closure.code r.may.top.own.pc VarArg w) [] now ≡ Some (record now { own = after })
   comes_to =
       let c = g.around.context in
-      let took = held_own c (write_registers (a_of w) x.count 0) own.varargs now in
-      ap (λ n. local c (write_values (a_of w) n 0) own.varargs now) wanted.1
-      ∙ ap (λ b. cond b (local c next (own.varargs ++ []) took) None) there
-      ∙ ap (λ (o : Option Instruction). elim o as (λ _. Option Held) [ None ↦ None | Some _ ↦ Some (held_with_pc took (own.pc + 1)) ]) at_next.1
+      let took = held_own c (write_registers (a_of w) x.count 0) r.may.top.own.varargs now in
+      ap (λ n. local c (write_values (a_of w) n 0) r.may.top.own.varargs now) wanted.1
+      ∙ ap (λ b. cond b (local c next (r.may.top.own.varargs ++ []) took) None) there
+      ∙ ap (λ (o : Option Instruction). elim o as (λ _. Option Held) [ None ↦ None | Some _ ↦ Some (held_with_pc took (r.may.top.own.pc + 1)) ]) at_next.1
 
   frames_are : frames read u ≡ g.around.context.below ++ lua (record { function = g.around.context.function; wait = running; own = after }) ∷ []
   frames_are =
-      let took = λ (n : ℕ). with_pc (n + 1) (with_wait running (with_registers (write_all (a_of w) (range 0 x.count own.varargs) own.registers) r.may.top)) in
+      let took = λ (n : ℕ). with_pc (n + 1) (with_wait running (with_registers (write_all (a_of w) (range 0 x.count r.may.top.own.varargs) r.may.top.own.registers) r.may.top)) in
       x.becomes.top read refl g.around.context.below r.may.top r.may.is
       ∙ ap (λ n. g.around.context.below ++ lua (took n) ∷ []) (sym r.at_pc)
-      ∙ ap (λ (t : LuaFrame). g.around.context.below ++ lua t ∷ []) (frame_is (took own.pc) g.around.context.function after r.may.function refl refl)
+      ∙ ap (λ (t : LuaFrame). g.around.context.below ++ lua t ∷ []) (frame_is (took r.may.top.own.pc) g.around.context.function after r.may.function refl refl)
 
   pub taken_varargs_so : slice_get k.words pc ≡ Some w → Reaches g.around.rows (standing g s ts cs fuel) (standing g u ts cs fuel)
   taken_varargs_so word =
       let c = g.around.context in
       let p = c.closure.code in
-      let text_is : text_at p own.pc ≡ row_of p own.pc VarArg w = ap (λ (o : Option Instruction). elim o [ None ↦ trap | Some w ↦ text_by p own.pc w (opcode_of w) ]) (word_is g k s ts cs fuel pc r w word) ∙ ap (text_by p own.pc w) wanted.0 in
+      let text_is : text_at p r.may.top.own.pc ≡ row_of p r.may.top.own.pc VarArg w = ap (λ (o : Option Instruction). elim o [ None ↦ trap | Some w ↦ text_by p r.may.top.own.pc w (opcode_of w) ]) (word_is g k s ts cs fuel pc r w word) ∙ ap (text_by p r.may.top.own.pc w) wanted.0 in
       let step = held_is_step g.around.primitives g.around.rows c now (record now { own = after }) (ready_held g k s ts cs fuel pc r) (ap (λ t. local c t [] now) text_is ∙ comes_to) in (
         1,
         ap (steps g.around.rows 1 go) (standing_is g k s ts cs fuel pc r)

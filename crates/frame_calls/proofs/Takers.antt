@@ -11,6 +11,8 @@ use Rattle.lua_stack.specs.Frames.{HasLuaTop, HasRegisters, KeptFrame, KeptLua, 
 use Rattle.lua_stack.specs.declared.frame.LuaState.{LuaState}
 use Rattle.machine_view.proofs.Rows.{nth_map}
 use Rattle.frame_calls.specs.declared.returning.Given.{Given}
+use Rattle.frame_calls.specs.declared.stop.Stop.{Stop}
+use Rattle.frame_calls.specs.Calling.{MayLeave}
 use Rattle.frame_calls.specs.Returning.{HasKept, IsCaller, IsCallerIn, IsGiven}
 pub use Rattle.machine_loop.proofs.Alike.{none_then}
 
@@ -148,3 +150,8 @@ module _ {s : KeptStack} {n : ℕ} (h : HasKept s n) where
     top = change (λ v. known nil) (lua_of (λ v. known nil) h.top);
     is = b.top (λ v. known nil) refl (map (frame_of (λ v. known nil)) h.below) (lua_of (λ v. known nil) h.top) (top_by (λ v. known nil));
   }
+
+-- a stack that is as it was may be left so
+
+pub still_may : {s t : KeptStack} {stop : Stop} → t ≡ s → MayLeave s stop → MayLeave t stop
+still_may {stop = stop} e m = subst (λ (s : KeptStack). MayLeave s stop) (sym e) m

@@ -1,5 +1,5 @@
 -- Calls of Lua functions as changes of a stack.
-use Rattle.std.specs.Prelude.{◌≡◌, ◌⊎◌, ◌+◌, ◌<◌, ◌≤◌, ℕ, zero, suc, Bool, true, false, List, Option, Some, None, length, map, slice_get}
+use Rattle.std.specs.Prelude.{◌≡◌, IfSome, ◌+◌, ◌<◌, ◌≤◌, ℕ, zero, suc, Bool, true, false, List, Option, Some, None, length, map, slice_get}
 use Rattle.code_core.specs.declared.instruction.Instruction.{Instruction}
 use Rattle.code_core.specs.declared.opcode.Opcode.{Opcode}
 use Rattle.code_core.specs.declared.opcode.Opcode.TheVariants.{Call, TailCall, TForCall}
@@ -11,32 +11,44 @@ use Rattle.table_core.specs.declared.value.Value.{Value as Kept}
 use Rattle.table_core.specs.declared.value.Value.TheVariants.{Func as a_func}
 use Rattle.lua_stack.specs.declared.frame.Shape.{Shape}
 use Rattle.lua_stack.specs.declared.frame.Wait.TheVariants.{ForCall, ForIterator}
-use Rattle.lua_stack.specs.Frames.{Calls, CallsBehind, KeptStack, OnTop, Replaces}
+use Rattle.lua_stack.specs.Frames.{Calls, CallsBehind, HasLuaTop, KeptStack, OnTop, Replaces}
 use Rattle.lua_heap.specs.declared.codes.Code.{Code}
 use Rattle.lua_heap.specs.declared.codes.Codes.{Codes}
 use Rattle.lua_heap.specs.declared.world.Func.{Func}
+use Rattle.lua_heap.specs.declared.world.World.{World as Memory}
+use Rattle.frame_calls.specs.declared.stop.Functions.{Functions}
+use Rattle.frame_calls.specs.declared.stop.Stop.{Stop}
 use Rattle.frame_calls.specs.Standing.{IsClosedFrom}
 
 abbrev pub is_call : Option Opcode → Bool
 is_call (Some Call) = true
 is_call _ = false
 
-abbrev pub is_tail_call : Option Opcode → Bool
-is_tail_call (Some TailCall) = true
-is_tail_call _ = false
-
-abbrev pub is_iteration : Option Opcode → Bool
-is_iteration (Some TForCall) = true
-is_iteration _ = false
-
 -- one less than a number of values that is counted from one: 0 stands for an open list
 abbrev pub one_less : ℕ → Option ℕ
 one_less zero = None
 one_less (suc n) = Some n
 
+-- the functions of a world in memory, and the code that they run
+pub record Program : Type 0 where
+  pub funcs : List Func
+  pub codes : Codes
+
+abbrev pub program_of : Functions → Program
+program_of functions = record { funcs = functions.funcs.now.objects; codes = functions.codes.now }
+
+abbrev pub program_in : Memory → Program
+program_in W = record { funcs = W.funcs.objects; codes = W.codes }
+
 -- the code of each function is there
-pub record HaveCode (funcs : List Func) (codes : Codes) : Type 0 where
-  pub code_there : (n : ℕ) (f : Func) → slice_get funcs n ≡ Some f → f.code.0 < length codes.list.items
+pub record HaveCode (program : Program) : Type 0 where
+  pub code_there : (n : ℕ) (f : Func) → slice_get program.funcs n ≡ Some f → f.code.0 < length program.codes.list.items
+
+-- a Lua frame is on top of a stack, nothing of it is open or to be closed from the register on that is told, and functions have their code
+pub record MayLeave (s : KeptStack) (stop : Stop) : Type 0 where
+  pub top : HasLuaTop s
+  pub codes : HaveCode (program_of stop.functions)
+  pub closed : IfSome stop.closed (λ register. IsClosedFrom s register)
 
 -- a Lua function stands in a register, with so many registers after it
 pub record HoldsCallee (registers : List Kept) (register given : ℕ) (id : FuncId) : Type 0 where
@@ -44,16 +56,16 @@ pub record HoldsCallee (registers : List Kept) (register given : ℕ) (id : Func
   pub room : register + 1 + given ≤ length registers
 
 -- what is told of a function's code is so
-pub record HasShapeIn (funcs : List Func) (codes : Codes) (id : FuncId) (shape : Shape) : Type 0 where
+pub record HasShapeIn (program : Program) (id : FuncId) (shape : Shape) : Type 0 where
   pub func : Func
-  pub func_there : slice_get funcs id.0 ≡ Some func
+  pub func_there : slice_get program.funcs id.0 ≡ Some func
   pub code : Code
-  pub code_there : slice_get codes.list.items func.code.0 ≡ Some code
+  pub code_there : slice_get program.codes.list.items func.code.0 ≡ Some code
   pub is : shape ≡ record { params = code.params; vararg = code.vararg; stack = code.stack }
   pub params : shape.params ≤ shape.stack
 
 -- the Lua function in a register is entered with the values of those after it
-pub record EntersIn (s u : KeptStack) (size : ℕ) (funcs : List Func) (codes : Codes) (w : Instruction) : Type 0 where
+pub record EntersIn (s u : KeptStack) (size : ℕ) (program : Program) (w : Instruction) : Type 0 where
   pub given : ℕ
   pub wants : b_of w ≡ suc given
   pub id : FuncId
@@ -61,39 +73,35 @@ pub record EntersIn (s u : KeptStack) (size : ℕ) (funcs : List Func) (codes : 
   pub are : OnTop s (λ f t. map f registers ≡ t.own.registers)
   pub holds : HoldsCallee registers (a_of w) given id
   pub shape : Shape
-  pub has : HasShapeIn funcs codes id shape
+  pub has : HasShapeIn program id shape
   pub calls : Calls s u (a_of w) given ForCall size id shape
   pub room : length s.frames + 1 ≤ greatest_depth
 
 -- a CALL does so for a unit of the budget
-pub record CallsIn (s u : KeptStack) (size : ℕ) (funcs : List Func) (codes : Codes) (w : Instruction) (fuel left : ℕ) : Type 0 where
+pub record CallsIn (s u : KeptStack) (size : ℕ) (program : Program) (w : Instruction) (fuel left : ℕ) : Type 0 where
   pub is_call : opcode_of w ≡ Some Call
   pub paid : fuel ≡ suc left
-  pub enters : EntersIn s u size funcs codes w
+  pub enters : EntersIn s u size program w
 
 -- the Lua function in a register is entered with the values of the two after it, which the frame keeps
-pub record IteratesOver (s u : KeptStack) (size : ℕ) (funcs : List Func) (codes : Codes) (w : Instruction) : Type 0 where
+pub record IteratesOver (s u : KeptStack) (size : ℕ) (program : Program) (w : Instruction) : Type 0 where
   pub id : FuncId
   pub registers : List Kept
   pub are : OnTop s (λ f t. map f registers ≡ t.own.registers)
   pub holds : HoldsCallee registers (a_of w) 2 id
   pub shape : Shape
-  pub has : HasShapeIn funcs codes id shape
+  pub has : HasShapeIn program id shape
   pub calls : CallsBehind s u (a_of w) 2 (a_of w + 4) ForIterator size id shape
   pub room : length s.frames + 1 ≤ greatest_depth
 
 -- a TFORCALL does so for a unit of the budget
-pub record IteratesIn (s u : KeptStack) (size : ℕ) (funcs : List Func) (codes : Codes) (w : Instruction) (fuel left : ℕ) : Type 0 where
+pub record IteratesIn (s u : KeptStack) (size : ℕ) (program : Program) (w : Instruction) (fuel left : ℕ) : Type 0 where
   pub is_iteration : opcode_of w ≡ Some TForCall
   pub paid : fuel ≡ suc left
-  pub enters : IteratesOver s u size funcs codes w
-
--- a CALL or a TFORCALL
-abbrev pub CallsOn : (s u : KeptStack) (size : ℕ) → List Func → Codes → Instruction → (fuel left : ℕ) → Type 0
-CallsOn s u size funcs codes w fuel left = CallsIn s u size funcs codes w fuel left ⊎ IteratesIn s u size funcs codes w fuel left
+  pub enters : IteratesOver s u size program w
 
 -- it takes the place of the frame on top, in which nothing is open or to be closed
-pub record ReplacesIn (s u : KeptStack) (funcs : List Func) (codes : Codes) (w : Instruction) : Type 0 where
+pub record ReplacesIn (s u : KeptStack) (program : Program) (w : Instruction) : Type 0 where
   pub given : ℕ
   pub wants : b_of w ≡ suc given
   pub id : FuncId
@@ -101,16 +109,16 @@ pub record ReplacesIn (s u : KeptStack) (funcs : List Func) (codes : Codes) (w :
   pub are : OnTop s (λ f t. map f registers ≡ t.own.registers)
   pub holds : HoldsCallee registers (a_of w) given id
   pub shape : Shape
-  pub has : HasShapeIn funcs codes id shape
+  pub has : HasShapeIn program id shape
   pub closed : IsClosedFrom s 0
   pub replaces : Replaces s u (a_of w) given id shape
   pub room : length s.frames ≤ greatest_depth
 
 -- a TAILCALL does so for a unit of the budget
-pub record TailCallsIn (s u : KeptStack) (funcs : List Func) (codes : Codes) (w : Instruction) (fuel left : ℕ) : Type 0 where
+pub record TailCallsIn (s u : KeptStack) (program : Program) (w : Instruction) (fuel left : ℕ) : Type 0 where
   pub is_tail_call : opcode_of w ≡ Some TailCall
   pub paid : fuel ≡ suc left
-  pub enters : ReplacesIn s u funcs codes w
+  pub enters : ReplacesIn s u program w
 
 -- a function of the machine's world, by its code in memory
 pub record KnownFunction (functions : List Function) (id : ℕ) (code : Code) : Type 0 where
@@ -122,6 +130,6 @@ pub record KnownFunction (functions : List Function) (id : ℕ) (code : Code) : 
   pub stack : code.stack ≡ function.code.own.stack
 
 -- the functions in memory are those of the machine's world, and their code is there
-pub record AreFunctions (functions : List Function) (funcs : List Func) (codes : Codes) : Type 0 where
-  pub have : HaveCode funcs codes
-  pub known : (id : ℕ) (func : Func) (code : Code) → slice_get funcs id ≡ Some func → slice_get codes.list.items func.code.0 ≡ Some code → KnownFunction functions id code
+pub record AreFunctions (functions : List Function) (program : Program) : Type 0 where
+  pub have : HaveCode program
+  pub known : (id : ℕ) (func : Func) (code : Code) → slice_get program.funcs id ≡ Some func → slice_get program.codes.list.items func.code.0 ≡ Some code → KnownFunction functions id code

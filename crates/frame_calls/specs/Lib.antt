@@ -4,3 +4,4 @@ pub mod Listing
 pub mod Returning
 pub mod Opening
 pub mod Spreading
+pub mod Crossing

@@ -9,12 +9,12 @@ use Rattle.lua_stack.specs.declared.frame.LuaState.{LuaState}
 use Rattle.lua_stack.specs.declared.frame.Wait.TheVariants.{ForCall}
 use Rattle.lua_stack.specs.Frames.{KeptStack, OnTop, TopBecomes, with_opened}
 use Rattle.lua_heap.specs.declared.codes.Code.{Code}
-use Rattle.lua_heap.specs.declared.codes.Codes.{Codes}
 use Rattle.lua_heap.specs.declared.world.Func.{Func}
 use Rattle.frame_calls.specs.declared.returning.Given.{Given}
 use Rattle.frame_calls.specs.declared.returning.Taker.{Taker}
 use Rattle.frame_calls.specs.Returning.{IsCaller, IsGiven, count_of, taken}
 use Rattle.frame_calls.specs.Standing.{IsClosedFrom}
+use Rattle.frame_calls.specs.Calling.{Program}
 
 -- a frame waits at a CALL that takes all values that come: so many of them, which is at most two, in registers of the frame
 pub record IsListTaker (words : List Instruction) (c : LuaState) (count : ℕ) (t : Taker) : Type 0 where
@@ -31,15 +31,15 @@ pub record IsListTaker (words : List Instruction) (c : LuaState) (count : ℕ) (
   pub next : t.to ≡ c.pc + 1
   pub within : t.to < length words
 
-pub record TakesListIn (funcs : List Func) (codes : Codes) (c : LuaState) (count : ℕ) (t : Taker) : Type 0 where
+pub record TakesListIn (program : Program) (c : LuaState) (count : ℕ) (t : Taker) : Type 0 where
   pub func : Func
-  pub func_there : slice_get funcs c.function.0 ≡ Some func
+  pub func_there : slice_get program.funcs c.function.0 ≡ Some func
   pub code : Code
-  pub code_there : slice_get codes.list.items func.code.0 ≡ Some code
+  pub code_there : slice_get program.codes.list.items func.code.0 ≡ Some code
   pub takes : IsListTaker code.words.items c count t
 
 -- the frame on top, in which nothing is open or to be closed, is gone, and its values are an open list of the one below
-pub record ReturnsList (s u : KeptStack) (funcs : List Func) (codes : Codes) (w : Instruction) : Type 0 where
+pub record ReturnsList (s u : KeptStack) (program : Program) (w : Instruction) : Type 0 where
   pub count : ℕ
   pub is : count_of (opcode_of w) (b_of w) ≡ Some count
   pub closed : IsClosedFrom s 0
@@ -50,7 +50,7 @@ pub record ReturnsList (s u : KeptStack) (funcs : List Func) (codes : Codes) (w 
   pub caller : LuaState
   pub calls : IsCaller s caller
   pub taker : Taker
-  pub takes : TakesListIn funcs codes caller count taker
+  pub takes : TakesListIn program caller count taker
   pub popped : KeptStack
   pub pops : popped.frames ≡ without_last s.frames
   pub hands : TopBecomes popped u (λ f t. with_opened count (taken taker (f given.first) (f given.second) t))

@@ -1,5 +1,5 @@
 -- Returns to a Lua frame that waits for a call and takes at most two values, as changes of a stack.
-use Rattle.std.specs.Prelude.{◌≡◌, ◌⊎◌, ◌+◌, ◌<◌, ◌≤◌, ℕ, suc, Bool, true, false, [], ◌∷◌, ◌++◌, List, Option, Some, None, length, map, slice_get}
+use Rattle.std.specs.Prelude.{◌≡◌, ◌+◌, ◌<◌, ◌≤◌, ℕ, suc, Bool, true, false, [], ◌∷◌, ◌++◌, List, Option, Some, None, length, map, slice_get}
 use Rattle.code_core.specs.declared.instruction.Instruction.{Instruction}
 use Rattle.code_core.specs.declared.opcode.Opcode.{Opcode}
 use Rattle.code_core.specs.declared.opcode.Opcode.TheVariants.{Call, MmBin, MmBinI, MmBinK, Return, Return0, Return1, TForCall}
@@ -14,10 +14,8 @@ use Rattle.lua_stack.specs.declared.frame.Wait.{Wait as KeptWait}
 use Rattle.lua_stack.specs.declared.frame.Wait.TheVariants.{Dropped, ForCall, ForIterator, ForValue}
 use Rattle.lua_stack.specs.Frames.{KeptFrame, KeptLua, KeptStack, OnTop, TopBecomes, kept_lua, with_pc, with_registers, with_wait}
 use Rattle.lua_heap.specs.declared.codes.Code.{Code}
-use Rattle.lua_heap.specs.declared.codes.Codes.{Codes}
 use Rattle.lua_heap.specs.declared.world.Func.{Func}
-use Rattle.frame_calls.specs.Calling.{CallsIn, CallsOn, TailCallsIn, one_less}
-use Rattle.frame_calls.specs.Listing.{WritesVarargs}
+use Rattle.frame_calls.specs.Calling.{Program, one_less}
 use Rattle.frame_calls.specs.Standing.{IsClosedFrom}
 use Rattle.frame_calls.specs.declared.returning.Given.{Given}
 use Rattle.frame_calls.specs.declared.returning.Taker.{Taker}
@@ -97,11 +95,11 @@ pub record IsTaker (words : List Instruction) (c : LuaState) (t : Taker) : Type 
   pub next : t.to ≡ c.pc + 1
   pub within : t.to < length words
 
-pub record TakesIn (funcs : List Func) (codes : Codes) (c : LuaState) (t : Taker) : Type 0 where
+pub record TakesIn (program : Program) (c : LuaState) (t : Taker) : Type 0 where
   pub func : Func
-  pub func_there : slice_get funcs c.function.0 ≡ Some func
+  pub func_there : slice_get program.funcs c.function.0 ≡ Some func
   pub code : Code
-  pub code_there : slice_get codes.list.items func.code.0 ≡ Some code
+  pub code_there : slice_get program.codes.list.items func.code.0 ≡ Some code
   pub takes : IsTaker code.words.items c t
 
 -- the frame on top is a Lua frame with at least so many registers
@@ -117,7 +115,7 @@ taken taker v w t = with_pc taker.to (with_wait running (with_registers (write_a
 
 -- the frame on top, in which nothing is open or to be closed, is gone, and the one below has taken what it wants of so many of its values, from the register on that
 -- the instruction names
-pub record GivesBack (s u : KeptStack) (funcs : List Func) (codes : Codes) (w : Instruction) (count : ℕ) : Type 0 where
+pub record GivesBack (s u : KeptStack) (program : Program) (w : Instruction) (count : ℕ) : Type 0 where
   pub closed : IsClosedFrom s 0
   pub registers : List Kept
   pub are : OnTop s (λ f t. map f registers ≡ t.own.registers)
@@ -126,30 +124,14 @@ pub record GivesBack (s u : KeptStack) (funcs : List Func) (codes : Codes) (w : 
   pub caller : LuaState
   pub calls : IsCaller s caller
   pub taker : Taker
-  pub takes : TakesIn funcs codes caller taker
+  pub takes : TakesIn program caller taker
   pub popped : KeptStack
   pub pops : popped.frames ≡ without_last s.frames
   pub hands : TopBecomes popped u (λ f t. taken taker (f given.first) (f given.second) t)
   pub listed : u.open_cells ≡ s.open_cells
 
 -- an instruction does so that says how many values it returns
-pub record ReturnsIn (s u : KeptStack) (funcs : List Func) (codes : Codes) (w : Instruction) : Type 0 where
+pub record ReturnsIn (s u : KeptStack) (program : Program) (w : Instruction) : Type 0 where
   pub count : ℕ
   pub is : count_of (opcode_of w) (b_of w) ≡ Some count
-  pub gives_back : GivesBack s u funcs codes w count
-
--- a tail call or a return
-abbrev pub Leaves : (s u : KeptStack) → List Func → Codes → Instruction → (fuel left : ℕ) → Type 0
-Leaves s u funcs codes w fuel left = TailCallsIn s u funcs codes w fuel left ⊎ (ReturnsIn s u funcs codes w × (left ≡ fuel))
-
--- extra arguments that are written to registers, a tail call or a return
-abbrev pub GoesOn : (s u : KeptStack) → List Func → Codes → List Instruction → (pc : ℕ) → Instruction → (fuel left : ℕ) → Type 0
-GoesOn s u funcs codes words pc w fuel left = (WritesVarargs s u words pc w × (left ≡ fuel)) ⊎ Leaves s u funcs codes w fuel left
-
--- one of these, or a call
-abbrev pub Crosses : (s u : KeptStack) (size : ℕ) → List Func → Codes → List Instruction → (pc : ℕ) → Instruction → (fuel left : ℕ) → Type 0
-Crosses s u size funcs codes words pc w fuel left = CallsOn s u size funcs codes w fuel left ⊎ GoesOn s u funcs codes words pc w fuel left
-
--- a CALL or a return
-abbrev pub CallsOrReturns : (s u : KeptStack) (size : ℕ) → List Func → Codes → Instruction → (fuel left : ℕ) → Type 0
-CallsOrReturns s u size funcs codes w fuel left = CallsIn s u size funcs codes w fuel left ⊎ (ReturnsIn s u funcs codes w × (left ≡ fuel))
+  pub gives_back : GivesBack s u program w count

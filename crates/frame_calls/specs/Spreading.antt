@@ -1,5 +1,5 @@
 -- Calls of Lua functions with all values of an open list, as changes of a stack.
-use Rattle.std.specs.Prelude.{◌≡◌, ◌⊎◌, ◌+◌, ◌≤◌, ℕ, suc, List, Some, length, map}
+use Rattle.std.specs.Prelude.{◌≡◌, ◌+◌, ◌≤◌, ℕ, suc, List, Some, length, map}
 use Rattle.code_core.specs.declared.instruction.Instruction.{Instruction}
 use Rattle.code_core.specs.declared.opcode.Opcode.TheVariants.{Call, Return, TailCall}
 use Rattle.code_core.specs.Check.{leaves, open_from}
@@ -8,12 +8,9 @@ use Rattle.int_core.specs.Limits.{greatest_depth}
 use Rattle.table_core.specs.declared.value.Value.{Value as Kept}
 use Rattle.lua_stack.specs.declared.frame.Wait.TheVariants.{ForCall}
 use Rattle.lua_stack.specs.Frames.{Calls, KeptStack, OnTop, Replaces}
-use Rattle.lua_heap.specs.declared.codes.Codes.{Codes}
-use Rattle.lua_heap.specs.declared.world.Func.{Func}
 use Rattle.frame_calls.specs.declared.spreading.SpreadCall.{SpreadCall}
-use Rattle.frame_calls.specs.Calling.{HasShapeIn, HoldsCallee}
-use Rattle.frame_calls.specs.Opening.{ReturnsList}
-use Rattle.frame_calls.specs.Returning.{Crosses, GivesBack, IsInFront}
+use Rattle.frame_calls.specs.Calling.{HasShapeIn, HoldsCallee, Program}
+use Rattle.frame_calls.specs.Returning.{GivesBack, IsInFront}
 use Rattle.frame_calls.specs.Standing.{IsClosedFrom}
 
 -- the open list that the instruction in front of a place leaves ends there, at the register behind its last value
@@ -27,66 +24,50 @@ pub record ListEnds (s : KeptStack) (words : List Instruction) (pc end : ℕ) : 
   pub ends : end ≡ from + many
 
 -- the Lua function in a register of the frame on top, with the values behind it up to the end of the list
-pub record IsSpread (s : KeptStack) (funcs : List Func) (codes : Codes) (words : List Instruction) (pc : ℕ) (w : Instruction) (call : SpreadCall) : Type 0 where
+pub record IsSpread (s : KeptStack) (program : Program) (words : List Instruction) (pc : ℕ) (w : Instruction) (call : SpreadCall) : Type 0 where
   pub end : ℕ
   pub list : ListEnds s words pc end
   pub all : end ≡ a_of w + 1 + call.given
   pub registers : List Kept
   pub are : OnTop s (λ f t. map f registers ≡ t.own.registers)
   pub holds : HoldsCallee registers (a_of w) call.given call.id
-  pub has : HasShapeIn funcs codes call.id call.shape
+  pub has : HasShapeIn program call.id call.shape
 
 -- it is entered with them
-pub record SpreadsOver (s u : KeptStack) (size : ℕ) (funcs : List Func) (codes : Codes) (words : List Instruction) (pc : ℕ) (w : Instruction) : Type 0 where
+pub record SpreadsOver (s u : KeptStack) (size : ℕ) (program : Program) (words : List Instruction) (pc : ℕ) (w : Instruction) : Type 0 where
   pub call : SpreadCall
-  pub is : IsSpread s funcs codes words pc w call
+  pub is : IsSpread s program words pc w call
   pub calls : Calls s u (a_of w) call.given ForCall size call.id call.shape
   pub room : length s.frames + 1 ≤ greatest_depth
 
 -- a CALL does so for a unit of the budget
-pub record SpreadsIn (s u : KeptStack) (size : ℕ) (funcs : List Func) (codes : Codes) (words : List Instruction) (pc : ℕ) (w : Instruction) (fuel left : ℕ) : Type 0 where
+pub record SpreadsIn (s u : KeptStack) (size : ℕ) (program : Program) (words : List Instruction) (pc : ℕ) (w : Instruction) (fuel left : ℕ) : Type 0 where
   pub is_call : opcode_of w ≡ Some Call
   pub takes_all : b_of w ≡ 0
   pub paid : fuel ≡ suc left
-  pub enters : SpreadsOver s u size funcs codes words pc w
+  pub enters : SpreadsOver s u size program words pc w
 
 -- it takes the place of the frame on top, in which nothing is open or to be closed
-pub record ReplacesOver (s u : KeptStack) (funcs : List Func) (codes : Codes) (words : List Instruction) (pc : ℕ) (w : Instruction) : Type 0 where
+pub record ReplacesOver (s u : KeptStack) (program : Program) (words : List Instruction) (pc : ℕ) (w : Instruction) : Type 0 where
   pub call : SpreadCall
-  pub is : IsSpread s funcs codes words pc w call
+  pub is : IsSpread s program words pc w call
   pub closed : IsClosedFrom s 0
   pub replaces : Replaces s u (a_of w) call.given call.id call.shape
   pub room : length s.frames ≤ greatest_depth
 
 -- a TAILCALL does so for a unit of the budget
-pub record TailSpreadsIn (s u : KeptStack) (funcs : List Func) (codes : Codes) (words : List Instruction) (pc : ℕ) (w : Instruction) (fuel left : ℕ) : Type 0 where
+pub record TailSpreadsIn (s u : KeptStack) (program : Program) (words : List Instruction) (pc : ℕ) (w : Instruction) (fuel left : ℕ) : Type 0 where
   pub is_tail_call : opcode_of w ≡ Some TailCall
   pub takes_all : b_of w ≡ 0
   pub paid : fuel ≡ suc left
-  pub enters : ReplacesOver s u funcs codes words pc w
+  pub enters : ReplacesOver s u program words pc w
 
 -- a RETURN gives all values from a register up to the end of the list to a frame that wants at most two
-pub record ReturnsOpen (s u : KeptStack) (funcs : List Func) (codes : Codes) (words : List Instruction) (pc : ℕ) (w : Instruction) : Type 0 where
+pub record ReturnsOpen (s u : KeptStack) (program : Program) (words : List Instruction) (pc : ℕ) (w : Instruction) : Type 0 where
   pub is_return : opcode_of w ≡ Some Return
   pub takes_all : b_of w ≡ 0
   pub end : ℕ
   pub list : ListEnds s words pc end
   pub count : ℕ
   pub all : end ≡ a_of w + count
-  pub gives_back : GivesBack s u funcs codes w count
-
--- that, or a return to a frame that opens a list
-abbrev pub ReturnsSpread : (s u : KeptStack) → List Func → Codes → List Instruction → (pc : ℕ) → Instruction → Type 0
-ReturnsSpread s u funcs codes words pc w = ReturnsList s u funcs codes w ⊎ ReturnsOpen s u funcs codes words pc w
-
--- one of these, or such a TAILCALL
-abbrev pub SpreadsInPlace : (s u : KeptStack) → List Func → Codes → List Instruction → (pc : ℕ) → Instruction → (fuel left : ℕ) → Type 0
-SpreadsInPlace s u funcs codes words pc w fuel left = TailSpreadsIn s u funcs codes words pc w fuel left ⊎ (ReturnsSpread s u funcs codes words pc w × (left ≡ fuel))
-
--- one of these, or a call over the frame
-abbrev pub Spreads : (s u : KeptStack) (size : ℕ) → List Func → Codes → List Instruction → (pc : ℕ) → Instruction → (fuel left : ℕ) → Type 0
-Spreads s u size funcs codes words pc w fuel left = SpreadsIn s u size funcs codes words pc w fuel left ⊎ SpreadsInPlace s u funcs codes words pc w fuel left
-
--- a call, a return or extra arguments, where no open list is taken, or one of these
-abbrev pub CrossesOver : (s u : KeptStack) (size : ℕ) → List Func → Codes → List Instruction → (pc : ℕ) → Instruction → (fuel left : ℕ) → Type 0
-CrossesOver s u size funcs codes words pc w fuel left = Crosses s u size funcs codes words pc w fuel left ⊎ Spreads s u size funcs codes words pc w fuel left
+  pub gives_back : GivesBack s u program w count

@@ -2,72 +2,53 @@
 ghost use Rattle.std.specs.Prelude.{◌≡◌, ◌≤◌, IfNone, IfSome, slice_get, true};
 ghost use Rattle.code_core.specs.Instruction.{opcode_of};
 ghost use Rattle.lua_stack.specs.Frames.{HasLuaTop, HasRegisters, NoneFrom};
-ghost use Rattle.frame_calls.specs.Calling.{CallsIn, EntersIn, HasShapeIn, HaveCode, HoldsCallee, is_call, one_less};
+ghost use Rattle.frame_calls.specs.Calling.{CallsIn, EntersIn, HasShapeIn, HaveCode, HoldsCallee, MayLeave, is_call, one_less, program_of};
 ghost use Rattle.frame_calls.specs.Standing.{IsClosedFrom};
 
+use crate::closing::closed_from;
+use crate::stop::{Functions, Stop};
 use code_core::{Instruction, Opcode};
-use lua_heap::{Codes, Func};
 use lua_stack::{GREATEST_DEPTH, Shape, Stack, Wait};
-use object_pool::Pool;
 use table_core::{FuncId, Value};
 
-/// A CALL that gives a Lua function its arguments in registers, for a unit of the budget: the function's frame is on top. `size` is the number of registers
-/// of the caller's code. `None`, with all as before, at any other instruction, and where the call takes more than the stack. From the register `closed` on
-/// nothing of the frame on top is open or to be closed.
+/// A CALL that gives a Lua function its arguments in registers, for a unit of the budget: the function's frame is on top. `None`, with all as before, at any
+/// other instruction, and where the call takes more than the stack. What is open or to be closed is looked at here.
 #[inline(always)]
-pub(crate) fn call_function(
-    stack: &mut Stack,
-    size: usize,
-    funcs: &Pool<Func>,
-    codes: &Codes,
-    budget: &mut u64,
-    i: Instruction,
-    closed: Option<usize>,
-) -> Option<()>
-    requires top { HasLuaTop stack.old }
-    requires codes { HaveCode funcs.now.objects codes.now }
-    requires closed { IfSome closed (λ register. IsClosedFrom stack.old register) }
-    ensures calls { IfSome result (λ _. CallsIn stack.old stack.new size funcs.now.objects codes.now i budget.old budget.new) }
+pub(crate) fn call_function(stack: &mut Stack, stop: Stop, budget: &mut u64) -> Option<()>
+    requires { MayLeave stack.old stop }
+    ensures calls { IfSome result (λ _. CallsIn stack.old stack.new stop.entry.size (program_of stop.entry.functions) stop.entry.word budget.old budget.new) }
     ensures kept { IfNone result ((stack.new ≡ stack.old) × (budget.new ≡ budget.old)) }
     ensures listed { stack.new.open_cells ≡ stack.old.open_cells }
 {
-    if !is_call(i) {
+    if !is_call(stop.word) {
         return None;
     }
     let left = budget.checked_sub(1)?;
-    enter(stack, size, funcs, codes, i, closed)?;
+    let closed = closed_from(stack);
+    enter(stack, Stop { closed, ..stop })?;
     *budget = left;
     Some(())
 }
 
 /// Enters it, where no cell is open at a register that the frame gives up.
 #[inline(always)]
-fn enter(
-    stack: &mut Stack,
-    size: usize,
-    funcs: &Pool<Func>,
-    codes: &Codes,
-    i: Instruction,
-    closed: Option<usize>,
-) -> Option<()>
-    requires top { HasLuaTop stack.old }
-    requires codes { HaveCode funcs.now.objects codes.now }
-    requires closed { IfSome closed (λ register. IsClosedFrom stack.old register) }
-    ensures enters { IfSome result (λ _. EntersIn stack.old stack.new size funcs.now.objects codes.now i) }
+pub(crate) fn enter(stack: &mut Stack, stop: Stop) -> Option<()>
+    requires { MayLeave stack.old stop }
+    ensures enters { IfSome result (λ _. EntersIn stack.old stack.new stop.entry.size (program_of stop.entry.functions) stop.entry.word) }
     ensures kept { IfNone result (stack.new ≡ stack.old) }
     ensures listed { stack.new.open_cells ≡ stack.old.open_cells }
 {
     if stack.len() >= GREATEST_DEPTH {
         return None;
     }
-    let register = i.a() as usize;
-    let given = one_less(i.b())?;
+    let register = stop.word.a() as usize;
+    let given = one_less(stop.word.b())?;
     let id = callee(stack.registers(), register, given)?;
-    let shape = shape_of(funcs, codes, id)?;
-    if !may_give_up(stack, register, size, register, closed) {
+    let shape = shape_of(stop.functions, id)?;
+    if !may_give_up(stack, register, stop.size, register, stop.closed) {
         return None;
     }
-    match stack.call_in_place(register, given, Wait::ForCall, size, id, shape) {
+    match stack.call_in_place(register, given, Wait::ForCall, stop.size, id, shape) {
         Ok(()) => Some(()),
         Err(_) => None,
     }
@@ -98,14 +79,14 @@ pub fn register_of(registers: &[Value], register: usize) -> Option<Value>
 
 /// What a call needs to know of a function's code.
 #[inline(always)]
-pub fn shape_of(funcs: &Pool<Func>, codes: &Codes, id: FuncId) -> Option<Shape>
-    requires { HaveCode funcs.now.objects codes.now }
-    ensures { IfSome result (λ shape. HasShapeIn funcs.now.objects codes.now id shape) }
+pub fn shape_of(functions: Functions, id: FuncId) -> Option<Shape>
+    requires { HaveCode (program_of functions) }
+    ensures { IfSome result (λ shape. HasShapeIn (program_of functions.entry) id shape) }
 {
-    if id.0 >= funcs.len() {
+    if id.0 >= functions.funcs.len() {
         return None;
     }
-    let code = codes.get(funcs.get(id.0).code);
+    let code = functions.codes.get(functions.funcs.get(id.0).code);
     if code.params > code.stack {
         return None;
     }

@@ -2,82 +2,72 @@
 // OP_VARARG of lvm.c).
 ghost use Rattle.std.specs.Prelude.{◌≡◌, IfNone, IfSome};
 ghost use Rattle.code_core.specs.Instruction.{b_of, opcode_of};
+ghost use Rattle.code_core.specs.declared.opcode.Opcode.TheVariants.{Call, TailCall};
 ghost use Rattle.lua_stack.specs.Frames.{HasLuaTop};
-ghost use Rattle.frame_calls.specs.Calling.{CallsIn, CallsOn, HaveCode};
+ghost use Rattle.frame_calls.specs.Calling.{MayLeave, program_of};
+ghost use Rattle.frame_calls.specs.Crossing.{CrossesAt, EntersAt, LeavesAt};
 ghost use Rattle.frame_calls.specs.Listing.{WritesVarargs};
-ghost use Rattle.frame_calls.specs.Returning.{CallsOrReturns, Crosses, GoesOn, Leaves, ReturnsIn, said_of};
-ghost use Rattle.frame_calls.specs.Spreading.{CrossesOver};
-ghost use Rattle.frame_calls.specs.Standing.{IsClosedFrom};
+ghost use Rattle.frame_calls.specs.Returning.{ReturnsIn, said_of};
 
-use crate::calling::{call_function, callee, is_call, one_less};
+use crate::calling::{call_function, callee, enter, one_less};
 use crate::closing::closed_from;
-use crate::iterating::call_iterator;
+use crate::iterating::iterate;
 use crate::listing::write_varargs;
+use crate::opening::return_list;
 use crate::returning::{return_few, return_single, return_values};
-use crate::spreading::spread;
-use crate::tail_calling::tail_call_function;
+use crate::spreading::{enter_with_list, is_list_return, replace_with_list, return_open};
+use crate::stop::Stop;
+use crate::tail_calling::replace;
 use code_core::{Instruction, Opcode};
-use lua_heap::{Codes, Func};
 use lua_stack::Stack;
-use object_pool::Pool;
 
-/// An instruction at which the frame on top stops, its place, and from which register on nothing of that frame is open or to be closed, where that is known.
-#[derive(Clone, Copy, Debug)]
-pub struct Stop {
-    pub pc: usize,
-    pub word: Instruction,
-    pub closed: Option<usize>,
-}
-
-/// A call, a return or a VARARG.
+/// A call of a Lua function, over the frame on top or in its place, for a unit of the budget, a return to a Lua frame below, or a VARARG, at which the frame on top
+/// stops. `None`, with all as before, at any other instruction, and where it takes more than the stack. What is open or to be closed is looked at here, where that
+/// has to be known.
 #[inline(always)]
-pub fn cross_over_at(
-    stack: &mut Stack,
-    size: usize,
-    funcs: &Pool<Func>,
-    codes: &Codes,
-    words: &[Instruction],
-    budget: &mut u64,
-    pc: usize,
-    i: Instruction,
-) -> Option<()>
-    requires top { HasLuaTop stack.old }
-    requires codes { HaveCode funcs.now.objects codes.now }
-    ensures crosses { IfSome result (λ _. CrossesOver stack.old stack.new size funcs.now.objects codes.now words.now pc i budget.old budget.new) }
+pub fn cross_over_at(stack: &mut Stack, stop: Stop, budget: &mut u64) -> Option<()>
+    requires { MayLeave stack.old stop }
+    ensures crosses { IfSome result (λ _. CrossesAt stack.old stack.new stop.entry budget.old budget.new) }
     ensures kept { IfNone result ((stack.new ≡ stack.old) × (budget.new ≡ budget.old)) }
     ensures listed { stack.new.open_cells ≡ stack.old.open_cells }
 {
-    match cross_at(stack, size, funcs, codes, budget, i) {
+    match call_function(stack, stop, budget) {
         Some(()) => Some(()),
-        None => cross_otherwise(stack, size, funcs, codes, words, budget, pc, i),
+        None => return_at(stack, stop, budget),
     }
 }
 
-/// One that `cross_at` does not do. The opcode is looked at here, so that at all other instructions nothing is called.
+/// What is no CALL with counted arguments: most often a return of values that are counted.
 #[inline(always)]
-fn cross_otherwise(
-    stack: &mut Stack,
-    size: usize,
-    funcs: &Pool<Func>,
-    codes: &Codes,
-    words: &[Instruction],
-    budget: &mut u64,
-    pc: usize,
-    i: Instruction,
-) -> Option<()>
-    requires top { HasLuaTop stack.old }
-    requires codes { HaveCode funcs.now.objects codes.now }
-    ensures crosses { IfSome result (λ _. CrossesOver stack.old stack.new size funcs.now.objects codes.now words.now pc i budget.old budget.new) }
+fn return_at(stack: &mut Stack, stop: Stop, budget: &mut u64) -> Option<()>
+    requires { MayLeave stack.old stop }
+    ensures crosses { IfSome result (λ _. CrossesAt stack.old stack.new stop.entry budget.old budget.new) }
     ensures kept { IfNone result ((stack.new ≡ stack.old) × (budget.new ≡ budget.old)) }
     ensures listed { stack.new.open_cells ≡ stack.old.open_cells }
 {
-    if is_vararg(i) {
-        return write_there(stack, words, pc, i);
+    match return_one(stack, stop) {
+        Some(()) => Some(()),
+        None => cross_otherwise(stack, stop, budget),
     }
-    if !may_cross(stack, i) {
+}
+
+/// One of the rest. The opcode is looked at here, so that at all other instructions nothing is called.
+#[inline(always)]
+fn cross_otherwise(stack: &mut Stack, stop: Stop, budget: &mut u64) -> Option<()>
+    requires { MayLeave stack.old stop }
+    ensures crosses { IfSome result (λ _. CrossesAt stack.old stack.new stop.entry budget.old budget.new) }
+    ensures kept { IfNone result ((stack.new ≡ stack.old) × (budget.new ≡ budget.old)) }
+    ensures listed { stack.new.open_cells ≡ stack.old.open_cells }
+{
+    if is_vararg(stop.word) {
+        return write_there(stack, stop.words, stop.pc, stop.word);
+    }
+    if !may_cross(stack, stop.word) {
         return None;
     }
-    cross_there(stack, size, funcs, codes, words, budget, pc, i)
+    // A copy, so that only here it stands in memory.
+    let there = stop;
+    cross_there(stack, &there, budget)
 }
 
 /// A VARARG, for which nothing has to be known of what is open.
@@ -91,35 +81,109 @@ fn write_there(stack: &mut Stack, words: &[Instruction], pc: usize, i: Instructi
     write_varargs(stack, words, pc, i)
 }
 
-/// Does so.
+/// Does so, with what is open found first.
 #[inline(never)]
-fn cross_there(
-    stack: &mut Stack,
-    size: usize,
-    funcs: &Pool<Func>,
-    codes: &Codes,
-    words: &[Instruction],
-    budget: &mut u64,
-    pc: usize,
-    i: Instruction,
-) -> Option<()>
-    requires top { HasLuaTop stack.old }
-    requires codes { HaveCode funcs.now.objects codes.now }
-    ensures crosses { IfSome result (λ _. CrossesOver stack.old stack.new size funcs.now.objects codes.now words.now pc i budget.old budget.new) }
+fn cross_there(stack: &mut Stack, stop: &Stop, budget: &mut u64) -> Option<()>
+    requires { MayLeave stack.old stop.now }
+    ensures crosses { IfSome result (λ _. CrossesAt stack.old stack.new stop.now budget.old budget.new) }
     ensures kept { IfNone result ((stack.new ≡ stack.old) × (budget.new ≡ budget.old)) }
     ensures listed { stack.new.open_cells ≡ stack.old.open_cells }
 {
     let closed = closed_from(stack);
-    let stop = Stop {
-        pc,
-        word: i,
-        closed,
-    };
-    cross(stack, size, funcs, codes, words, budget, stop)
+    cross(stack, Stop { closed, ..*stop }, budget)
 }
 
-/// Whether an instruction may be one of these: a call of a Lua function, over the frame or in its place, or of an iterator, or a return, which may open a list or
-/// give one.
+/// The same where it is known what is open: a call of a Lua function, over the frame on top or in its place, for a unit of the budget, a return to a Lua frame below, or
+/// a VARARG. `None`, with all as before, at any other instruction, and where it takes more than the stack.
+#[inline(always)]
+pub fn cross(stack: &mut Stack, stop: Stop, budget: &mut u64) -> Option<()>
+    requires { MayLeave stack.old stop }
+    ensures crosses { IfSome result (λ _. CrossesAt stack.old stack.new stop.entry budget.old budget.new) }
+    ensures kept { IfNone result ((stack.new ≡ stack.old) × (budget.new ≡ budget.old)) }
+    ensures listed { stack.new.open_cells ≡ stack.old.open_cells }
+{
+    match stop.word.opcode() {
+        Some(Opcode::Call) => call_paid(stack, stop, budget),
+        Some(Opcode::TailCall) => call_paid(stack, stop, budget),
+        Some(Opcode::TForCall) => call_paid(stack, stop, budget),
+        Some(Opcode::VarArg) => write_varargs(stack, stop.words, stop.pc, stop.word),
+        _ => return_back(stack, stop),
+    }
+}
+
+/// A call, for a unit of the budget.
+fn call_paid(stack: &mut Stack, stop: Stop, budget: &mut u64) -> Option<()>
+    requires { MayLeave stack.old stop }
+    ensures crosses { IfSome result (λ _. CrossesAt stack.old stack.new stop.entry budget.old budget.new) }
+    ensures kept { IfNone result ((stack.new ≡ stack.old) × (budget.new ≡ budget.old)) }
+    ensures listed { stack.new.open_cells ≡ stack.old.open_cells }
+{
+    let left = budget.checked_sub(1)?;
+    enter_called(stack, stop)?;
+    *budget = left;
+    Some(())
+}
+
+/// Enters the function that is called.
+fn enter_called(stack: &mut Stack, stop: Stop) -> Option<()>
+    requires { MayLeave stack.old stop }
+    ensures enters { IfSome result (λ _. EntersAt stack.old stack.new stop.entry) }
+    ensures kept { IfNone result (stack.new ≡ stack.old) }
+    ensures listed { stack.new.open_cells ≡ stack.old.open_cells }
+{
+    match stop.word.opcode() {
+        Some(Opcode::Call) => enter_over(stack, stop),
+        Some(Opcode::TailCall) => enter_in_place(stack, stop),
+        Some(Opcode::TForCall) => iterate(stack, stop),
+        _ => None,
+    }
+}
+
+/// By a CALL.
+fn enter_over(stack: &mut Stack, stop: Stop) -> Option<()>
+    requires may { MayLeave stack.old stop }
+    requires is { opcode_of stop.word ≡ Some Call }
+    ensures enters { IfSome result (λ _. EntersAt stack.old stack.new stop.entry) }
+    ensures kept { IfNone result (stack.new ≡ stack.old) }
+    ensures listed { stack.new.open_cells ≡ stack.old.open_cells }
+{
+    if stop.word.b() == 0 {
+        return enter_with_list(stack, stop);
+    }
+    enter(stack, stop)
+}
+
+/// By a TAILCALL.
+fn enter_in_place(stack: &mut Stack, stop: Stop) -> Option<()>
+    requires may { MayLeave stack.old stop }
+    requires is { opcode_of stop.word ≡ Some TailCall }
+    ensures enters { IfSome result (λ _. EntersAt stack.old stack.new stop.entry) }
+    ensures kept { IfNone result (stack.new ≡ stack.old) }
+    ensures listed { stack.new.open_cells ≡ stack.old.open_cells }
+{
+    if stop.word.b() == 0 {
+        return replace_with_list(stack, stop);
+    }
+    replace(stack, stop)
+}
+
+/// A return: of all values of an open list, or of so many as the instruction says.
+fn return_back(stack: &mut Stack, stop: Stop) -> Option<()>
+    requires { MayLeave stack.old stop }
+    ensures returns { IfSome result (λ _. LeavesAt stack.old stack.new stop.entry) }
+    ensures kept { IfNone result (stack.new ≡ stack.old) }
+    ensures listed { stack.new.open_cells ≡ stack.old.open_cells }
+{
+    if is_list_return(stop.word) {
+        return return_open(stack, stop);
+    }
+    match return_values(stack, stop) {
+        Some(()) => Some(()),
+        None => return_list(stack, stop),
+    }
+}
+
+/// Whether an instruction may be a call of a Lua function, over the frame or in its place, or of an iterator, or a return, which may open a list or give one.
 #[inline(always)]
 fn may_cross(stack: &Stack, i: Instruction) -> bool
     requires { HasLuaTop stack.now }
@@ -152,113 +216,19 @@ fn names_function(stack: &Stack, i: Instruction) -> bool
     }
 }
 
-/// A CALL or a return of values that are counted.
-#[inline(always)]
-fn cross_at(
-    stack: &mut Stack,
-    size: usize,
-    funcs: &Pool<Func>,
-    codes: &Codes,
-    budget: &mut u64,
-    i: Instruction,
-) -> Option<()>
-    requires top { HasLuaTop stack.old }
-    requires codes { HaveCode funcs.now.objects codes.now }
-    ensures crosses { IfSome result (λ _. CallsOrReturns stack.old stack.new size funcs.now.objects codes.now i budget.old budget.new) }
-    ensures kept { IfNone result ((stack.new ≡ stack.old) × (budget.new ≡ budget.old)) }
-    ensures listed { stack.new.open_cells ≡ stack.old.open_cells }
-{
-    match call_at(stack, size, funcs, codes, budget, i) {
-        Some(()) => Some(()),
-        None => return_at(stack, funcs, codes, i),
-    }
-}
-
-/// A CALL.
-#[inline(always)]
-fn call_at(
-    stack: &mut Stack,
-    size: usize,
-    funcs: &Pool<Func>,
-    codes: &Codes,
-    budget: &mut u64,
-    i: Instruction,
-) -> Option<()>
-    requires top { HasLuaTop stack.old }
-    requires codes { HaveCode funcs.now.objects codes.now }
-    ensures calls { IfSome result (λ _. CallsIn stack.old stack.new size funcs.now.objects codes.now i budget.old budget.new) }
-    ensures kept { IfNone result ((stack.new ≡ stack.old) × (budget.new ≡ budget.old)) }
-    ensures listed { stack.new.open_cells ≡ stack.old.open_cells }
-{
-    if !is_call(i) {
-        return None;
-    }
-    let closed = closed_from(stack);
-    call_function(stack, size, funcs, codes, budget, i, closed)
-}
-
-/// A return.
-#[inline(always)]
-fn return_at(stack: &mut Stack, funcs: &Pool<Func>, codes: &Codes, i: Instruction) -> Option<()>
-    requires top { HasLuaTop stack.old }
-    requires codes { HaveCode funcs.now.objects codes.now }
-    ensures returns { IfSome result (λ _. ReturnsIn stack.old stack.new funcs.now.objects codes.now i) }
-    ensures kept { IfNone result (stack.new ≡ stack.old) }
-    ensures listed { stack.new.open_cells ≡ stack.old.open_cells }
-{
-    match return_one(stack, funcs, codes, i) {
-        Some(()) => Some(()),
-        None => return_otherwise(stack, funcs, codes, i),
-    }
-}
-
 /// A RETURN from a frame of which nothing is open: of one value to a frame that wants one, or of none or two.
 #[inline(always)]
-fn return_one(stack: &mut Stack, funcs: &Pool<Func>, codes: &Codes, i: Instruction) -> Option<()>
-    requires top { HasLuaTop stack.old }
-    requires codes { HaveCode funcs.now.objects codes.now }
-    ensures returns { IfSome result (λ _. ReturnsIn stack.old stack.new funcs.now.objects codes.now i) }
+fn return_one(stack: &mut Stack, stop: Stop) -> Option<()>
+    requires { MayLeave stack.old stop }
+    ensures returns { IfSome result (λ _. ReturnsIn stack.old stack.new (program_of stop.entry.functions) stop.entry.word) }
     ensures kept { IfNone result (stack.new ≡ stack.old) }
     ensures listed { stack.new.open_cells ≡ stack.old.open_cells }
 {
-    let count = count_said(i)?;
+    let count = count_said(stop.word)?;
     if count == 1 {
-        return return_single(stack, funcs, codes, i);
+        return return_single(stack, stop);
     }
-    return_few(stack, funcs, codes, i, count)
-}
-
-/// Another return. The opcode is looked at here, so that at all other instructions nothing is called.
-#[inline(always)]
-fn return_otherwise(
-    stack: &mut Stack,
-    funcs: &Pool<Func>,
-    codes: &Codes,
-    i: Instruction,
-) -> Option<()>
-    requires top { HasLuaTop stack.old }
-    requires codes { HaveCode funcs.now.objects codes.now }
-    ensures returns { IfSome result (λ _. ReturnsIn stack.old stack.new funcs.now.objects codes.now i) }
-    ensures kept { IfNone result (stack.new ≡ stack.old) }
-    ensures listed { stack.new.open_cells ≡ stack.old.open_cells }
-{
-    if !may_return(stack, i) {
-        return None;
-    }
-    return_from(stack, funcs, codes, i)
-}
-
-/// Does so.
-#[inline(never)]
-fn return_from(stack: &mut Stack, funcs: &Pool<Func>, codes: &Codes, i: Instruction) -> Option<()>
-    requires top { HasLuaTop stack.old }
-    requires codes { HaveCode funcs.now.objects codes.now }
-    ensures returns { IfSome result (λ _. ReturnsIn stack.old stack.new funcs.now.objects codes.now i) }
-    ensures kept { IfNone result (stack.new ≡ stack.old) }
-    ensures listed { stack.new.open_cells ≡ stack.old.open_cells }
-{
-    let closed = closed_from(stack);
-    return_values(stack, funcs, codes, i, closed)
+    return_few(stack, stop, count)
 }
 
 /// How many values a RETURN returns, where it says so. The compiler writes no other opcode for returns.
@@ -291,117 +261,5 @@ fn is_return(i: Instruction) -> bool {
         Some(Opcode::Return0) => true,
         Some(Opcode::Return1) => true,
         _ => false,
-    }
-}
-
-/// Calls a function, returns to a frame below, or writes extra arguments, where this changes nothing but the stack.
-#[inline(always)]
-pub fn cross(
-    stack: &mut Stack,
-    size: usize,
-    funcs: &Pool<Func>,
-    codes: &Codes,
-    words: &[Instruction],
-    budget: &mut u64,
-    stop: Stop,
-) -> Option<()>
-    requires top { HasLuaTop stack.old }
-    requires codes { HaveCode funcs.now.objects codes.now }
-    requires closed { IfSome stop.closed (λ register. IsClosedFrom stack.old register) }
-    ensures crosses { IfSome result (λ _. CrossesOver stack.old stack.new size funcs.now.objects codes.now words.now stop.pc stop.word budget.old budget.new) }
-    ensures kept { IfNone result ((stack.new ≡ stack.old) × (budget.new ≡ budget.old)) }
-    ensures listed { stack.new.open_cells ≡ stack.old.open_cells }
-{
-    match cross_counted(stack, size, funcs, codes, words, budget, stop) {
-        Some(()) => Some(()),
-        None => spread(stack, size, funcs, codes, words, budget, stop),
-    }
-}
-
-/// Calls a function, returns to a frame below, or writes extra arguments, where no open list is taken.
-fn cross_counted(
-    stack: &mut Stack,
-    size: usize,
-    funcs: &Pool<Func>,
-    codes: &Codes,
-    words: &[Instruction],
-    budget: &mut u64,
-    stop: Stop,
-) -> Option<()>
-    requires top { HasLuaTop stack.old }
-    requires codes { HaveCode funcs.now.objects codes.now }
-    requires closed { IfSome stop.closed (λ register. IsClosedFrom stack.old register) }
-    ensures crosses { IfSome result (λ _. Crosses stack.old stack.new size funcs.now.objects codes.now words.now stop.pc stop.word budget.old budget.new) }
-    ensures kept { IfNone result ((stack.new ≡ stack.old) × (budget.new ≡ budget.old)) }
-    ensures listed { stack.new.open_cells ≡ stack.old.open_cells }
-{
-    match call_or_iterate(stack, size, funcs, codes, budget, stop) {
-        Some(()) => Some(()),
-        None => go_on(stack, funcs, codes, words, budget, stop),
-    }
-}
-
-/// Calls a function, or the iterator of a loop.
-fn call_or_iterate(
-    stack: &mut Stack,
-    size: usize,
-    funcs: &Pool<Func>,
-    codes: &Codes,
-    budget: &mut u64,
-    stop: Stop,
-) -> Option<()>
-    requires top { HasLuaTop stack.old }
-    requires codes { HaveCode funcs.now.objects codes.now }
-    requires closed { IfSome stop.closed (λ register. IsClosedFrom stack.old register) }
-    ensures calls { IfSome result (λ _. CallsOn stack.old stack.new size funcs.now.objects codes.now stop.word budget.old budget.new) }
-    ensures kept { IfNone result ((stack.new ≡ stack.old) × (budget.new ≡ budget.old)) }
-    ensures listed { stack.new.open_cells ≡ stack.old.open_cells }
-{
-    match call_function(stack, size, funcs, codes, budget, stop.word, stop.closed) {
-        Some(()) => Some(()),
-        None => call_iterator(stack, size, funcs, codes, budget, stop.word, stop.closed),
-    }
-}
-
-/// Writes extra arguments, calls a function in place of the frame on top, or returns from it.
-fn go_on(
-    stack: &mut Stack,
-    funcs: &Pool<Func>,
-    codes: &Codes,
-    words: &[Instruction],
-    budget: &mut u64,
-    stop: Stop,
-) -> Option<()>
-    requires top { HasLuaTop stack.old }
-    requires codes { HaveCode funcs.now.objects codes.now }
-    requires closed { IfSome stop.closed (λ register. IsClosedFrom stack.old register) }
-    ensures goes { IfSome result (λ _. GoesOn stack.old stack.new funcs.now.objects codes.now words.now stop.pc stop.word budget.old budget.new) }
-    ensures kept { IfNone result ((stack.new ≡ stack.old) × (budget.new ≡ budget.old)) }
-    ensures listed { stack.new.open_cells ≡ stack.old.open_cells }
-{
-    match write_varargs(stack, words, stop.pc, stop.word) {
-        Some(()) => Some(()),
-        None => leave(stack, funcs, codes, budget, stop),
-    }
-}
-
-/// Calls a function in place of the frame on top, or returns from it.
-fn leave(
-    stack: &mut Stack,
-    funcs: &Pool<Func>,
-    codes: &Codes,
-    budget: &mut u64,
-    stop: Stop,
-) -> Option<()>
-    requires top { HasLuaTop stack.old }
-    requires codes { HaveCode funcs.now.objects codes.now }
-    requires closed { IfSome stop.closed (λ register. IsClosedFrom stack.old register) }
-    ensures leaves { IfSome result (λ _. Leaves stack.old stack.new funcs.now.objects codes.now stop.word budget.old budget.new) }
-    ensures kept { IfNone result ((stack.new ≡ stack.old) × (budget.new ≡ budget.old)) }
-    ensures listed { stack.new.open_cells ≡ stack.old.open_cells }
-{
-    match tail_call_function(stack, funcs, codes, budget, stop.word, stop.closed) {
-        Some(()) => Some(()),
-        None => return_values(stack, funcs, codes, stop.word, stop.closed),
     }
 }

@@ -12,11 +12,13 @@ mod listing;
 mod opening;
 mod returning;
 mod spreading;
+mod stop;
 mod tail_calling;
 
 pub use calling::{may_give_up, register_of, shape_of};
 pub use closing::closed_from;
-pub use crossing::{Stop, cross, cross_over_at};
+pub use crossing::{cross, cross_over_at};
 pub use listing::behind;
 pub use opening::list_taker_of;
 pub use returning::{Given, Taker, first_two, hand, second_of, taker_of};
+pub use stop::{Functions, Stop};

@@ -1,42 +1,30 @@
 // Returns to a Lua frame whose CALL takes all values that come as an open list (luaD_poscall of ldo.c, OP_CALL of lvm.c, where C is 0).
 ghost use Rattle.std.specs.Prelude.{◌≡◌, IfNone, IfSome, true};
 ghost use Rattle.code_core.specs.Instruction.{c_of, opcode_of};
-ghost use Rattle.lua_stack.specs.Frames.{HasLuaTop};
 ghost use Rattle.lua_stack.specs.declared.frame.Wait.TheVariants.{ForCall};
-ghost use Rattle.frame_calls.specs.Calling.{HaveCode, is_call};
+ghost use Rattle.frame_calls.specs.Calling.{HaveCode, MayLeave, is_call, program_of};
 ghost use Rattle.frame_calls.specs.Opening.{IsListTaker, ReturnsList, TakesListIn};
-ghost use Rattle.frame_calls.specs.Standing.{IsClosedFrom};
 
 use crate::returning::{Taker, caller_of, count_returned, hand, is_first, returned_from};
+use crate::stop::{Functions, Stop};
 use code_core::{Instruction, Opcode, fetch};
-use lua_heap::{Codes, Func};
 use lua_stack::{LuaState, Stack, Wait};
-use object_pool::Pool;
 
 /// A return of at most two values to a Lua frame whose CALL takes all that come: they are an open list there, and that frame runs again behind its instruction.
-/// `None`, with all as before, at any other instruction, and where the return takes more than the stack. From the register `closed` on nothing of the frame on top
-/// is open or to be closed.
-pub(crate) fn return_list(
-    stack: &mut Stack,
-    funcs: &Pool<Func>,
-    codes: &Codes,
-    i: Instruction,
-    closed: Option<usize>,
-) -> Option<()>
-    requires top { HasLuaTop stack.old }
-    requires closed { IfSome closed (λ register. IsClosedFrom stack.old register) }
-    requires codes { HaveCode funcs.now.objects codes.now }
-    ensures returns { IfSome result (λ _. ReturnsList stack.old stack.new funcs.now.objects codes.now i) }
+/// `None`, with all as before, at any other instruction, and where the return takes more than the stack.
+pub(crate) fn return_list(stack: &mut Stack, stop: Stop) -> Option<()>
+    requires { MayLeave stack.old stop }
+    ensures returns { IfSome result (λ _. ReturnsList stack.old stack.new (program_of stop.entry.functions) stop.entry.word) }
     ensures kept { IfNone result (stack.new ≡ stack.old) }
     ensures listed { stack.new.open_cells ≡ stack.old.open_cells }
 {
-    let count = count_returned(i)?;
-    if !is_first(closed) {
+    let count = count_returned(stop.word)?;
+    if !is_first(stop.closed) {
         return None;
     }
-    let given = returned_from(stack.registers(), i.a() as usize, count)?;
+    let given = returned_from(stack.registers(), stop.word.a() as usize, count)?;
     let caller = caller_of(stack)?;
-    let taker = list_taker_of(funcs, codes, caller, count)?;
+    let taker = list_taker_of(stop.functions, caller, count)?;
     stack.pop();
     hand(stack, taker, given);
     stack.set_opened(count);
@@ -44,19 +32,16 @@ pub(crate) fn return_list(
 }
 
 /// What a frame that waits takes of so many values, where it takes all.
-pub fn list_taker_of(
-    funcs: &Pool<Func>,
-    codes: &Codes,
-    caller: LuaState,
-    count: usize,
-) -> Option<Taker>
-    requires { HaveCode funcs.now.objects codes.now }
-    ensures { IfSome result (λ t. TakesListIn funcs.now.objects codes.now caller count t) }
+pub fn list_taker_of(functions: Functions, caller: LuaState, count: usize) -> Option<Taker>
+    requires { HaveCode (program_of functions) }
+    ensures { IfSome result (λ t. TakesListIn (program_of functions.entry) caller count t) }
 {
-    if caller.function.0 >= funcs.len() {
+    if caller.function.0 >= functions.funcs.len() {
         return None;
     }
-    let code = codes.get(funcs.get(caller.function.0).code);
+    let code = functions
+        .codes
+        .get(functions.funcs.get(caller.function.0).code);
     list_taker_in(&code.words, caller, count)
 }
 

@@ -3,18 +3,16 @@
 ghost use Rattle.std.specs.Prelude.{◌≡◌, ◌+◌, ◌<◌, ◌≤◌, length, map, [], ◌∷◌, IfNone, IfSome, Some, slice_get, true};
 ghost use Rattle.code_core.specs.Instruction.{b_of, opcode_of};
 ghost use Rattle.int_core.specs.Value.{range, write_all};
-ghost use Rattle.lua_stack.specs.Frames.{HasLuaTop, HasRegisters, TopBecomes, with_registers};
+ghost use Rattle.lua_stack.specs.Frames.{HasRegisters, TopBecomes, with_registers};
 ghost use Rattle.table_core.specs.declared.value.Value.TheVariants.{Nil};
 ghost use Rattle.lua_stack.specs.declared.frame.Wait.TheVariants.{Dropped, ForCall, ForIterator, ForValue};
-ghost use Rattle.frame_calls.specs.Calling.{HaveCode};
+ghost use Rattle.frame_calls.specs.Calling.{HaveCode, MayLeave, program_of};
 ghost use Rattle.frame_calls.specs.Returning.{AreFirst, GivesBack, HasKept, IsCaller, IsGiven, IsInFront, IsTaker, ReadsAt, ReturnsIn, TakesIn, Wants, WantsAnywhere, count_of, is_operator, taken};
-ghost use Rattle.frame_calls.specs.Standing.{IsClosedFrom};
 
 use crate::calling::{is_call, one_less, register_of};
+use crate::stop::{Functions, Stop};
 use code_core::{Instruction, Opcode, fetch};
-use lua_heap::{Codes, Func};
 use lua_stack::{LuaState, Stack, Wait};
-use object_pool::Pool;
 use table_core::Value;
 
 /// What the instruction wants at which a frame waits: at most two values, in registers, and where it goes on.
@@ -33,50 +31,32 @@ pub struct Given {
 }
 
 /// A return to a Lua frame whose CALL or TFORCALL wants at most two values, or that waits for a handler of a value, an operator or a store: that frame runs again,
-/// after its instruction. `None`, with all as before, at any other instruction, where more are wanted, and where the return takes more than the stack. From the
-/// register `closed` on nothing of the frame on top is open or to be closed.
+/// after its instruction. `None`, with all as before, at any other instruction, where more are wanted, and where the return takes more than the stack.
 #[inline(always)]
-pub(crate) fn return_values(
-    stack: &mut Stack,
-    funcs: &Pool<Func>,
-    codes: &Codes,
-    i: Instruction,
-    closed: Option<usize>,
-) -> Option<()>
-    requires top { HasLuaTop stack.old }
-    requires closed { IfSome closed (λ register. IsClosedFrom stack.old register) }
-    requires codes { HaveCode funcs.now.objects codes.now }
-    ensures returns { IfSome result (λ _. ReturnsIn stack.old stack.new funcs.now.objects codes.now i) }
+pub(crate) fn return_values(stack: &mut Stack, stop: Stop) -> Option<()>
+    requires { MayLeave stack.old stop }
+    ensures returns { IfSome result (λ _. ReturnsIn stack.old stack.new (program_of stop.entry.functions) stop.entry.word) }
     ensures kept { IfNone result (stack.new ≡ stack.old) }
     ensures listed { stack.new.open_cells ≡ stack.old.open_cells }
 {
-    let count = count_returned(i)?;
-    return_counted(stack, funcs, codes, i, count, closed)
+    let count = count_returned(stop.word)?;
+    return_counted(stack, stop, count)
 }
 
 /// The return of so many values from the register that the instruction names.
 #[inline(always)]
-pub(crate) fn return_counted(
-    stack: &mut Stack,
-    funcs: &Pool<Func>,
-    codes: &Codes,
-    i: Instruction,
-    count: usize,
-    closed: Option<usize>,
-) -> Option<()>
-    requires top { HasLuaTop stack.old }
-    requires closed { IfSome closed (λ register. IsClosedFrom stack.old register) }
-    requires codes { HaveCode funcs.now.objects codes.now }
-    ensures gives { IfSome result (λ _. GivesBack stack.old stack.new funcs.now.objects codes.now i count) }
+pub(crate) fn return_counted(stack: &mut Stack, stop: Stop, count: usize) -> Option<()>
+    requires { MayLeave stack.old stop }
+    ensures gives { IfSome result (λ _. GivesBack stack.old stack.new (program_of stop.entry.functions) stop.entry.word count) }
     ensures kept { IfNone result (stack.new ≡ stack.old) }
     ensures listed { stack.new.open_cells ≡ stack.old.open_cells }
 {
-    if !is_first(closed) {
+    if !is_first(stop.closed) {
         return None;
     }
-    let given = returned_from(stack.registers(), i.a() as usize, count)?;
+    let given = returned_from(stack.registers(), stop.word.a() as usize, count)?;
     let caller = caller_of(stack)?;
-    let taker = taker_of(funcs, codes, caller)?;
+    let taker = taker_of(stop.functions, caller)?;
     stack.pop();
     hand(stack, taker, given);
     Some(())
@@ -84,16 +64,10 @@ pub(crate) fn return_counted(
 
 /// The return of one value to a frame that wants one, as most returns are: the value is read and written as it stands.
 #[inline(always)]
-pub(crate) fn return_single(
-    stack: &mut Stack,
-    funcs: &Pool<Func>,
-    codes: &Codes,
-    i: Instruction,
-) -> Option<()>
-    requires top { HasLuaTop stack.old }
-    requires says { count_of (opcode_of i) (b_of i) ≡ Some 1 }
-    requires codes { HaveCode funcs.now.objects codes.now }
-    ensures returns { IfSome result (λ _. ReturnsIn stack.old stack.new funcs.now.objects codes.now i) }
+pub(crate) fn return_single(stack: &mut Stack, stop: Stop) -> Option<()>
+    requires may { MayLeave stack.old stop }
+    requires says { count_of (opcode_of stop.word) (b_of stop.word) ≡ Some 1 }
+    ensures returns { IfSome result (λ _. ReturnsIn stack.old stack.new (program_of stop.entry.functions) stop.entry.word) }
     ensures kept { IfNone result (stack.new ≡ stack.old) }
     ensures listed { stack.new.open_cells ≡ stack.old.open_cells }
 {
@@ -101,14 +75,14 @@ pub(crate) fn return_single(
     if !bare {
         return None;
     }
-    let register = i.a() as usize;
+    let register = stop.word.a() as usize;
     let registers = stack.registers();
     if register >= registers.len() {
         return None;
     }
     let value = value_in(registers, register);
     let caller = caller_of(stack)?;
-    let taker = taker_of(funcs, codes, caller)?;
+    let taker = taker_of(stop.functions, caller)?;
     let one = wants_one(taker);
     if !one {
         return None;
@@ -121,17 +95,10 @@ pub(crate) fn return_single(
 /// The return of so many values from a frame of which nothing is open or to be closed: of none, as most functions end that are called for what they do, or of the two
 /// that an iterator gives.
 #[inline(always)]
-pub(crate) fn return_few(
-    stack: &mut Stack,
-    funcs: &Pool<Func>,
-    codes: &Codes,
-    i: Instruction,
-    count: usize,
-) -> Option<()>
-    requires top { HasLuaTop stack.old }
-    requires says { count_of (opcode_of i) (b_of i) ≡ Some count }
-    requires codes { HaveCode funcs.now.objects codes.now }
-    ensures returns { IfSome result (λ _. ReturnsIn stack.old stack.new funcs.now.objects codes.now i) }
+pub(crate) fn return_few(stack: &mut Stack, stop: Stop, count: usize) -> Option<()>
+    requires may { MayLeave stack.old stop }
+    requires says { count_of (opcode_of stop.word) (b_of stop.word) ≡ Some count }
+    ensures returns { IfSome result (λ _. ReturnsIn stack.old stack.new (program_of stop.entry.functions) stop.entry.word) }
     ensures kept { IfNone result (stack.new ≡ stack.old) }
     ensures listed { stack.new.open_cells ≡ stack.old.open_cells }
 {
@@ -139,7 +106,14 @@ pub(crate) fn return_few(
     if !bare {
         return None;
     }
-    return_counted(stack, funcs, codes, i, count, Some(0))
+    return_counted(
+        stack,
+        Stop {
+            closed: Some(0),
+            ..stop
+        },
+        count,
+    )
 }
 
 /// The value of a register that is there.
@@ -239,14 +213,16 @@ pub(crate) fn caller_of(stack: &Stack) -> Option<LuaState>
 
 /// What a frame that waits wants.
 #[inline(always)]
-pub fn taker_of(funcs: &Pool<Func>, codes: &Codes, caller: LuaState) -> Option<Taker>
-    requires { HaveCode funcs.now.objects codes.now }
-    ensures { IfSome result (λ t. TakesIn funcs.now.objects codes.now caller t) }
+pub fn taker_of(functions: Functions, caller: LuaState) -> Option<Taker>
+    requires { HaveCode (program_of functions) }
+    ensures { IfSome result (λ t. TakesIn (program_of functions.entry) caller t) }
 {
-    if caller.function.0 >= funcs.len() {
+    if caller.function.0 >= functions.funcs.len() {
         return None;
     }
-    let code = codes.get(funcs.get(caller.function.0).code);
+    let code = functions
+        .codes
+        .get(functions.funcs.get(caller.function.0).code);
     taker_in(&code.words, caller)
 }
 

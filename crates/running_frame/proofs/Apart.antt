@@ -36,7 +36,7 @@ use Rattle.machine_moves.proofs.OfCode.{function_kept, code_is}
 use Rattle.step_laws.specs.Steps.{IsReady}
 use Rattle.step_laws.proofs.Ready.{ready_by_fuel}
 use Rattle.running_frame.specs.declared.place.Here.{Here}
-use Rattle.frame_calls.specs.Calling.{AreFunctions}
+use Rattle.frame_calls.specs.Calling.{AreFunctions, program_in}
 use Rattle.running_frame.specs.Here.{is_none, IsHere}
 use Rattle.frame_calls.specs.Standing.{standing, MayRun}
 use Rattle.running_frame.specs.Apart.{IsHereIn, apart, IsApart}
@@ -202,7 +202,7 @@ module _ (primitives : ℕ) (W : Memory) (after : SoundAfter primitives go (plai
   code_within : (n : ℕ) (f : Func) → slice_get W.funcs.objects n ≡ Some f → f.code.0 < length (functions W.codes)
   code_within n f e = law (functions W.codes) f.code.0 (after.sound.solid.functions n (machine_function f) (function_at n f e)).code
 
-  pub are_functions : AreFunctions (plain W 0).functions W.funcs.objects W.codes
+  pub are_functions : AreFunctions (plain W 0).functions (program_in W)
   are_functions = record {
     have = record { code_there = λ n f e. let l = code_within n f e in let k = order.codes.count in omega (arith, l, k) };
     known = λ n f code e c.

@@ -79,8 +79,8 @@ module _ (n : Ground) (texts : List (List ℕ)) (funcs : Pool Func) (codes : Cod
       pub code_within : f.code.0 < length codes.list.items
       code_within = number_there g now apart_so id f number there law
 
-      pub functions_so : AreFunctions g.around.context.base.functions funcs.objects codes
-      functions_so = subst (λ (g : Running). AreFunctions g.around.context.base.functions funcs.objects codes) (sym apart_so.held) (are_functions (length all_entries) now m.ready.after m.ready.order law)
+      pub functions_so : AreFunctions g.around.context.base.functions (record { funcs = funcs.objects; codes = codes })
+      functions_so = subst (λ (g : Running). AreFunctions g.around.context.base.functions (record { funcs = funcs.objects; codes = codes })) (sym apart_so.held) (are_functions (length all_entries) now m.ready.after m.ready.order law)
 
       module _ (code : Code) (at : slice_get codes.list.items f.code.0 ≡ Some code) where
         pub size_so : code.stack ≡ g.around.context.closure.code.own.stack

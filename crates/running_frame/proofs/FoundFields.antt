@@ -39,9 +39,9 @@ use Rattle.lua_heap.specs.Reading.{value}
 use Rattle.machine_arms_tables.specs.Frame.{Code, IsReadyAt, Moment, RunsTo, moment}
 use Rattle.machine_arms_tables.proofs.Steps.{at_opcode}
 use Rattle.machine_loop.specs.Running.{Running}
-use Rattle.running_frame.specs.Inheriting.{Finds, GoesAmid, GoesWith}
+use Rattle.running_frame.specs.Inheriting.{Finds, GoesAmid, GoesWith, RunsWith}
 use Rattle.frame_calls.specs.Standing.{RunsAt}
-use Rattle.running_frame.specs.Upvalues.{GoesOver}
+use Rattle.running_frame.specs.Upvalues.{GoesOver, RunsOver}
 use Rattle.frame_calls.proofs.FrameRows.{own_runs, row_is}
 use Rattle.running_frame.proofs.OnStack.{round_reaches, round_runs}
 use Rattle.running_frame.proofs.OpenRead.{ready_at}
@@ -199,6 +199,15 @@ module _ (g : Running) (k : Code) (s : KeptStack) (ts : List Contents) (pc : ℕ
 -- what is found among the strings of the frame's world
 pub finds_here : (texts texts' : List (List ℕ)) (ts : List Contents) (meta meta' : Option ℕ) (object key v : Kept) → texts ≡ texts' → meta' ≡ meta → Finds texts' ts meta' object key v → Finds texts ts meta object key v
 finds_here texts texts' ts meta meta' object key v e f d = subst (λ meta. Finds texts ts meta object key v) f (subst (λ texts. Finds texts ts meta' object key v) (sym e) d)
+
+-- what runs over some tables, with the strings by their other name
+pub over_runs : {g : Running} {words : List Instruction} {constants : List Kept} {upvalues : List CellId} {texts : List (List ℕ)} {s : KeptStack} {ts : List Contents} {cs : List KeptCell} {pc : ℕ}
+    → RunsWith g (record { words = words; constants = constants; upvalues = upvalues; texts = texts }) s ts cs pc → RunsOver g (record { words = words; constants = constants; upvalues = upvalues; texts = g.around.texts }) s cs pc
+over_runs {g} {words} {constants} {upvalues} {s = s} {ts = ts} {cs = cs} {pc = pc} x = record {
+  tables = ts;
+  fuel = x.fuel;
+  runs = subst (λ texts. RunsAt g (record { words = words; constants = constants; upvalues = upvalues; texts = texts }) s ts cs x.fuel pc) (sym x.runs.may.closure.texts_are) x.runs;
+}
 
 -- what leads on whatever the tables are, or whatever the cells are
 

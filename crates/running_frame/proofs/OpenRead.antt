@@ -1,5 +1,5 @@
 -- GETUPVAL of a variable that stands in a register of the same coroutine is a step that changes a register of the frame on top alone.
-use Rattle.std.proofs.Common.{◌≡◌, ℕ, ◌+◌, List, [], length, map, Option, Some, None, refl, ap, sym, subst, ◌∙◌, arith, true}
+use Rattle.std.proofs.Common.{◌≡◌, ℕ, ◌+◌, List, [], length, map, Option, Some, None, refl, ap, sym, subst, ◌∙◌, true}
 use Rattle.std.specs.Prelude.{slice_get, slice_set}
 use Rattle.code_core.specs.Check.{at}
 use Rattle.code_core.specs.Instruction.{a_of, b_of, opcode_of}

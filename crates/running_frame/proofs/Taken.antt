@@ -1,11 +1,11 @@
 -- A Lua frame that waits for a call and takes at most two values, or all as an open list: that it goes on with what moves is a step of the machine.
-use Rattle.std.proofs.Common.{◌≡◌, inl, inr, ℕ, zero, suc, ◌+◌, ◌<◌, ◌≤◌, List, [], ◌∷◌, ◌++◌, length, map, Some, None, refl, ap, sym, ◌∙◌, arith, true}
+use Rattle.std.proofs.Common.{◌≡◌, inl, inr, ℕ, ◌+◌, ◌<◌, ◌≤◌, List, [], ◌∷◌, ◌++◌, length, map, Some, refl, ap, sym, ◌∙◌, arith, true}
 use Rattle.std.specs.Prelude.{nat_le, nat_lt, slice_get}
 use Rattle.std.proofs.lemmas.List.{length-map}
 use Rattle.code_core.specs.Check.{at}
 use Rattle.code_core.specs.Instruction.{a_of}
 use Rattle.code_core.specs.declared.instruction.Instruction.{Instruction}
-use Rattle.int_core.specs.Value.{Value, known, nil, nth, range, write_all}
+use Rattle.int_core.specs.Value.{Value, known, nil, range, write_all}
 use Rattle.machine_core.specs.World.{Function, Wait, for_call, running, LuaFrame, Frame, lua, Place, World, put_frames}
 use Rattle.machine_core.specs.Text.{behind}
 use Rattle.machine_core.specs.Moves.{go, Row, ends}
@@ -16,7 +16,6 @@ use Rattle.machine_sound.proofs.Values.{le_true, lt_true}
 use Rattle.table_core.specs.declared.value.CoroId.{CoroId}
 use Rattle.table_core.specs.declared.value.FuncId.{FuncId}
 use Rattle.table_core.specs.declared.value.Value.{Value as Kept}
-use Rattle.table_core.specs.declared.value.Value.TheVariants.{Nil}
 use Rattle.lua_stack.specs.declared.frame.LuaState.{LuaState}
 use Rattle.lua_stack.specs.declared.frame.Wait.{Wait as KeptWait}
 use Rattle.lua_stack.specs.Frames.{HasLuaTop, KeptStack, OnTop, TopBecomes, frame_of, frames, lua_of, wait_of, with_opened}
@@ -31,7 +30,7 @@ use Rattle.move_laws.proofs.Places.{place_is}
 use Rattle.move_laws.proofs.Running.{Shown, changed_stack_is_put, shown}
 use Rattle.step_laws.specs.Steps.{IsReady}
 use Rattle.step_laws.proofs.Ready.{go_has_frame}
-use Rattle.frame_calls.specs.Calling.{AreFunctions, KnownFunction}
+use Rattle.frame_calls.specs.Calling.{AreFunctions, KnownFunction, program_in}
 use Rattle.frame_calls.specs.declared.returning.Given.{Given}
 use Rattle.frame_calls.specs.declared.returning.Taker.{Taker}
 use Rattle.frame_calls.specs.Opening.{IsListTaker}
@@ -107,7 +106,7 @@ module _ (n : ℕ) (W : Memory) (ready : IsReady n go W) (law : CheckedCodeIsThe
 
   -- its CALL
 
-  functions_are : AreFunctions (plain W 0).functions W.funcs.objects W.codes
+  functions_are : AreFunctions (plain W 0).functions (program_in W)
   functions_are = are_functions n W ready.after ready.order law
 
   abbrev words : List Instruction
@@ -262,7 +261,7 @@ module _ (n : ℕ) (W : Memory) (ready : IsReady n go W) (law : CheckedCodeIsThe
   pub taken_reaches : (rows : ℕ → Row) (fuel : ℕ) → Reaches rows (plain W fuel) (plain V fuel)
   taken_reaches rows fuel = by x.takes
     where
-      by : TakesSo x.stack x.after W.funcs.objects W.codes g count → Reaches rows (plain W fuel) (plain V fuel)
+      by : TakesSo x.stack x.after (program_in W) g count → Reaches rows (plain W fuel) (plain V fuel)
       by (inl t) =
           values_reach n W ready law x.co x.stack x.runs t.caller t.waits t.takes.func t.takes.code t.takes.func_there t.takes.code_there fuel U V x.after x.changes rest still g first t.taker t.takes.takes t.hands rows
       by (inr t) =

@@ -13,9 +13,7 @@ use Rattle.table_core.specs.declared.value.FuncId.{FuncId}
 use Rattle.table_core.specs.declared.value.Value.{Value as Kept}
 use Rattle.table_core.specs.declared.value.Value.TheVariants.{Nil, Func as a_func}
 use Rattle.lua_stack.specs.Frames.{Enters, KeptStack, OnTop, TopBecomes, frames, with_wait}
-use Rattle.lua_heap.specs.declared.codes.Codes.{Codes}
 use Rattle.lua_heap.specs.declared.world.Cell.{Cell}
-use Rattle.lua_heap.specs.declared.world.Func.{Func}
 use Rattle.lua_heap.specs.Plain.{heap}
 use Rattle.lua_heap.specs.Reading.{value}
 use Rattle.machine_arms_tables.specs.Frame.{Code}
@@ -26,7 +24,8 @@ use Rattle.meta_ops.specs.declared.event.Event.TheVariants.{Add, Sub, Mul, Mod, 
 use Rattle.running_frame.specs.declared.asking.Asked.{Asked}
 use Rattle.running_frame.specs.declared.asking.Kind.{Kind}
 use Rattle.running_frame.specs.declared.asking.Kind.TheVariants.{Read, Operator}
-use Rattle.frame_calls.specs.Calling.{HasShapeIn}
+use Rattle.frame_calls.specs.declared.stop.Stop.{Stop}
+use Rattle.frame_calls.specs.Calling.{HasShapeIn, Program, program_of}
 use Rattle.running_frame.specs.Storing.{StoresOpen}
 
 -- the operators by the numbers that MMBIN tells, from 6 on
@@ -55,7 +54,7 @@ abbrev pub AsksFor : List (List ℕ) → List Contents → (string_metatable : O
 AsksFor texts tables meta operation object key id first = does operation (value texts object ∷ value texts key ∷ []) (heap texts tables meta) ≡ ask (value texts (a_func id)) (value texts first ∷ value texts key ∷ [])
 
 -- for what an instruction of the frame on top asks this is called
-pub record IsAsked (s : KeptStack) (texts : List (List ℕ)) (constants : List Kept) (tables : List Contents) (meta : Option ℕ) (funcs : List Func) (codes : Codes) (w : Instruction) (call : Asked) : Type 0 where
+pub record IsAsked (s : KeptStack) (texts : List (List ℕ)) (constants : List Kept) (tables : List Contents) (meta : Option ℕ) (program : Program) (w : Instruction) (call : Asked) : Type 0 where
   pub registers : List Kept
   pub are : OnTop s (λ f t. map f registers ≡ t.own.registers)
   pub object : Kept
@@ -63,7 +62,7 @@ pub record IsAsked (s : KeptStack) (texts : List (List ℕ)) (constants : List K
   pub operation : Operation
   pub is_operation : operation_at (opcode_of w) (c_of w) ≡ Some operation
   pub asks : AsksFor texts tables meta operation object call.key call.id call.first
-  pub has : HasShapeIn funcs codes call.id call.shape
+  pub has : HasShapeIn program call.id call.shape
   pub room : length s.frames + 1 ≤ greatest_depth
 
 -- the frame on top waits for a value, and the function's frame is over it
@@ -73,9 +72,9 @@ pub record EntersOver (s u : KeptStack) (call : Asked) : Type 0 where
   pub enters : Enters waiting u call.id call.shape (call.first ∷ call.key ∷ [])
 
 -- all this for a unit of the budget
-pub record AsksOver (s u : KeptStack) (texts : List (List ℕ)) (constants : List Kept) (tables : List Contents) (meta : Option ℕ) (funcs : List Func) (codes : Codes) (w : Instruction) (fuel left : ℕ) : Type 0 where
+pub record AsksOver (s u : KeptStack) (texts : List (List ℕ)) (constants : List Kept) (tables : List Contents) (meta : Option ℕ) (program : Program) (w : Instruction) (fuel left : ℕ) : Type 0 where
   pub call : Asked
-  pub is : IsAsked s texts constants tables meta funcs codes w call
+  pub is : IsAsked s texts constants tables meta program w call
   pub paid : fuel ≡ suc left
   pub enters : EntersOver s u call
 
@@ -84,6 +83,6 @@ pub record ReadSame (s u : KeptStack) : Type 0 where
   pub frames_are : (f : Kept → Value) → f Nil ≡ known nil → (below : List Frame) (t : LuaFrame) → t.wait ≡ running → frames f s ≡ below ++ lua t ∷ [] → frames f u ≡ below ++ lua t ∷ []
 
 -- a store to a variable of a frame below, or such a read
-abbrev pub ReachesOut : (co : ℕ) → Code → (s u : KeptStack) → List Contents → (meta : Option ℕ) → List Cell → List Func → Codes → (pc : ℕ) → Instruction → (fuel left : ℕ) → Type 0
-ReachesOut co k s u tables meta cells funcs codes pc w fuel left =
-    (StoresOpen co k.upvalues k.words s u cells pc w × (left ≡ fuel)) ⊎ AsksOver s u k.texts k.constants tables meta funcs codes w fuel left
+abbrev pub ReachesOut : (co : ℕ) → Code → (s u : KeptStack) → List Contents → (meta : Option ℕ) → List Cell → Stop → (fuel left : ℕ) → Type 0
+ReachesOut co k s u tables meta cells stop fuel left =
+    (StoresOpen co k.upvalues stop.words.now s u cells stop.pc stop.word × (left ≡ fuel)) ⊎ AsksOver s u k.texts k.constants tables meta (program_of stop.functions) stop.word fuel left

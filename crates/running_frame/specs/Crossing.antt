@@ -1,6 +1,5 @@
 -- The stack of the coroutine that runs, apart from the world in memory, while frame after frame of it runs.
-use Rattle.std.specs.Prelude.{◌≡◌, ◌⊎◌, ℕ, List, [], Option, Some, None, length, slice_get, slice_set}
-use Rattle.code_core.specs.declared.instruction.Instruction.{Instruction}
+use Rattle.std.specs.Prelude.{◌≡◌, ◌⊎◌, ℕ, List, [], Option, Some, None, length, slice_set}
 use Rattle.int_core.specs.Value.{last}
 use Rattle.machine_core.specs.Moves.{go, Row}
 use Rattle.machine_sound.specs.Laws.{PrimitivesSafe}
@@ -17,14 +16,24 @@ use Rattle.lua_heap.specs.declared.world.Func.{Func}
 use Rattle.lua_heap.specs.declared.world.World.{World as Memory}
 use Rattle.move_laws.specs.Memory.{Runs}
 use Rattle.step_laws.specs.Steps.{IsReady}
-use Rattle.frame_calls.specs.Spreading.{CrossesOver}
+use Rattle.machine_loop.specs.Running.{Running}
+use Rattle.frame_calls.specs.declared.stop.Stop.{Stop}
+use Rattle.frame_calls.specs.Calling.{AreFunctions, program_of}
+use Rattle.frame_calls.specs.Crossing.{CrossesAt}
+use Rattle.running_frame.specs.declared.surroundings.Surroundings.{Surroundings}
+use Rattle.running_frame.specs.Inheriting.{metatable_number}
 use Rattle.running_frame.specs.Storing.{StoresOpen}
 
--- the word at a place of the code is a call, a return, a VARARG, or a store to a variable of a frame below, and that is done
-pub record LeavesFrame (co : ℕ) (upvalues : List CellId) (words : List Instruction) (s u : KeptStack) (cells : List Cell) (size : ℕ) (funcs : List Func) (codes : Codes) (pc fuel left : ℕ) : Type 0 where
-  pub word : Instruction
-  pub at_pc : slice_get words pc ≡ Some word
-  pub leaves : CrossesOver s u size funcs codes words pc word fuel left ⊎ (StoresOpen co upvalues words s u cells pc word × (left ≡ fuel))
+-- at the instruction where a frame stops there is a call, a return, a VARARG, or a store to a variable of a frame below, and that is done
+abbrev pub LeavesFrame : (co : ℕ) → List CellId → (s u : KeptStack) → List Cell → Stop → (fuel left : ℕ) → Type 0
+LeavesFrame co upvalues s u cells stop fuel left = CrossesAt s u stop fuel left ⊎ (StoresOpen co upvalues stop.words.now s u cells stop.pc stop.word × (left ≡ fuel))
+
+-- what frames share is that of the world in which one is held apart, and its code wants so many registers
+pub record IsAround (g : Running) (around : Surroundings) (size : ℕ) : Type 0 where
+  pub functions : AreFunctions g.around.context.base.functions (program_of around.functions)
+  pub wants : size ≡ g.around.context.closure.code.own.stack
+  pub own : around.co.0 ≡ g.around.context.coroutine
+  pub meta : metatable_number around.string_meta ≡ g.string_metatable
 
 -- rows of the library, and the world in which the stack was found
 pub record Ground : Type 0 where
@@ -43,6 +52,9 @@ runs_on n = one_or_any (last n.world.chain.items)
 abbrev pub world_with : Ground → KeptStack → List (List ℕ) → Pool Func → Codes → Pool Contents → Pool Cell → Memory
 world_with n s texts funcs codes tables cells =
     record n.world { strings = texts; funcs = funcs; codes = codes; tables = tables; cells = cells; coros = record n.world.coros { objects = slice_set n.world.coros.objects (runs_on n).0 (CoroRuns s) } }
+
+abbrev pub world_around : Ground → KeptStack → Surroundings → Pool Contents → Pool Cell → Memory
+world_around n s around tables cells = world_with n s around.strings.now around.functions.funcs.now around.functions.codes.now tables cells
 
 -- it is ready for the next step, nothing moves in it, and this is the stack that runs
 pub record MayCross (n : Ground) (W : Memory) (s : KeptStack) : Type 0 where

@@ -11,13 +11,12 @@ use Rattle.table_core.specs.declared.value.TableId.{TableId}
 use Rattle.table_core.specs.declared.value.Value.{Value as Kept}
 use Rattle.table_core.specs.declared.value.Value.TheVariants.{Table}
 use Rattle.lua_stack.specs.Frames.{KeptStack, OnTop, TopBecomes, with_opened, with_pc, with_registers}
-use Rattle.lua_heap.specs.declared.codes.Codes.{Codes}
 use Rattle.lua_heap.specs.declared.world.Cell.{Cell}
-use Rattle.lua_heap.specs.declared.world.Func.{Func}
 use Rattle.lua_heap.specs.Plain.{heap}
 use Rattle.lua_heap.specs.Reading.{value as meant}
 use Rattle.lua_heap.specs.Strings.{AreApart, AreShort}
 use Rattle.machine_arms_tables.specs.Frame.{Code}
+use Rattle.frame_calls.specs.declared.stop.Stop.{Stop}
 use Rattle.running_frame.specs.Asking.{ReachesOut}
 
 abbrev pub is_set_list : Option Opcode → Bool
@@ -45,6 +44,6 @@ pub record FillsOne (s u : KeptStack) (ts ts' : List Contents) (size : ℕ) (wor
   pub becomes : TopBecomes s u (λ f t. with_pc (pc + 1) (with_opened 0 (with_registers (take size t.own.registers) t)))
 
 -- or what changes no table, for a unit of the budget or none
-abbrev pub WritesOn : (co : ℕ) → Code → (s u : KeptStack) → (ts ts' : List Contents) → (meta : Option ℕ) → List Cell → List Func → Codes → (size pc : ℕ) → Instruction → (fuel left : ℕ) → Type 0
-WritesOn co k s u ts ts' meta cells funcs codes size pc w fuel left =
-    (ReachesOut co k s u ts meta cells funcs codes pc w fuel left × (ts' ≡ ts)) ⊎ (FillsOne s u ts ts' size k.words pc w × (left ≡ fuel))
+abbrev pub WritesOn : (co : ℕ) → Code → (s u : KeptStack) → (ts ts' : List Contents) → (meta : Option ℕ) → List Cell → Stop → (fuel left : ℕ) → Type 0
+WritesOn co k s u ts ts' meta cells stop fuel left =
+    (ReachesOut co k s u ts meta cells stop fuel left × (ts' ≡ ts)) ⊎ (FillsOne s u ts ts' stop.size stop.words.now stop.pc stop.word × (left ≡ fuel))

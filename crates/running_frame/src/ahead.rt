@@ -15,8 +15,10 @@ ghost use Rattle.running_frame.specs.Apart.{IsApart};
 use crate::crossing::cross_stack;
 use crate::frames::run_frame_on_top;
 use crate::place::{Here, find_here};
+use crate::surroundings::{Body, Surroundings};
 use crate::taking::is_taken;
 use code_core::Opcode;
+use frame_calls::Functions;
 use lua_heap::law::checked_code_is_there;
 use lua_heap::{Coro, World};
 use machine_arms_tables::Closure;
@@ -101,17 +103,18 @@ fn cross_running(world: &mut World, budget: &mut u64)
 {
     let co = running(world);
     match world.coros.get_mut(co.0) {
-        Coro::Running(stack) => cross_stack(
-            stack,
-            co,
-            &world.strings,
-            &world.funcs,
-            &world.codes,
-            &mut world.tables,
-            &mut world.cells,
-            budget,
-            world.string_meta,
-        ),
+        Coro::Running(stack) => {
+            let around = Surroundings {
+                functions: Functions {
+                    funcs: &world.funcs,
+                    codes: &world.codes,
+                },
+                strings: &world.strings,
+                co,
+                string_meta: world.string_meta,
+            };
+            cross_stack(stack, &around, &mut world.tables, &mut world.cells, budget)
+        }
         _ => unreachable!(),
     }
 }
@@ -152,18 +155,23 @@ fn run_top(world: &mut World, budget: &mut u64) -> Option<Here>
                 constants: &code.constants,
                 upvalues: &function.cells,
             };
+            let size = code.stack as usize;
+            let around = Surroundings {
+                functions: Functions {
+                    funcs: &world.funcs,
+                    codes: &world.codes,
+                },
+                strings: &world.strings,
+                co,
+                string_meta: world.string_meta,
+            };
             run_frame_on_top(
                 stack,
-                closure,
-                code.stack as usize,
-                &world.strings,
-                &world.funcs,
-                &world.codes,
+                Body { closure, size },
+                around,
                 &mut world.tables,
                 &mut world.cells,
                 budget,
-                co,
-                world.string_meta,
             )
         }
         _ => unreachable!(),

@@ -10,16 +10,14 @@ ghost use Rattle.meta_ops.specs.Events.{event_of};
 ghost use Rattle.meta_ops.specs.Heap.{IsThere, heap_of};
 ghost use Rattle.meta_ops.specs.Outcome.{settled};
 ghost use Rattle.running_frame.specs.Asking.{AsksFor, AsksOver, EntersOver, IsAsked, Names, ReadSame, handled_events, operation_at, operation_of};
-ghost use Rattle.frame_calls.specs.Calling.{HaveCode};
+ghost use Rattle.frame_calls.specs.Calling.{MayLeave, program_of};
 ghost use Rattle.running_frame.specs.Inheriting.{metatable_number};
 
 use code_core::{Instruction, Opcode};
-use frame_calls::{register_of, shape_of};
-use lua_heap::{Codes, Func, Strings};
+use frame_calls::{Stop, register_of, shape_of};
 use lua_stack::{GREATEST_DEPTH, Shape, Stack, Wait};
 use meta_ops::{Event, Heap, Outcome, arithmetic, index_of};
-use object_pool::Pool;
-use table_core::{FuncId, Table, TableId, Value};
+use table_core::{FuncId, Value};
 
 /// The operators whose handlers MMBIN asks for, from the number of `__add` on, each where its number is (ltm.h of Lua 5.4). Two are of floats, and stand for none.
 const EVENTS: [Event; 12] = [
@@ -71,58 +69,34 @@ pub(crate) struct Asked {
 /// for its value. `None` at any other instruction, and where the call takes more than the stack: all reads as before.
 pub(crate) fn ask_over(
     stack: &mut Stack,
+    stop: Stop,
     constants: &[Value],
-    strings: &Strings,
-    tables: &Pool<Table>,
-    funcs: &Pool<Func>,
-    codes: &Codes,
+    heap: Heap,
     budget: &mut u64,
-    string_meta: Option<TableId>,
-    i: Instruction,
 ) -> Option<()>
-    requires top { HasLuaTop stack.old }
-    requires codes { HaveCode funcs.now.objects codes.now }
-    ensures asks { IfSome result (λ _. AsksOver stack.old stack.new strings.now constants.now tables.now.objects (metatable_number string_meta) funcs.now.objects codes.now i budget.old budget.new) }
+    requires { MayLeave stack.old stop }
+    ensures asks { IfSome result (λ _. AsksOver stack.old stack.new heap.entry.strings.now constants.now heap.entry.tables.now.objects (metatable_number heap.entry.string_meta) (program_of stop.entry.functions) stop.entry.word budget.old budget.new) }
     ensures kept { IfNone result (ReadSame stack.old stack.new × (budget.new ≡ budget.old)) }
     ensures listed { stack.new.open_cells ≡ stack.old.open_cells }
 {
-    match call_asked(
-        stack,
-        constants,
-        strings,
-        tables,
-        funcs,
-        codes,
-        string_meta,
-        i,
-    ) {
+    match call_asked(stack, stop, constants, heap) {
         Some(call) => pay_for(stack, budget, call),
         None => None,
     }
 }
 
 /// What is called for a read or an operator.
-fn call_asked(
-    stack: &Stack,
-    constants: &[Value],
-    strings: &Strings,
-    tables: &Pool<Table>,
-    funcs: &Pool<Func>,
-    codes: &Codes,
-    string_meta: Option<TableId>,
-    i: Instruction,
-) -> Option<Asked>
-    requires top { HasLuaTop stack.now }
-    requires codes { HaveCode funcs.now.objects codes.now }
-    ensures { IfSome result (λ call. IsAsked stack.now strings.now constants.now tables.now.objects (metatable_number string_meta) funcs.now.objects codes.now i call) }
+fn call_asked(stack: &Stack, stop: Stop, constants: &[Value], heap: Heap) -> Option<Asked>
+    requires { MayLeave stack.now stop }
+    ensures { IfSome result (λ call. IsAsked stack.now heap.entry.strings.now constants.now heap.entry.tables.now.objects (metatable_number heap.entry.string_meta) (program_of stop.entry.functions) stop.entry.word call) }
 {
     if stack.len() >= GREATEST_DEPTH {
         return None;
     }
-    let field = field_named(stack.registers(), constants, i)?;
-    let kind = kind_of(i)?;
-    let handler = handler_asked(strings, tables, string_meta, kind, field.object, field.key)?;
-    let shape = shape_of(funcs, codes, handler.id)?;
+    let field = field_named(stack.registers(), constants, stop.word)?;
+    let kind = kind_of(stop.word)?;
+    let handler = handler_asked(heap, kind, field.object, field.key)?;
+    let shape = shape_of(stop.functions, handler.id)?;
     Some(Asked {
         id: handler.id,
         shape,
@@ -200,21 +174,9 @@ fn field_by(registers: &[Value], keys: &[Value], i: Instruction) -> Option<Field
 }
 
 /// The Lua function that is asked for a field or for what an operator gives.
-fn handler_asked(
-    strings: &Strings,
-    tables: &Pool<Table>,
-    string_meta: Option<TableId>,
-    kind: Kind,
-    object: Value,
-    key: Value,
-) -> Option<Handler>
-    ensures { IfSome result (λ handler. AsksFor strings.now tables.now.objects (metatable_number string_meta) (operation_of kind) object key handler.id handler.first) }
+fn handler_asked(heap: Heap, kind: Kind, object: Value, key: Value) -> Option<Handler>
+    ensures { IfSome result (λ handler. AsksFor heap.entry.strings.now heap.entry.tables.now.objects (metatable_number heap.entry.string_meta) (operation_of kind) object key handler.id handler.first) }
 {
-    let heap = Heap {
-        tables,
-        strings,
-        string_meta,
-    };
     let outcome = settled_by(heap, kind, object, key)?;
     match outcome {
         Outcome::Ask { handler, first } => handler_by(handler, first),

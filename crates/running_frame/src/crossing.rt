@@ -1,107 +1,77 @@
 // Calls of Lua functions and returns from them, which most frames stop at (OP_CALL, OP_TAILCALL, OP_RETURN, OP_RETURN0 and OP_RETURN1 of lvm.c).
-ghost use Rattle.std.specs.Prelude.{◌≡◌, ◌<◌, IfNone, IfSome, length};
+ghost use Rattle.std.specs.Prelude.{◌≡◌, IfNone, IfSome};
 ghost use Rattle.lua_heap.specs.Plain.{plain};
-ghost use Rattle.lua_stack.specs.Frames.{HasLuaTop};
 ghost use Rattle.machine_arms_tables.specs.Frame.{AreOpenAlike, code};
 ghost use Rattle.machine_focus.specs.Focus.{Reaches};
 ghost use Rattle.machine_loop.specs.Running.{Running};
-ghost use Rattle.frame_calls.specs.Calling.{AreFunctions, HaveCode};
-ghost use Rattle.running_frame.specs.Crossing.{Ground, LeavesFrame, MayCross, runs_on, world_with};
-ghost use Rattle.running_frame.specs.Inheriting.{metatable_number};
-ghost use Rattle.running_frame.specs.Remembering.{KnowsNothing};
+ghost use Rattle.frame_calls.specs.Calling.{MayLeave};
 ghost use Rattle.frame_calls.specs.Standing.{MayRun, RunsAt, standing};
+ghost use Rattle.running_frame.specs.Crossing.{Ground, IsAround, LeavesFrame, MayCross, runs_on, world_around};
+ghost use Rattle.running_frame.specs.Remembering.{KnowsNothing};
 ghost use Rattle.running_frame.specs.Upvalues.{ListsOpen};
 
 use crate::frames::write;
 use crate::inherited::read_inherited;
-use crate::place::{here_at, is_none};
-use crate::stack::{Halt, run_round};
+use crate::place::is_none;
+use crate::stack::run_round;
 use crate::storing::store_open;
-use code_core::{Instruction, Opcode};
-use frame_calls::{closed_from, cross_over_at};
+use crate::surroundings::{Body, Surroundings};
+use code_core::{Instruction, Opcode, fetch};
+use frame_calls::{Stop, closed_from, cross_over_at};
+use lua_heap::Cell;
 use lua_heap::law::checked_code_is_there;
-use lua_heap::{Cell, Codes, Func, Strings};
 use lua_stack::Stack;
 use machine_arms_tables::Closure;
 use machine_loop::Memo;
+use meta_ops::Heap;
 use object_pool::Pool;
-use table_core::{CellId, CoroId, Table, TableId};
+use table_core::{CellId, CoroId, Table};
 
 /// Goes from frame to frame of a stack, as long as each stops at a call or a return that takes no more than the stack. A function of its own, so that what frames
 /// want over and over stays at hand. That nothing is known of variables in frames below is said once for all frames.
 #[inline(never)]
 pub(crate) fn cross_stack(
     stack: &mut Stack,
-    co: CoroId,
-    strings: &Strings,
-    funcs: &Pool<Func>,
-    codes: &Codes,
+    around: &Surroundings,
     tables: &mut Pool<Table>,
     cells: &mut Pool<Cell>,
     budget: &mut u64,
-    string_meta: Option<TableId>,
 )
     ghost outside: { Ground }
-    requires may { MayCross outside (world_with outside stack.old strings.now funcs.now codes.now tables.old cells.old) stack.old }
-    requires own { co ≡ runs_on outside }
-    requires meta { string_meta ≡ outside.world.string_meta }
-    ensures reaches { Reaches outside.rows (plain (world_with outside stack.old strings.now funcs.now codes.now tables.old cells.old) budget.old) (plain (world_with outside stack.new strings.now funcs.now codes.now tables.new cells.new) budget.new) }
-    ensures may { MayCross outside (world_with outside stack.new strings.now funcs.now codes.now tables.new cells.new) stack.new }
+    requires may { MayCross outside (world_around outside stack.old around.now tables.old cells.old) stack.old }
+    requires own { around.now.co ≡ runs_on outside }
+    requires meta { around.now.string_meta ≡ outside.world.string_meta }
+    ensures reaches { Reaches outside.rows (plain (world_around outside stack.old around.now tables.old cells.old) budget.old) (plain (world_around outside stack.new around.now tables.new cells.new) budget.new) }
+    ensures may { MayCross outside (world_around outside stack.new around.now tables.new cells.new) stack.new }
 {
     let memo = Memo {
         first: None,
         second: None,
         third: None,
     };
-    cross_all(
-        stack,
-        co,
-        strings,
-        funcs,
-        codes,
-        tables,
-        cells,
-        &memo,
-        budget,
-        string_meta,
-    );
+    cross_all(stack, *around, tables, cells, &memo, budget);
 }
 
 /// Does so over what is known of those.
 #[inline(always)]
 fn cross_all(
     stack: &mut Stack,
-    co: CoroId,
-    strings: &Strings,
-    funcs: &Pool<Func>,
-    codes: &Codes,
+    around: Surroundings,
     tables: &mut Pool<Table>,
     cells: &mut Pool<Cell>,
     memo: &Memo,
     budget: &mut u64,
-    string_meta: Option<TableId>,
 )
     ghost outside: { Ground }
-    requires may { MayCross outside (world_with outside stack.old strings.now funcs.now codes.now tables.old cells.old) stack.old }
-    requires own { co ≡ runs_on outside }
+    requires may { MayCross outside (world_around outside stack.old around tables.old cells.old) stack.old }
+    requires own { around.co ≡ runs_on outside }
     requires nothing { KnowsNothing memo.now }
-    requires meta { string_meta ≡ outside.world.string_meta }
-    ensures reaches { Reaches outside.rows (plain (world_with outside stack.old strings.now funcs.now codes.now tables.old cells.old) budget.old) (plain (world_with outside stack.new strings.now funcs.now codes.now tables.new cells.new) budget.new) }
-    ensures may { MayCross outside (world_with outside stack.new strings.now funcs.now codes.now tables.new cells.new) stack.new }
+    requires meta { around.string_meta ≡ outside.world.string_meta }
+    ensures reaches { Reaches outside.rows (plain (world_around outside stack.old around.entry tables.old cells.old) budget.old) (plain (world_around outside stack.new around.entry tables.new cells.new) budget.new) }
+    ensures may { MayCross outside (world_around outside stack.new around.entry tables.new cells.new) stack.new }
 {
     for _ in 0..u64::MAX {
-        let Some(()) = cross_next(
-            stack,
-            co,
-            strings,
-            funcs,
-            codes,
-            tables,
-            cells,
-            memo,
-            budget,
-            string_meta,
-        ) else {
+        let Some(()) = cross_next(stack, around, tables, cells, memo, budget) else {
             return;
         };
     }
@@ -112,72 +82,56 @@ fn cross_all(
 #[inline(always)]
 fn cross_next(
     stack: &mut Stack,
-    co: CoroId,
-    strings: &Strings,
-    funcs: &Pool<Func>,
-    codes: &Codes,
+    around: Surroundings,
     tables: &mut Pool<Table>,
     cells: &mut Pool<Cell>,
     memo: &Memo,
     budget: &mut u64,
-    string_meta: Option<TableId>,
 ) -> Option<()>
     ghost outside: { Ground }
-    requires may { MayCross outside (world_with outside stack.old strings.now funcs.now codes.now tables.old cells.old) stack.old }
-    requires own { co ≡ runs_on outside }
+    requires may { MayCross outside (world_around outside stack.old around tables.old cells.old) stack.old }
+    requires own { around.co ≡ runs_on outside }
     requires nothing { KnowsNothing memo.now }
-    requires meta { string_meta ≡ outside.world.string_meta }
-    ensures reaches { Reaches outside.rows (plain (world_with outside stack.old strings.now funcs.now codes.now tables.old cells.old) budget.old) (plain (world_with outside stack.new strings.now funcs.now codes.now tables.new cells.new) budget.new) }
-    ensures may { MayCross outside (world_with outside stack.new strings.now funcs.now codes.now tables.new cells.new) stack.new }
+    requires meta { around.string_meta ≡ outside.world.string_meta }
+    ensures reaches { Reaches outside.rows (plain (world_around outside stack.old around.entry tables.old cells.old) budget.old) (plain (world_around outside stack.new around.entry tables.new cells.new) budget.new) }
+    ensures may { MayCross outside (world_around outside stack.new around.entry tables.new cells.new) stack.new }
 {
     checked_code_is_there();
-    strings.len();
-    let function = funcs.get(stack.function().0);
-    let code = codes.get(function.code);
+    around.strings.len();
+    let function = around.functions.funcs.get(stack.function().0);
+    let code = around.functions.codes.get(function.code);
     let closure = Closure {
         words: &code.words,
         constants: &code.constants,
         upvalues: &function.cells,
     };
+    let size = code.stack as usize;
     cross_frame(
         stack,
-        closure,
-        code.stack as usize,
-        strings,
-        funcs,
-        codes,
+        Body { closure, size },
+        around,
         tables,
         cells,
-        budget,
-        co,
         memo,
-        string_meta,
+        budget,
     )
 }
 
-/// Does so over its function's code. `size` is the number of registers of that.
+/// Does so over its function's code.
 #[inline(always)]
 fn cross_frame(
     stack: &mut Stack,
-    closure: Closure,
-    size: usize,
-    strings: &Strings,
-    funcs: &Pool<Func>,
-    codes: &Codes,
+    body: Body,
+    around: Surroundings,
     tables: &mut Pool<Table>,
     cells: &mut Pool<Cell>,
-    budget: &mut u64,
-    co: CoroId,
     memo: &Memo,
-    string_meta: Option<TableId>,
+    budget: &mut u64,
 ) -> Option<()>
     ghost g: { Running }
-    requires may { MayRun g (code closure strings.now) stack.old tables.old.objects cells.old.objects budget.old }
-    requires functions { AreFunctions g.around.context.base.functions funcs.now.objects codes.now }
-    requires size { size ≡ g.around.context.closure.code.own.stack }
-    requires own { co.0 ≡ g.around.context.coroutine }
+    requires may { MayRun g (code body.closure around.strings.now) stack.old tables.old.objects cells.old.objects budget.old }
+    requires around { IsAround g around body.size }
     requires nothing { KnowsNothing memo.now }
-    requires meta { metatable_number string_meta ≡ g.string_metatable }
     ensures reaches { Reaches g.around.rows (standing g stack.old tables.old.objects cells.old.objects budget.old) (standing g stack.new tables.new.objects cells.new.objects budget.new) }
     ensures opened { AreOpenAlike cells.old.objects cells.new.objects }
     ensures listed { stack.new.open_cells ≡ stack.old.open_cells }
@@ -187,122 +141,71 @@ fn cross_frame(
     if !runs {
         return None;
     }
-    run_and_cross(
-        stack,
-        closure,
-        size,
-        strings,
-        funcs,
-        codes,
-        tables,
-        cells,
-        budget,
-        co,
-        memo,
-        string_meta,
-        start,
-    )
+    run_and_cross(stack, body, around, tables, cells, memo, budget, start)
 }
 
 /// Does so where it runs, from its place on.
 #[inline(always)]
 fn run_and_cross(
     stack: &mut Stack,
-    closure: Closure,
-    size: usize,
-    strings: &Strings,
-    funcs: &Pool<Func>,
-    codes: &Codes,
+    body: Body,
+    around: Surroundings,
     tables: &mut Pool<Table>,
     cells: &mut Pool<Cell>,
-    budget: &mut u64,
-    co: CoroId,
     memo: &Memo,
-    string_meta: Option<TableId>,
+    budget: &mut u64,
     start: usize,
 ) -> Option<()>
     ghost g: { Running }
-    requires runs { RunsAt g (code closure strings.now) stack.old tables.old.objects cells.old.objects budget.old start }
-    requires functions { AreFunctions g.around.context.base.functions funcs.now.objects codes.now }
-    requires size { size ≡ g.around.context.closure.code.own.stack }
-    requires own { co.0 ≡ g.around.context.coroutine }
+    requires runs { RunsAt g (code body.closure around.strings.now) stack.old tables.old.objects cells.old.objects budget.old start }
+    requires around { IsAround g around body.size }
     requires nothing { KnowsNothing memo.now }
-    requires meta { metatable_number string_meta ≡ g.string_metatable }
     ensures reaches { Reaches g.around.rows (standing g stack.old tables.old.objects cells.old.objects budget.old) (standing g stack.new tables.new.objects cells.new.objects budget.new) }
     ensures opened { AreOpenAlike cells.old.objects cells.new.objects }
     ensures listed { stack.new.open_cells ≡ stack.old.open_cells }
 {
     let pc = run_round(
-        stack, closure, strings, tables, cells, budget, co, memo, start,
-    );
-    leave_or_go_on(
         stack,
-        closure,
-        size,
-        strings,
-        funcs,
-        codes,
+        body.closure,
+        around,
         tables,
         cells,
+        memo,
         budget,
-        co,
-        string_meta,
-        pc,
-    )
+        start,
+    );
+    leave_or_go_on(stack, body, around, tables, cells, budget, pc)
 }
 
 /// Leaves the frame, which is what most frames stop for, or does what it can without.
 #[inline(always)]
 fn leave_or_go_on(
     stack: &mut Stack,
-    closure: Closure,
-    size: usize,
-    strings: &Strings,
-    funcs: &Pool<Func>,
-    codes: &Codes,
+    body: Body,
+    around: Surroundings,
     tables: &mut Pool<Table>,
     cells: &Pool<Cell>,
     budget: &mut u64,
-    co: CoroId,
-    string_meta: Option<TableId>,
     pc: usize,
 ) -> Option<()>
     ghost g: { Running }
-    requires runs { RunsAt g (code closure strings.now) stack.old tables.old.objects cells.now.objects budget.old pc }
-    requires functions { AreFunctions g.around.context.base.functions funcs.now.objects codes.now }
-    requires size { size ≡ g.around.context.closure.code.own.stack }
-    requires own { co.0 ≡ g.around.context.coroutine }
-    requires meta { metatable_number string_meta ≡ g.string_metatable }
+    requires runs { RunsAt g (code body.closure around.strings.now) stack.old tables.old.objects cells.now.objects budget.old pc }
+    requires around { IsAround g around body.size }
     ensures reaches { Reaches g.around.rows (standing g stack.old tables.old.objects cells.now.objects budget.old) (standing g stack.new tables.new.objects cells.now.objects budget.new) }
     ensures listed { stack.new.open_cells ≡ stack.old.open_cells }
 {
-    match leave_frame(
-        stack,
-        closure.words,
-        closure.upvalues,
-        size,
-        funcs,
-        codes,
-        cells,
-        budget,
-        co,
+    let word = fetch(body.closure.words, pc);
+    let stop = Stop {
+        functions: around.functions,
+        words: body.closure.words,
+        size: body.size,
         pc,
-    ) {
+        word,
+        closed: None,
+    };
+    match leave_frame(stack, stop, body.closure.upvalues, cells, around.co, budget) {
         Some(()) => Some(()),
-        None => read_or_ask(
-            stack,
-            closure,
-            size,
-            strings,
-            funcs,
-            codes,
-            tables,
-            cells,
-            budget,
-            co,
-            string_meta,
-            pc,
-        ),
+        None => read_or_ask(stack, body, around, tables, cells, budget, pc),
     }
 }
 
@@ -310,43 +213,27 @@ fn leave_or_go_on(
 #[inline(always)]
 fn read_or_ask(
     stack: &mut Stack,
-    closure: Closure,
-    size: usize,
-    strings: &Strings,
-    funcs: &Pool<Func>,
-    codes: &Codes,
+    body: Body,
+    around: Surroundings,
     tables: &mut Pool<Table>,
     cells: &Pool<Cell>,
     budget: &mut u64,
-    co: CoroId,
-    string_meta: Option<TableId>,
     pc: usize,
 ) -> Option<()>
     ghost g: { Running }
-    requires runs { RunsAt g (code closure strings.now) stack.old tables.old.objects cells.now.objects budget.old pc }
-    requires functions { AreFunctions g.around.context.base.functions funcs.now.objects codes.now }
-    requires size { size ≡ g.around.context.closure.code.own.stack }
-    requires own { co.0 ≡ g.around.context.coroutine }
-    requires meta { metatable_number string_meta ≡ g.string_metatable }
+    requires runs { RunsAt g (code body.closure around.strings.now) stack.old tables.old.objects cells.now.objects budget.old pc }
+    requires around { IsAround g around body.size }
     ensures reaches { Reaches g.around.rows (standing g stack.old tables.old.objects cells.now.objects budget.old) (standing g stack.new tables.new.objects cells.now.objects budget.new) }
     ensures listed { stack.new.open_cells ≡ stack.old.open_cells }
 {
-    match read_inherited(stack, closure, strings, tables, string_meta, pc) {
+    let heap = Heap {
+        tables,
+        strings: around.strings,
+        string_meta: around.string_meta,
+    };
+    match read_inherited(stack, body.closure, heap, pc) {
         Some(_) => Some(()),
-        None => ask_next(
-            stack,
-            closure,
-            size,
-            strings,
-            funcs,
-            codes,
-            tables,
-            cells,
-            budget,
-            co,
-            string_meta,
-            pc,
-        ),
+        None => ask_next(stack, body, around, tables, cells, budget, pc),
     }
 }
 
@@ -355,50 +242,35 @@ fn read_or_ask(
 #[inline(always)]
 fn ask_next(
     stack: &mut Stack,
-    closure: Closure,
-    size: usize,
-    strings: &Strings,
-    funcs: &Pool<Func>,
-    codes: &Codes,
+    body: Body,
+    around: Surroundings,
     tables: &mut Pool<Table>,
     cells: &Pool<Cell>,
     budget: &mut u64,
-    co: CoroId,
-    string_meta: Option<TableId>,
     pc: usize,
 ) -> Option<()>
     ghost g: { Running }
-    requires runs { RunsAt g (code closure strings.now) stack.old tables.old.objects cells.now.objects budget.old pc }
-    requires functions { AreFunctions g.around.context.base.functions funcs.now.objects codes.now }
-    requires size { size ≡ g.around.context.closure.code.own.stack }
-    requires own { co.0 ≡ g.around.context.coroutine }
-    requires meta { metatable_number string_meta ≡ g.string_metatable }
+    requires runs { RunsAt g (code body.closure around.strings.now) stack.old tables.old.objects cells.now.objects budget.old pc }
+    requires around { IsAround g around body.size }
     ensures reaches { Reaches g.around.rows (standing g stack.old tables.old.objects cells.now.objects budget.old) (standing g stack.new tables.new.objects cells.now.objects budget.new) }
     ensures listed { stack.new.open_cells ≡ stack.old.open_cells }
 {
-    let here = here_at(closure.words, pc, true);
-    if !may_ask(here.word) {
+    let word = fetch(body.closure.words, pc);
+    if !may_ask(word) {
         return None;
     }
     let closed = closed_from(stack);
-    let stop = Halt { here, closed };
-    match write(
-        stack,
-        closure,
-        size,
-        strings,
-        funcs,
-        codes,
-        tables,
-        cells,
-        budget,
-        co,
-        string_meta,
-        stop,
-    ) {
-        None => Some(()),
-        Some(_) => None,
-    }
+    let stop = Stop {
+        functions: around.functions,
+        words: body.closure.words,
+        size: body.size,
+        pc,
+        word,
+        closed,
+    };
+    // A copy, so that only here it stands in memory.
+    let shared = around;
+    write(stack, &stop, body.closure, &shared, tables, cells, budget)
 }
 
 /// Whether an instruction may call a handler that is a function, or puts one value of a constructor into its table.
@@ -418,27 +290,20 @@ fn may_ask(i: Instruction) -> bool {
 #[inline(always)]
 fn leave_frame(
     stack: &mut Stack,
-    words: &[Instruction],
+    stop: Stop,
     upvalues: &[CellId],
-    size: usize,
-    funcs: &Pool<Func>,
-    codes: &Codes,
     cells: &Pool<Cell>,
-    budget: &mut u64,
     co: CoroId,
-    pc: usize,
+    budget: &mut u64,
 ) -> Option<()>
-    requires top { HasLuaTop stack.old }
-    requires codes { HaveCode funcs.now.objects codes.now }
+    requires may { MayLeave stack.old stop }
     requires cells { ListsOpen co.0 stack.old cells.now.objects }
-    requires there { pc < length words.now }
-    ensures leaves { IfSome result (λ _. LeavesFrame co.0 upvalues.now words.now stack.old stack.new cells.now.objects size funcs.now.objects codes.now pc budget.old budget.new) }
+    ensures leaves { IfSome result (λ _. LeavesFrame co.0 upvalues.now stack.old stack.new cells.now.objects stop.entry budget.old budget.new) }
     ensures kept { IfNone result ((stack.new ≡ stack.old) × (budget.new ≡ budget.old)) }
     ensures listed { stack.new.open_cells ≡ stack.old.open_cells }
 {
-    let here = here_at(words, pc, true);
-    match store_open(stack, words, upvalues, cells, co, here) {
+    match store_open(stack, stop, upvalues, cells, co) {
         Some(()) => Some(()),
-        None => cross_over_at(stack, size, funcs, codes, words, budget, pc, here.word),
+        None => cross_over_at(stack, stop, budget),
     }
 }

@@ -1,37 +1,26 @@
 // Lists of one value that go to the table of a constructor (OP_SETLIST of lvm.c; Lua 5.4 manual, 3.4.9).
 ghost use Rattle.std.specs.Prelude.{◌≡◌, ◌+◌, ◌-◌, ◌<◌, ◌^◌, IfNone, IfSome, Some, pos, slice_get, true};
 ghost use Rattle.code_core.specs.Instruction.{b_of, opcode_of};
-ghost use Rattle.lua_stack.specs.Frames.{HasLuaTop};
 ghost use Rattle.machine_arms_tables.specs.Fields.{with_field};
 ghost use Rattle.running_frame.specs.Filling.{FillsOne, FillsTable, is_set_list};
-ghost use Rattle.frame_calls.specs.Standing.{IsClosedFrom};
+ghost use Rattle.frame_calls.specs.Calling.{MayLeave};
 ghost use Rattle.table_core.specs.declared.value.Value.TheVariants.{Int, Table as a_table};
 
-use crate::stack::Halt;
 use code_core::{Instruction, Opcode};
-use frame_calls::{behind, may_give_up, register_of, second_of};
+use frame_calls::{Stop, behind, may_give_up, register_of, second_of};
 use lua_heap::law;
 use lua_stack::Stack;
 use object_pool::Pool;
 use table_core::{Key, Table, TableId, Value};
 
-/// A SETLIST of one value: it goes to the table's index after C, no list is open any more, and the frame on top goes on after it. `size` is the number of
-/// registers of its code. `None`, with all as before, at any other instruction, where the register has no table, and where memory runs out. From the register
-/// `closed` of the stop on nothing of the frame is open or to be closed.
-pub(crate) fn fill_one(
-    stack: &mut Stack,
-    size: usize,
-    words: &[Instruction],
-    tables: &mut Pool<Table>,
-    stop: Halt,
-) -> Option<()>
-    requires top { HasLuaTop stack.old }
-    requires closed { IfSome stop.closed (λ register. IsClosedFrom stack.old register) }
-    ensures fills { IfSome result (λ _. FillsOne stack.old stack.new tables.old.objects tables.new.objects size words.now stop.here.pc stop.here.word) }
+/// A SETLIST of one value: it goes to the table's index after C, no list is open any more, and the frame on top goes on after it. `None`, with all as before, at any other instruction, where the register has no table, and where memory runs out.
+pub(crate) fn fill_one(stack: &mut Stack, stop: Stop, tables: &mut Pool<Table>) -> Option<()>
+    requires { MayLeave stack.old stop }
+    ensures fills { IfSome result (λ _. FillsOne stack.old stack.new tables.old.objects tables.new.objects stop.entry.size stop.entry.words.now stop.entry.pc stop.entry.word) }
     ensures kept { IfNone result ((stack.new ≡ stack.old) × (tables.new.objects ≡ tables.old.objects)) }
     ensures listed { stack.new.open_cells ≡ stack.old.open_cells }
 {
-    let i = stop.here.word;
+    let i = stop.word;
     if !is_short_list(i) {
         return None;
     }
@@ -39,8 +28,8 @@ pub(crate) fn fill_one(
     if far {
         return None;
     }
-    let to = behind(words, stop.here.pc)?;
-    if !may_give_up(stack, size, size, size, stop.closed) {
+    let to = behind(stop.words, stop.pc)?;
+    if !may_give_up(stack, stop.size, stop.size, stop.size, stop.closed) {
         return None;
     }
     let register = i.a() as usize;
@@ -48,7 +37,7 @@ pub(crate) fn fill_one(
     let id = table_in(registers, register)?;
     let item = second_of(registers, register)?;
     fill_behind(tables, id, i.c(), item)?;
-    stack.end_list(size);
+    stack.end_list(stop.size);
     stack.set_pc(to);
     Some(())
 }

@@ -10,34 +10,30 @@ ghost use Rattle.running_frame.specs.Inheriting.{Finds, GoesAmid, RunsAmid, meta
 use crate::upvalues::{next, put};
 use code_core::{Instruction, Opcode, fetch};
 use frame_calls::register_of;
-use lua_heap::Strings;
 use lua_stack::Stack;
 use machine_arms_tables::Closure;
 use meta_ops::{Heap, Outcome, index_of};
-use object_pool::Pool;
-use table_core::{Table, TableId, Value};
+use table_core::Value;
 
 /// GETFIELD, or SELF with a constant, of a field that handlers of `__index` lead to without a call. Told is where the frame goes on. `None`, with all as before,
-/// at any other instruction, where a function is to be called, and where the field is an error. `string_meta` is the metatable that all strings share.
+/// at any other instruction, where a function is to be called, and where the field is an error.
 #[inline(always)]
 pub(crate) fn read_inherited(
     stack: &mut Stack,
     closure: Closure,
-    strings: &Strings,
-    tables: &Pool<Table>,
-    string_meta: Option<TableId>,
+    heap: Heap,
     pc: usize,
 ) -> Option<usize>
     ghost g: { Running }
-    requires runs { RunsAmid g (code closure strings.now) stack.old tables.now.objects pc }
-    requires meta { metatable_number string_meta ≡ g.string_metatable }
-    ensures goes { IfSome result (λ to. GoesAmid g (code closure.entry strings.now) stack.old stack.new tables.now.objects pc to) }
+    requires runs { RunsAmid g (code closure heap.strings.now) stack.old heap.tables.now.objects pc }
+    requires meta { metatable_number heap.string_meta ≡ g.string_metatable }
+    ensures goes { IfSome result (λ to. GoesAmid g (code closure.entry heap.entry.strings.now) stack.old stack.new heap.entry.tables.now.objects pc to) }
     ensures kept { IfNone result (stack.new ≡ stack.old) }
 {
     let i = fetch(closure.words, pc);
     match i.opcode() {
-        Some(Opcode::GetField) => get_field(stack, closure, strings, tables, string_meta, pc, i),
-        Some(Opcode::OpSelf) => get_method(stack, closure, strings, tables, string_meta, pc, i),
+        Some(Opcode::GetField) => get_field(stack, closure, heap, pc, i),
+        Some(Opcode::OpSelf) => get_method(stack, closure, heap, pc, i),
         _ => None,
     }
 }
@@ -47,23 +43,21 @@ pub(crate) fn read_inherited(
 fn get_field(
     stack: &mut Stack,
     closure: Closure,
-    strings: &Strings,
-    tables: &Pool<Table>,
-    string_meta: Option<TableId>,
+    heap: Heap,
     pc: usize,
     i: Instruction,
 ) -> Option<usize>
     ghost g: { Running }
-    requires runs { RunsAmid g (code closure strings.now) stack.old tables.now.objects pc }
-    requires meta { metatable_number string_meta ≡ g.string_metatable }
+    requires runs { RunsAmid g (code closure heap.strings.now) stack.old heap.tables.now.objects pc }
+    requires meta { metatable_number heap.string_meta ≡ g.string_metatable }
     requires word { slice_get closure.words.now pc ≡ Some i }
     requires is { opcode_of i ≡ Some GetField }
-    ensures goes { IfSome result (λ to. GoesAmid g (code closure.entry strings.now) stack.old stack.new tables.now.objects pc to) }
+    ensures goes { IfSome result (λ to. GoesAmid g (code closure.entry heap.entry.strings.now) stack.old stack.new heap.entry.tables.now.objects pc to) }
     ensures kept { IfNone result (stack.new ≡ stack.old) }
 {
     let object = register_of(stack.registers(), i.b() as usize)?;
     let key = register_of(closure.constants, i.c() as usize)?;
-    let v = inherited(strings, tables, string_meta, object, key)?;
+    let v = inherited(heap, object, key)?;
     let registers = stack.registers_mut();
     put(registers, i.a() as usize, v);
     let to = next(closure.words, pc);
@@ -76,18 +70,16 @@ fn get_field(
 fn get_method(
     stack: &mut Stack,
     closure: Closure,
-    strings: &Strings,
-    tables: &Pool<Table>,
-    string_meta: Option<TableId>,
+    heap: Heap,
     pc: usize,
     i: Instruction,
 ) -> Option<usize>
     ghost g: { Running }
-    requires runs { RunsAmid g (code closure strings.now) stack.old tables.now.objects pc }
-    requires meta { metatable_number string_meta ≡ g.string_metatable }
+    requires runs { RunsAmid g (code closure heap.strings.now) stack.old heap.tables.now.objects pc }
+    requires meta { metatable_number heap.string_meta ≡ g.string_metatable }
     requires word { slice_get closure.words.now pc ≡ Some i }
     requires is { opcode_of i ≡ Some OpSelf }
-    ensures goes { IfSome result (λ to. GoesAmid g (code closure.entry strings.now) stack.old stack.new tables.now.objects pc to) }
+    ensures goes { IfSome result (λ to. GoesAmid g (code closure.entry heap.entry.strings.now) stack.old stack.new heap.entry.tables.now.objects pc to) }
     ensures kept { IfNone result (stack.new ≡ stack.old) }
 {
     let constant = i.k();
@@ -96,7 +88,7 @@ fn get_method(
     }
     let object = register_of(stack.registers(), i.b() as usize)?;
     let key = register_of(closure.constants, i.c() as usize)?;
-    let v = inherited(strings, tables, string_meta, object, key)?;
+    let v = inherited(heap, object, key)?;
     let registers = stack.registers_mut();
     let a = i.a() as usize;
     put(registers, a + 1, object);
@@ -107,20 +99,9 @@ fn get_method(
 }
 
 /// The field of an object at a key, where no function is to be called for it.
-fn inherited(
-    strings: &Strings,
-    tables: &Pool<Table>,
-    string_meta: Option<TableId>,
-    object: Value,
-    key: Value,
-) -> Option<Value>
-    ensures { IfSome result (λ v. Finds strings.now tables.now.objects (metatable_number string_meta) object key v) }
+fn inherited(heap: Heap, object: Value, key: Value) -> Option<Value>
+    ensures { IfSome result (λ v. Finds heap.entry.strings.now heap.entry.tables.now.objects (metatable_number heap.entry.string_meta) object key v) }
 {
-    let heap = Heap {
-        tables,
-        strings,
-        string_meta,
-    };
     match index_of(heap, object, key) {
         Outcome::Found(v) => Some(v),
         _ => None,

@@ -13,6 +13,7 @@ mod place;
 mod remembering;
 mod stack;
 mod storing;
+mod surroundings;
 mod taking;
 mod upvalues;
 

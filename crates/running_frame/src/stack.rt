@@ -12,14 +12,16 @@ use crate::closing::pass_close;
 use crate::inherited::read_inherited;
 use crate::place::{Here, here_at, is_none};
 use crate::remembering::remember;
+use crate::surroundings::Surroundings;
 use crate::upvalues::{read_once, read_open};
 use frame_calls::closed_from;
 use lua_heap::{Cell, Strings};
 use lua_stack::Stack;
 use machine_arms_tables::Closure;
 use machine_loop::{Memo, run_frame};
+use meta_ops::Heap;
 use object_pool::Pool;
-use table_core::{CoroId, Table, TableId};
+use table_core::Table;
 
 /// How many rounds of the loop over instructions a frame makes, with a variable of a frame below read between two, before the values of such are remembered. Many:
 /// to go on where they are costs as much as a dozen reads, and most frames come to a call before it pays.
@@ -36,20 +38,18 @@ pub(crate) struct Halt {
 pub(crate) fn run_stack(
     stack: &mut Stack,
     closure: Closure,
-    strings: &Strings,
+    around: Surroundings,
     tables: &mut Pool<Table>,
     cells: &mut Pool<Cell>,
     budget: &mut u64,
-    co: CoroId,
-    string_meta: Option<TableId>,
 ) -> Halt
     ghost g: { Running }
-    requires may { MayRun g (code closure strings.now) stack.old tables.old.objects cells.old.objects budget.old }
-    requires own { co.0 ≡ g.around.context.coroutine }
-    requires meta { metatable_number string_meta ≡ g.string_metatable }
+    requires may { MayRun g (code closure around.strings.now) stack.old tables.old.objects cells.old.objects budget.old }
+    requires own { around.co.0 ≡ g.around.context.coroutine }
+    requires meta { metatable_number around.string_meta ≡ g.string_metatable }
     ensures reaches { Reaches g.around.rows (standing g stack.old tables.old.objects cells.old.objects budget.old) (standing g stack.new tables.new.objects cells.new.objects budget.new) }
-    ensures here { IsHereIn g (code closure.entry strings.now) stack.new result.here }
-    ensures runs { result.here.runs ≡ true → RunsAt g (code closure.entry strings.now) stack.new tables.new.objects cells.new.objects budget.new result.here.pc }
+    ensures here { IsHereIn g (code closure.entry around.entry.strings.now) stack.new result.here }
+    ensures runs { result.here.runs ≡ true → RunsAt g (code closure.entry around.entry.strings.now) stack.new tables.new.objects cells.new.objects budget.new result.here.pc }
     ensures closed { IfSome result.closed (λ register. IsClosedFrom stack.new register) }
     ensures opened { AreOpenAlike cells.old.objects cells.new.objects }
     ensures listed { stack.new.open_cells ≡ stack.old.open_cells }
@@ -61,18 +61,7 @@ pub(crate) fn run_stack(
         return Halt { here, closed: None };
     }
     let closed = closed_from(stack);
-    let here = run_on_top(
-        stack,
-        closure,
-        strings,
-        tables,
-        cells,
-        budget,
-        co,
-        string_meta,
-        closed,
-        start,
-    );
+    let here = run_on_top(stack, closure, around, tables, cells, budget, closed, start);
     Halt { here, closed }
 }
 
@@ -80,38 +69,25 @@ pub(crate) fn run_stack(
 fn run_on_top(
     stack: &mut Stack,
     closure: Closure,
-    strings: &Strings,
+    around: Surroundings,
     tables: &mut Pool<Table>,
     cells: &mut Pool<Cell>,
     budget: &mut u64,
-    co: CoroId,
-    string_meta: Option<TableId>,
     closed: Option<usize>,
     start: usize,
 ) -> Here
     ghost g: { Running }
-    requires runs { RunsAt g (code closure strings.now) stack.old tables.old.objects cells.old.objects budget.old start }
+    requires runs { RunsAt g (code closure around.strings.now) stack.old tables.old.objects cells.old.objects budget.old start }
     requires closed { IfSome closed (λ register. ClosesNothing g.around cells.old.objects register) }
-    requires own { co.0 ≡ g.around.context.coroutine }
-    requires meta { metatable_number string_meta ≡ g.string_metatable }
+    requires own { around.co.0 ≡ g.around.context.coroutine }
+    requires meta { metatable_number around.string_meta ≡ g.string_metatable }
     ensures reaches { Reaches g.around.rows (standing g stack.old tables.old.objects cells.old.objects budget.old) (standing g stack.new tables.new.objects cells.new.objects budget.new) }
-    ensures here { IsHereIn g (code closure.entry strings.now) stack.new result }
-    ensures runs { RunsAt g (code closure.entry strings.now) stack.new tables.new.objects cells.new.objects budget.new result.pc }
+    ensures here { IsHereIn g (code closure.entry around.entry.strings.now) stack.new result }
+    ensures runs { RunsAt g (code closure.entry around.entry.strings.now) stack.new tables.new.objects cells.new.objects budget.new result.pc }
     ensures opened { AreOpenAlike cells.old.objects cells.new.objects }
     ensures listed { stack.new.open_cells ≡ stack.old.open_cells }
 {
-    let pc = run_rounds(
-        stack,
-        closure,
-        strings,
-        tables,
-        cells,
-        budget,
-        co,
-        string_meta,
-        closed,
-        start,
-    );
+    let pc = run_rounds(stack, closure, around, tables, cells, budget, closed, start);
     here_at(closure.words, pc, true)
 }
 
@@ -121,22 +97,20 @@ fn run_on_top(
 fn run_rounds(
     stack: &mut Stack,
     closure: Closure,
-    strings: &Strings,
+    around: Surroundings,
     tables: &mut Pool<Table>,
     cells: &mut Pool<Cell>,
     budget: &mut u64,
-    co: CoroId,
-    string_meta: Option<TableId>,
     closed: Option<usize>,
     start: usize,
 ) -> usize
     ghost g: { Running }
-    requires runs { RunsAt g (code closure strings.now) stack.old tables.old.objects cells.old.objects budget.old start }
+    requires runs { RunsAt g (code closure around.strings.now) stack.old tables.old.objects cells.old.objects budget.old start }
     requires closed { IfSome closed (λ register. ClosesNothing g.around cells.old.objects register) }
-    requires own { co.0 ≡ g.around.context.coroutine }
-    requires meta { metatable_number string_meta ≡ g.string_metatable }
+    requires own { around.co.0 ≡ g.around.context.coroutine }
+    requires meta { metatable_number around.string_meta ≡ g.string_metatable }
     ensures reaches { Reaches g.around.rows (standing g stack.old tables.old.objects cells.old.objects budget.old) (standing g stack.new tables.new.objects cells.new.objects budget.new) }
-    ensures runs { RunsAt g (code closure.entry strings.now) stack.new tables.new.objects cells.new.objects budget.new result }
+    ensures runs { RunsAt g (code closure.entry around.entry.strings.now) stack.new tables.new.objects cells.new.objects budget.new result }
     ensures opened { AreOpenAlike cells.old.objects cells.new.objects }
     ensures listed { stack.new.open_cells ≡ stack.old.open_cells }
 {
@@ -149,21 +123,20 @@ fn run_rounds(
     };
     for _ in 0..u64::MAX {
         let Some(next) = go_between(
-            stack,
-            closure,
-            strings,
-            tables,
-            cells,
-            co,
-            string_meta,
-            closed,
-            &mut memo,
-            again,
-            pc,
+            stack, closure, around, tables, cells, closed, &mut memo, again, pc,
         ) else {
             return pc;
         };
-        let at = run_once(stack, closure, strings, tables, cells, budget, &memo, next);
+        let at = run_once(
+            stack,
+            closure,
+            around.strings,
+            tables,
+            cells,
+            &memo,
+            budget,
+            next,
+        );
         pc = at;
         again = true;
     }
@@ -176,42 +149,30 @@ fn run_rounds(
 fn go_between(
     stack: &mut Stack,
     closure: Closure,
-    strings: &Strings,
+    around: Surroundings,
     tables: &Pool<Table>,
     cells: &Pool<Cell>,
-    co: CoroId,
-    string_meta: Option<TableId>,
     closed: Option<usize>,
     memo: &mut Memo,
     again: bool,
     pc: usize,
 ) -> Option<usize>
     ghost g: { Running }
-    requires runs { RunsWith g (code closure strings.now) stack.old tables.now.objects cells.now.objects pc }
+    requires runs { RunsWith g (code closure around.strings.now) stack.old tables.now.objects cells.now.objects pc }
     requires closed { IfSome closed (λ register. ClosesNothing g.around cells.now.objects register) }
-    requires own { co.0 ≡ g.around.context.coroutine }
-    requires meta { metatable_number string_meta ≡ g.string_metatable }
+    requires own { around.co.0 ≡ g.around.context.coroutine }
+    requires meta { metatable_number around.string_meta ≡ g.string_metatable }
     requires known { AllHold g.around closure.upvalues.now cells.now.objects memo.old }
-    ensures goes { IfSome result (λ to. GoesWith g (code closure.entry strings.now) stack.old stack.new tables.now.objects cells.now.objects pc to) }
+    ensures goes { IfSome result (λ to. GoesWith g (code closure.entry around.entry.strings.now) stack.old stack.new tables.now.objects cells.now.objects pc to) }
     ensures kept { IfNone result (stack.new ≡ stack.old) }
     ensures known { AllHold g.around closure.entry.upvalues.now cells.now.objects memo.new }
 {
-    match remember(stack, closure, cells, co, *memo, again, pc) {
+    match remember(stack, closure, cells, around.co, *memo, again, pc) {
         Some(more) => {
             *memo = more;
             Some(pc)
         }
-        None => pass_between(
-            stack,
-            closure,
-            strings,
-            tables,
-            cells,
-            co,
-            string_meta,
-            closed,
-            pc,
-        ),
+        None => pass_between(stack, closure, around, tables, cells, closed, pc),
     }
 }
 
@@ -221,23 +182,21 @@ fn go_between(
 fn pass_between(
     stack: &mut Stack,
     closure: Closure,
-    strings: &Strings,
+    around: Surroundings,
     tables: &Pool<Table>,
     cells: &Pool<Cell>,
-    co: CoroId,
-    string_meta: Option<TableId>,
     closed: Option<usize>,
     pc: usize,
 ) -> Option<usize>
     ghost g: { Running }
-    requires runs { RunsWith g (code closure strings.now) stack.old tables.now.objects cells.now.objects pc }
+    requires runs { RunsWith g (code closure around.strings.now) stack.old tables.now.objects cells.now.objects pc }
     requires closed { IfSome closed (λ register. ClosesNothing g.around cells.now.objects register) }
-    requires own { co.0 ≡ g.around.context.coroutine }
-    requires meta { metatable_number string_meta ≡ g.string_metatable }
-    ensures goes { IfSome result (λ to. GoesWith g (code closure.entry strings.now) stack.old stack.new tables.now.objects cells.now.objects pc to) }
+    requires own { around.co.0 ≡ g.around.context.coroutine }
+    requires meta { metatable_number around.string_meta ≡ g.string_metatable }
+    ensures goes { IfSome result (λ to. GoesWith g (code closure.entry around.entry.strings.now) stack.old stack.new tables.now.objects cells.now.objects pc to) }
     ensures kept { IfNone result (stack.new ≡ stack.old) }
 {
-    match read_between(stack, closure, strings, tables, cells, co, string_meta, pc) {
+    match read_between(stack, closure, around, tables, cells, pc) {
         Some(to) => Some(to),
         None => pass_close(stack, closure, cells, closed, pc),
     }
@@ -248,23 +207,26 @@ fn pass_between(
 fn read_between(
     stack: &mut Stack,
     closure: Closure,
-    strings: &Strings,
+    around: Surroundings,
     tables: &Pool<Table>,
     cells: &Pool<Cell>,
-    co: CoroId,
-    string_meta: Option<TableId>,
     pc: usize,
 ) -> Option<usize>
     ghost g: { Running }
-    requires runs { RunsWith g (code closure strings.now) stack.old tables.now.objects cells.now.objects pc }
-    requires own { co.0 ≡ g.around.context.coroutine }
-    requires meta { metatable_number string_meta ≡ g.string_metatable }
-    ensures goes { IfSome result (λ to. GoesWith g (code closure.entry strings.now) stack.old stack.new tables.now.objects cells.now.objects pc to) }
+    requires runs { RunsWith g (code closure around.strings.now) stack.old tables.now.objects cells.now.objects pc }
+    requires own { around.co.0 ≡ g.around.context.coroutine }
+    requires meta { metatable_number around.string_meta ≡ g.string_metatable }
+    ensures goes { IfSome result (λ to. GoesWith g (code closure.entry around.entry.strings.now) stack.old stack.new tables.now.objects cells.now.objects pc to) }
     ensures kept { IfNone result (stack.new ≡ stack.old) }
 {
-    match read_open(stack, closure, cells, co, pc) {
+    let heap = Heap {
+        tables,
+        strings: around.strings,
+        string_meta: around.string_meta,
+    };
+    match read_open(stack, closure, cells, around.co, pc) {
         Some(to) => Some(to),
-        None => read_inherited(stack, closure, strings, tables, string_meta, pc),
+        None => read_inherited(stack, closure, heap, pc),
     }
 }
 
@@ -274,28 +236,36 @@ fn read_between(
 pub(crate) fn run_round(
     stack: &mut Stack,
     closure: Closure,
-    strings: &Strings,
+    around: Surroundings,
     tables: &mut Pool<Table>,
     cells: &mut Pool<Cell>,
-    budget: &mut u64,
-    co: CoroId,
     memo: &Memo,
+    budget: &mut u64,
     start: usize,
 ) -> usize
     ghost g: { Running }
-    requires runs { RunsAt g (code closure strings.now) stack.old tables.old.objects cells.old.objects budget.old start }
+    requires runs { RunsAt g (code closure around.strings.now) stack.old tables.old.objects cells.old.objects budget.old start }
     requires known { AllHold g.around closure.upvalues.now cells.old.objects memo.now }
-    requires own { co.0 ≡ g.around.context.coroutine }
+    requires own { around.co.0 ≡ g.around.context.coroutine }
     ensures reaches { Reaches g.around.rows (standing g stack.old tables.old.objects cells.old.objects budget.old) (standing g stack.new tables.new.objects cells.new.objects budget.new) }
-    ensures runs { RunsAt g (code closure.entry strings.now) stack.new tables.new.objects cells.new.objects budget.new result }
+    ensures runs { RunsAt g (code closure.entry around.entry.strings.now) stack.new tables.new.objects cells.new.objects budget.new result }
     ensures opened { AreOpenAlike cells.old.objects cells.new.objects }
     ensures listed { stack.new.open_cells ≡ stack.old.open_cells }
 {
     let mut pc = start;
     for round in 0..ROUNDS {
-        let at = run_once(stack, closure, strings, tables, cells, budget, memo, pc);
+        let at = run_once(
+            stack,
+            closure,
+            around.strings,
+            tables,
+            cells,
+            memo,
+            budget,
+            pc,
+        );
         let is_last = round == ROUNDS - 1;
-        let Some(to) = read_once(stack, closure, cells, co, is_last, at) else {
+        let Some(to) = read_once(stack, closure, cells, around.co, is_last, at) else {
             return at;
         };
         pc = to;
@@ -311,8 +281,8 @@ fn run_once(
     strings: &Strings,
     tables: &mut Pool<Table>,
     cells: &mut Pool<Cell>,
-    budget: &mut u64,
     memo: &Memo,
+    budget: &mut u64,
     start: usize,
 ) -> usize
     ghost g: { Running }

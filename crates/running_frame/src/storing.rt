@@ -5,10 +5,9 @@ ghost use Rattle.lua_stack.specs.Frames.{HasLuaTop};
 ghost use Rattle.running_frame.specs.Storing.{StandsBelow, StoresOpen, is_store};
 ghost use Rattle.running_frame.specs.Upvalues.{ListsOpen};
 
-use crate::place::Here;
 use crate::upvalues::cell_of;
 use code_core::{Instruction, Opcode};
-use frame_calls::{behind, register_of};
+use frame_calls::{Stop, behind, register_of};
 use lua_heap::Cell;
 use lua_stack::{OpenCell, Stack};
 use object_pool::Pool;
@@ -19,24 +18,23 @@ use table_core::{CellId, CoroId};
 #[inline(always)]
 pub(crate) fn store_open(
     stack: &mut Stack,
-    words: &[Instruction],
+    stop: Stop,
     upvalues: &[CellId],
     cells: &Pool<Cell>,
     co: CoroId,
-    here: Here,
 ) -> Option<()>
     requires top { HasLuaTop stack.old }
     requires cells { ListsOpen co.0 stack.old cells.now.objects }
-    ensures stores { IfSome result (λ _. StoresOpen co.0 upvalues.now words.now stack.old stack.new cells.now.objects here.pc here.word) }
+    ensures stores { IfSome result (λ _. StoresOpen co.0 upvalues.now stop.entry.words.now stack.old stack.new cells.now.objects stop.entry.pc stop.entry.word) }
     ensures kept { IfNone result (stack.new ≡ stack.old) }
     ensures listed { stack.new.open_cells ≡ stack.old.open_cells }
 {
-    if !is_store(here.word) {
+    if !is_store(stop.word) {
         return None;
     }
-    let value = register_of(stack.registers(), here.word.a() as usize)?;
-    let to = behind(words, here.pc)?;
-    let variable = open_below(stack.len(), upvalues, cells, co, here.word.b())?;
+    let value = register_of(stack.registers(), stop.word.a() as usize)?;
+    let to = behind(stop.words, stop.pc)?;
+    let variable = open_below(stack.len(), upvalues, cells, co, stop.word.b())?;
     stack.set_pc(to);
     stack.set_register_at(variable.frame, variable.register, value);
     Some(())

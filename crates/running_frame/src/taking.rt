@@ -7,16 +7,15 @@ ghost use Rattle.machine_core.specs.Moves.{Row, go};
 ghost use Rattle.machine_focus.specs.Focus.{Reaches};
 ghost use Rattle.move_laws.specs.Memory.{InOrder};
 ghost use Rattle.step_laws.specs.Steps.{IsReady};
-ghost use Rattle.frame_calls.specs.Calling.{HaveCode};
+ghost use Rattle.frame_calls.specs.Calling.{HaveCode, program_of};
 ghost use Rattle.running_frame.specs.Taking.{IsWaiting, Takes, TakesAll, TakesOnTop, TakesSo};
 
 use crate::place::{is_none, is_running};
-use frame_calls::{Given, first_two, hand, list_taker_of, taker_of};
+use frame_calls::{Functions, Given, first_two, hand, list_taker_of, taker_of};
 use lua_heap::law::checked_code_is_there;
-use lua_heap::{Codes, Coro, Func, World};
+use lua_heap::{Coro, World};
 use lua_stack::{LuaState, Stack};
 use machine_moves::running;
-use object_pool::Pool;
 
 /// Whether nothing moves, or what moves is taken by the Lua frame on top: a step of the machine then.
 pub(crate) fn is_taken(world: &mut World) -> bool
@@ -73,48 +72,47 @@ fn take_on_top(world: &mut World, given: Given, count: usize) -> Option<()>
     checked_code_is_there();
     let co = running(world);
     match world.coros.get_mut(co.0) {
-        Coro::Running(stack) => take_waiting(stack, &world.funcs, &world.codes, given, count),
+        Coro::Running(stack) => {
+            let functions = Functions {
+                funcs: &world.funcs,
+                codes: &world.codes,
+            };
+            take_waiting(stack, functions, given, count)
+        }
         _ => unreachable!(),
     }
 }
 
 /// The frame on top of a stack, where it waits, takes them.
-fn take_waiting(
-    stack: &mut Stack,
-    funcs: &Pool<Func>,
-    codes: &Codes,
-    given: Given,
-    count: usize,
-) -> Option<()>
+fn take_waiting(stack: &mut Stack, functions: Functions, given: Given, count: usize) -> Option<()>
     requires top { HasLuaTop stack.old }
-    requires codes { HaveCode funcs.now.objects codes.now }
-    ensures takes { IfSome result (λ _. TakesSo stack.old stack.new funcs.now.objects codes.now given count) }
+    requires codes { HaveCode (program_of functions) }
+    ensures takes { IfSome result (λ _. TakesSo stack.old stack.new (program_of functions.entry) given count) }
     ensures kept { IfNone result (stack.new ≡ stack.old) }
     ensures listed { stack.new.open_cells ≡ stack.old.open_cells }
 {
     let caller = waiting_top(stack)?;
-    match take_values(stack, funcs, codes, caller, given) {
+    match take_values(stack, functions, caller, given) {
         Some(()) => Some(()),
-        None => take_list(stack, funcs, codes, caller, given, count),
+        None => take_list(stack, functions, caller, given, count),
     }
 }
 
 /// It takes those that it wants.
 fn take_values(
     stack: &mut Stack,
-    funcs: &Pool<Func>,
-    codes: &Codes,
+    functions: Functions,
     caller: LuaState,
     given: Given,
 ) -> Option<()>
     requires top { HasLuaTop stack.old }
     requires waits { IsWaiting stack.old caller }
-    requires codes { HaveCode funcs.now.objects codes.now }
-    ensures takes { IfSome result (λ _. Takes stack.old stack.new funcs.now.objects codes.now given) }
+    requires codes { HaveCode (program_of functions) }
+    ensures takes { IfSome result (λ _. Takes stack.old stack.new (program_of functions.entry) given) }
     ensures kept { IfNone result (stack.new ≡ stack.old) }
     ensures listed { stack.new.open_cells ≡ stack.old.open_cells }
 {
-    let taker = taker_of(funcs, codes, caller)?;
+    let taker = taker_of(functions, caller)?;
     hand(stack, taker, given);
     Some(())
 }
@@ -122,20 +120,19 @@ fn take_values(
 /// It takes all of them as an open list.
 fn take_list(
     stack: &mut Stack,
-    funcs: &Pool<Func>,
-    codes: &Codes,
+    functions: Functions,
     caller: LuaState,
     given: Given,
     count: usize,
 ) -> Option<()>
     requires top { HasLuaTop stack.old }
     requires waits { IsWaiting stack.old caller }
-    requires codes { HaveCode funcs.now.objects codes.now }
-    ensures takes { IfSome result (λ _. TakesAll stack.old stack.new funcs.now.objects codes.now given count) }
+    requires codes { HaveCode (program_of functions) }
+    ensures takes { IfSome result (λ _. TakesAll stack.old stack.new (program_of functions.entry) given count) }
     ensures kept { IfNone result (stack.new ≡ stack.old) }
     ensures listed { stack.new.open_cells ≡ stack.old.open_cells }
 {
-    let taker = list_taker_of(funcs, codes, caller, count)?;
+    let taker = list_taker_of(functions, caller, count)?;
     hand(stack, taker, given);
     stack.set_opened(count);
     Some(())

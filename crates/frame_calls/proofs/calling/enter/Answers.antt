@@ -22,11 +22,11 @@ call_in_place-requires c =
 
 pub returns-in-Ok-clause-enters : goal.returns-in-Ok-clause-enters
 returns-in-Ok-clause-enters c =
-    let count : one_less (b_of c.args.i) ≡ Some c.in_ok-given.given = search rules in
+    let count : one_less (b_of c.args.stop.word) ≡ Some c.in_ok-given.given = search rules in
     let deep : length c.args.stack.now.frames + 1 ≤ greatest_depth = search (rules, arith) in
     record {
       given = c.in_ok-given.given;
-      wants = less_is (b_of c.args.i) c.in_ok-given.given count;
+      wants = less_is (b_of c.args.stop.word) c.in_ok-given.given count;
       id = c.in_ok-id.id;
       registers = c.registers.result.now;
       are = c.registers.ensures;

@@ -1,20 +1,20 @@
 use Rattle.std.proofs.Common.{◌≡◌, ap, sym, subst, ◌∙◌}
 use Rattle.std.proofs.lemmas.Option.{IfSome_then}
 use Rattle.lua_stack.specs.Frames.{HasLuaTop, KeptStack}
-use Rattle.frame_calls.specs.Spreading.{CrossesOver}
+use Rattle.frame_calls.specs.Crossing.{CrossesAt}
 use Rattle.frame_calls.proofs.Takers.{none_then}
 use Rattle.frame_calls.proofs.crossing.cross_there.Goals as goal
 
-pub cross-requires-clause-top : goal.cross-requires-clause-top
-cross-requires-clause-top c = subst HasLuaTop (sym c.closed_from-closed.ensures.kept) c.requires.top
+pub closed_from-closed-requires : goal.closed_from-closed-requires
+closed_from-closed-requires c = c.requires.top
 
-pub cross-requires-clause-closed : goal.cross-requires-clause-closed
-cross-requires-clause-closed c = c.closed_from-closed.ensures.closed
+pub cross-requires : goal.cross-requires
+cross-requires c = record { top = subst HasLuaTop (sym c.closed_from-closed.ensures.kept) c.requires.top; codes = c.requires.codes; closed = c.closed_from-closed.ensures.closed }
 
 pub returns-clause-crosses : goal.returns-clause-crosses
 returns-clause-crosses c =
     IfSome_then c.cross.result c.cross.ensures.crosses
-    (λ o x. subst (λ (s : KeptStack). CrossesOver s c.cross.new.stack c.args.size c.args.funcs.now.objects c.args.codes.now c.args.words.now c.args.pc c.args.i c.args.budget.now c.cross.new.budget) c.closed_from-closed.ensures.kept x)
+    (λ o x. subst (λ (s : KeptStack). CrossesAt s c.cross.new.stack c.args.stop.now c.args.budget.now c.cross.new.budget) c.closed_from-closed.ensures.kept x)
 
 pub returns-clause-kept : goal.returns-clause-kept
 returns-clause-kept c =

@@ -35,7 +35,7 @@ call_behind-requires-clause-params c = c.in_ok-shape.ensures.params
 pub returns-in-Ok-clause-iterates : goal.returns-in-Ok-clause-iterates
 returns-in-Ok-clause-iterates c =
     let deep : length c.args.stack.now.frames + 1 ≤ greatest_depth = search (rules, arith) in
-    let calls : CallsBehind c.args.stack.now c.call_behind.new.self c.a-register.result 2 (c.a.result + 4) ForIterator c.args.size c.in_ok-id.id c.in_ok-shape.shape = search rules in
+    let calls : CallsBehind c.args.stack.now c.call_behind.new.self c.a-register.result 2 (c.a.result + 4) ForIterator c.args.stop.size c.in_ok-id.id c.in_ok-shape.shape = search rules in
     record {
       id = c.in_ok-id.id;
       registers = c.registers.result.now;
@@ -44,7 +44,7 @@ returns-in-Ok-clause-iterates c =
       shape = c.in_ok-shape.shape;
       has = c.in_ok-shape.ensures;
       calls =
-          subst (λ a. CallsBehind c.args.stack.now c.call_behind.new.self (a_of c.args.i) 2 (a + 4) ForIterator c.args.size c.in_ok-id.id c.in_ok-shape.shape) c.a.ensures
-          (subst (λ a. CallsBehind c.args.stack.now c.call_behind.new.self a 2 (c.a.result + 4) ForIterator c.args.size c.in_ok-id.id c.in_ok-shape.shape) c.a-register.ensures calls);
+          subst (λ a. CallsBehind c.args.stack.now c.call_behind.new.self (a_of c.args.stop.word) 2 (a + 4) ForIterator c.args.stop.size c.in_ok-id.id c.in_ok-shape.shape) c.a.ensures
+          (subst (λ a. CallsBehind c.args.stack.now c.call_behind.new.self a 2 (c.a.result + 4) ForIterator c.args.stop.size c.in_ok-id.id c.in_ok-shape.shape) c.a-register.ensures calls);
       room = deep;
     }

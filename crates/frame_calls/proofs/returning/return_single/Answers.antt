@@ -5,7 +5,7 @@ use Rattle.frame_calls.proofs.Takers.{both, caller_kept, frames_there, given_one
 use Rattle.frame_calls.proofs.returning.return_single.Goals as goal
 
 pub pop-requires : goal.pop-requires
-pop-requires c = record { there = frames_there c.requires.top; closed = λ f below t e. c.is_bare-bare.ensures.cells c.if-not-bare.false }
+pop-requires c = record { there = frames_there c.requires.may.top; closed = λ f below t e. c.is_bare-bare.ensures.cells c.if-not-bare.false }
 
 pub give-requires : goal.give-requires
 give-requires c = record { one = c.wants_one-one.ensures c.if-not-one.false; room = caller_kept _ c.in_ok-caller.ensures c.pop.ensures.frames c.in_ok-taker.ensures.takes.room }

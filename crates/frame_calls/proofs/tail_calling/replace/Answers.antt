@@ -20,11 +20,11 @@ tail_call-requires c =
 pub returns-in-Ok-clause-replaces : goal.returns-in-Ok-clause-replaces
 returns-in-Ok-clause-replaces c =
     let yes : c.is_first.result ≡ true = search rules in
-    let count : one_less (b_of c.args.i) ≡ Some c.in_ok-given.given = search rules in
+    let count : one_less (b_of c.args.stop.word) ≡ Some c.in_ok-given.given = search rules in
     let deep : length c.args.stack.now.frames ≤ greatest_depth = search (rules, arith) in
     record {
       given = c.in_ok-given.given;
-      wants = less_is (b_of c.args.i) c.in_ok-given.given count;
+      wants = less_is (b_of c.args.stop.word) c.in_ok-given.given count;
       id = c.in_ok-id.id;
       registers = c.registers.result.now;
       are = c.registers.ensures;

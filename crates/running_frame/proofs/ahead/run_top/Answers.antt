@@ -8,7 +8,7 @@ use Rattle.machine_moves.proofs.OfCode.{function_kept, function_there}
 use Rattle.machine_moves.proofs.Stacks.{within, with_stack}
 use Rattle.machine_moves.proofs.InPlace.{found, top_found}
 use Rattle.machine_arms_tables.specs.Frame.{Code as LoopCode}
-use Rattle.frame_calls.specs.Calling.{AreFunctions}
+use Rattle.frame_calls.specs.Calling.{AreFunctions, program_in}
 use Rattle.frame_calls.specs.Standing.{MayRun, standing}
 use Rattle.running_frame.specs.Apart.{IsHereIn}
 use Rattle.running_frame.proofs.Apart.{are_functions, of_held, may_run, here_in, went, number_there, code_says, cells_are, with_parts, listed_alike}
@@ -55,16 +55,12 @@ run_frame_on_top-requires g c =
     may_run g.g.around.primitives g.g.around.rows W h.place h.is h.still c.running-co.result s r code f.code.0 f.cells.items fuel h.safe h.after h.order says same c.len.ensures.apart c.len.ensures.short in (
       rw (c.deref.ensures.value, c.deref-in-Running.ensures.value, c.deref-in-Running-2.ensures.value)
           (of_held (λ g. MayRun g (record { words = code.words.items; constants = code.constants.items; upvalues = f.cells.items; texts = W.strings }) s W.tables.objects W.cells.objects fuel) g.g h runs),
-      (
-        sym (shown W c.running-co.result s h.place r h.is).coroutine ∙ ap (λ (g : Running). g.around.context.coroutine) (sym h.held),
-        (
-          sym (ap (λ (g : Running). g.string_metatable) h.held),
-          (
-            subst (λ (g : Running). AreFunctions g.around.context.base.functions W.funcs.objects W.codes) (sym h.held) (are_functions g.g.around.primitives W h.after h.order c.checked_code_is_there.ensures),
-            says.stack ∙ ap (λ (g : Running). g.around.context.closure.code.own.stack) (sym h.held),
-          ),
-        ),
-      ),
+      record {
+        functions = subst (λ (g : Running). AreFunctions g.around.context.base.functions (program_in W)) (sym h.held) (are_functions g.g.around.primitives W h.after h.order c.checked_code_is_there.ensures);
+        wants = says.stack ∙ ap (λ (g : Running). g.around.context.closure.code.own.stack) (sym h.held);
+        own = sym (shown W c.running-co.result s h.place r h.is).coroutine ∙ ap (λ (g : Running). g.around.context.coroutine) (sym h.held);
+        meta = sym (ap (λ (g : Running). g.string_metatable) h.held);
+      },
     )
 
 pub returns-clause-reaches : goal.returns-clause-reaches

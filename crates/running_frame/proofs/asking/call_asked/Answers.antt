@@ -1,6 +1,7 @@
 use Rattle.std.proofs.Common.{◌≡◌, ◌≤◌, ◌+◌, length, None, rules, arith, subst, sym}
 use Rattle.std.specs.Prelude.{IfSome}
 use Rattle.int_core.specs.Limits.{greatest_depth}
+use Rattle.frame_calls.specs.Calling.{program_of}
 use Rattle.running_frame.specs.Asking.{IsAsked, operation_of}
 use Rattle.running_frame.specs.Inheriting.{metatable_number}
 use Rattle.running_frame.proofs.asking.call_asked.Goals as goal
@@ -8,7 +9,7 @@ use Rattle.running_frame.proofs.asking.call_asked.Goals as goal
 pub returns-in_err-shape : goal.returns-in_err-shape
 returns-in_err-shape c =
     let none : c.from_residual-in_err-shape.result ≡ None = search rules in
-    subst (λ o. IfSome o (λ call. IsAsked c.args.stack.now c.args.strings.now c.args.constants.now c.args.tables.now.objects (metatable_number c.args.string_meta) c.args.funcs.now.objects c.args.codes.now c.args.i call)) (sym none) tt
+    subst (λ o. IfSome o (λ call. IsAsked c.args.stack.now c.args.heap.strings.now c.args.constants.now c.args.heap.tables.now.objects (metatable_number c.args.heap.string_meta) (program_of c.args.stop.functions) c.args.stop.word call)) (sym none) tt
 
 pub returns : goal.returns
 returns c =

@@ -1,40 +1,30 @@
-use Rattle.std.proofs.Common.{◌≡◌, inl, inr, refl, Some, sym, subst, ◌∙◌}
-use Rattle.std.specs.Prelude.{IfNone, IfSome, slice_get}
+use Rattle.std.proofs.Common.{◌≡◌, inl, inr, refl, subst, ◌∙◌}
+use Rattle.std.specs.Prelude.{IfNone, IfSome}
 use Rattle.std.proofs.lemmas.Option.{IfSome_then}
-use Rattle.lua_stack.specs.Frames.{HasLuaTop, KeptStack}
-use Rattle.frame_calls.specs.Spreading.{CrossesOver}
+use Rattle.lua_stack.specs.Frames.{KeptStack}
+use Rattle.frame_calls.specs.Crossing.{CrossesAt}
 use Rattle.running_frame.specs.Storing.{StoresOpen}
-use Rattle.frame_calls.proofs.Takers.{none_then}
+use Rattle.frame_calls.proofs.Takers.{none_then, still_may}
 use Rattle.running_frame.proofs.crossing.leave_frame.Goals as goal
 
-pub returns-in-Some-clause-leaves : goal.returns-in-Some-clause-leaves
-returns-in-Some-clause-leaves c = record {
-  word = c.here_at-here.result.word;
-  at_pc = subst (λ n. slice_get c.args.words.now n ≡ Some c.here_at-here.result.word) c.here_at-here.ensures.place c.here_at-here.ensures.word;
-  leaves =
-      inr (
-        subst (λ n. StoresOpen c.args.co.0 c.args.upvalues.now c.args.words.now c.args.stack.now c.store_open.new.stack c.args.cells.now.objects n c.here_at-here.result.word) c.here_at-here.ensures.place
-            (subst (λ o. IfSome o (λ _. StoresOpen c.args.co.0 c.args.upvalues.now c.args.words.now c.args.stack.now c.store_open.new.stack c.args.cells.now.objects c.here_at-here.result.pc c.here_at-here.result.word)) c.in-Some.is c.store_open.ensures.stores),
-        refl,
-      );
-}
+pub store_open-requires-clause-top : goal.store_open-requires-clause-top
+store_open-requires-clause-top c = c.requires.may.top
 
-pub cross_over_at-requires-clause-top : goal.cross_over_at-requires-clause-top
-cross_over_at-requires-clause-top c =
-    let k = subst (λ o. IfNone o (c.store_open.new.stack ≡ c.args.stack.now)) c.in-None.is c.store_open.ensures.kept in
-    subst HasLuaTop (sym k) c.requires.top
+pub returns-in-Some-clause-leaves : goal.returns-in-Some-clause-leaves
+returns-in-Some-clause-leaves c =
+    inr (
+      subst (λ o. IfSome o (λ _. StoresOpen c.args.co.0 c.args.upvalues.now c.args.stop.words.now c.args.stack.now c.store_open.new.stack c.args.cells.now.objects c.args.stop.pc c.args.stop.word)) c.in-Some.is c.store_open.ensures.stores,
+      refl,
+    )
+
+pub cross_over_at-requires : goal.cross_over_at-requires
+cross_over_at-requires c = still_may (subst (λ o. IfNone o (c.store_open.new.stack ≡ c.args.stack.now)) c.in-None.is c.store_open.ensures.kept) c.requires.may
 
 pub returns-in-None-clause-leaves : goal.returns-in-None-clause-leaves
 returns-in-None-clause-leaves c =
     let k = subst (λ o. IfNone o (c.store_open.new.stack ≡ c.args.stack.now)) c.in-None.is c.store_open.ensures.kept in
     IfSome_then c.cross_over_at.result c.cross_over_at.ensures.crosses
-    (λ o x. record {
-      word = c.here_at-here.result.word;
-      at_pc = subst (λ n. slice_get c.args.words.now n ≡ Some c.here_at-here.result.word) c.here_at-here.ensures.place c.here_at-here.ensures.word;
-      leaves =
-          inl (
-          subst (λ (s : KeptStack). CrossesOver s c.cross_over_at.new.stack c.args.size c.args.funcs.now.objects c.args.codes.now c.args.words.now c.args.pc c.here_at-here.result.word c.args.budget.now c.cross_over_at.new.budget) k x);
-    })
+    (λ o x. inl (subst (λ (s : KeptStack). CrossesAt s c.cross_over_at.new.stack c.args.stop c.args.budget.now c.cross_over_at.new.budget) k x))
 
 pub returns-in-None-clause-kept : goal.returns-in-None-clause-kept
 returns-in-None-clause-kept c =

@@ -4,30 +4,28 @@ use Rattle.lua_heap.specs.Reading.{value}
 use Rattle.lua_stack.specs.Frames.{KeptStack}
 use Rattle.machine_arms_tables.specs.Frame.{code}
 use Rattle.machine_focus.specs.Focus.{Reaches}
+use Rattle.frame_calls.specs.Calling.{program_of}
 use Rattle.frame_calls.specs.Standing.{RunsAt, standing}
 use Rattle.running_frame.proofs.Left.{left_or_not}
 use Rattle.running_frame.proofs.OnStack.{place_within}
 use Rattle.running_frame.proofs.OpenRead.{lists_open}
 use Rattle.running_frame.proofs.crossing.leave_or_go_on.Goals as goal
 
-pub leave_frame-requires-clause-top : goal.leave_frame-requires-clause-top
-leave_frame-requires-clause-top g c =
-    let m = c.requires.0.may in
-    record { value = value g.g.around.texts; below = g.g.around.context.below; top = m.top; is = m.is }
+pub fetch-word-requires : goal.fetch-word-requires
+fetch-word-requires g c = place_within c.requires.0
 
-pub leave_frame-requires-clause-codes : goal.leave_frame-requires-clause-codes
-leave_frame-requires-clause-codes g c = c.requires.1.0.have
+pub leave_frame-requires-clause-may : goal.leave_frame-requires-clause-may
+leave_frame-requires-clause-may g c =
+    let m = c.requires.0.may in
+    record { top = record { value = value g.g.around.texts; below = g.g.around.context.below; top = m.top; is = m.is }; codes = c.requires.1.functions.have; closed = tt }
 
 pub leave_frame-requires-clause-cells : goal.leave_frame-requires-clause-cells
-leave_frame-requires-clause-cells g c = lists_open c.args.co.0 c.requires.1.1.1.0 c.requires.0
-
-pub leave_frame-requires-clause-there : goal.leave_frame-requires-clause-there
-leave_frame-requires-clause-there g c = place_within c.requires.0
+leave_frame-requires-clause-cells g c = lists_open c.args.around.co.0 c.requires.1.own c.requires.0
 
 pub returns-in-Some-clause-reaches : goal.returns-in-Some-clause-reaches
 returns-in-Some-clause-reaches g c =
-    left_or_not g.g (code c.args.closure c.args.strings.now) c.args.stack.now c.args.tables.now.objects c.args.cells.now.objects c.args.budget.now c.args.pc c.requires.0
-    c.leave_frame.new.stack c.args.size c.args.funcs.now.objects c.args.codes.now c.leave_frame.new.budget c.args.co.0 c.requires.1.0 c.requires.1.1.0 c.requires.1.1.1.0
+    left_or_not g.g (code c.args.body.closure c.args.around.strings.now) c.args.stack.now c.args.tables.now.objects c.args.cells.now.objects c.args.budget.now c.args.pc c.requires.0
+    c.leave_frame.new.stack c.args.body.size (program_of c.args.around.functions) c.fetch-word.result c.leave_frame.new.budget c.args.around.co.0 c.requires.1.functions c.requires.1.wants c.requires.1.own c.fetch-word.ensures
     c.leave_frame.result c.leave_frame.ensures.leaves c.leave_frame.ensures.kept
 
 pub returns-in-Some-clause-listed : goal.returns-in-Some-clause-listed
@@ -36,7 +34,7 @@ returns-in-Some-clause-listed g c = c.leave_frame.ensures.listed
 pub read_or_ask-requires : goal.read_or_ask-requires
 read_or_ask-requires g c =
     let kept = subst (λ o. IfNone o ((c.leave_frame.new.stack ≡ c.args.stack.now) × (c.leave_frame.new.budget ≡ c.args.budget.now))) c.in-None.is c.leave_frame.ensures.kept in
-    let k = code c.args.closure c.args.strings.now in
+    let k = code c.args.body.closure c.args.around.strings.now in
     let ts = c.args.tables.now.objects in
     let cs = c.args.cells.now.objects in (
       subst (λ (s : KeptStack). RunsAt g.g k s ts cs c.leave_frame.new.budget c.args.pc) (sym kept.0)

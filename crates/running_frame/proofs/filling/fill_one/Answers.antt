@@ -28,7 +28,7 @@ returns-clause-fills c =
     let short = c.is_short_list.ensures yes in
     let to = c.in_ok-to.ensures in
     record {
-      is_list = set_list_is (opcode_of c.args.stop.here.word) short.0;
+      is_list = set_list_is (opcode_of c.args.stop.word) short.0;
       near = sym c.k-far.ensures ∙ c.if-far.false;
       one = short.1;
       registers = c.registers-registers.result.now;
@@ -38,9 +38,9 @@ returns-clause-fills c =
       item = c.in_ok-item.item;
       given = subst (λ a. slice_get c.registers-registers.result.now (a + 1) ≡ Some c.in_ok-item.item) c.a-register.ensures c.in_ok-item.ensures;
       fills = subst (λ n. FillsTable c.args.tables.now.objects c.fill_behind.new.tables.objects c.in_ok-id.id n c.in_ok-item.item) c.c.ensures c.in_ok-fill_behind.ensures.fills;
-      within = subst (λ n. n < length c.args.words.now) to.0 to.1;
+      within = subst (λ n. n < length c.args.stop.words.now) to.0 to.1;
       becomes =
-          subst (λ n. TopBecomes c.args.stack.now c.set_pc.new.self (λ f t. with_pc n (with_opened 0 (with_registers (take c.args.size t.own.registers) t)))) to.0
+          subst (λ n. TopBecomes c.args.stack.now c.set_pc.new.self (λ f t. with_pc n (with_opened 0 (with_registers (take c.args.stop.size t.own.registers) t)))) to.0
           (both_changes c.end_list.ensures c.set_pc.ensures);
     }
 

@@ -13,7 +13,7 @@ use Rattle.running_frame.proofs.inherited.get_method.Goals as goal
 pub put-requires : goal.put-requires
 put-requires g c =
     let h =
-    read_at g.g (code c.args.closure c.args.strings.now) c.args.stack.now c.args.tables.now.objects c.args.pc c.registers_mut-registers.result.now c.registers_mut-registers.ensures.registers c.requires.0.cells c.requires.0.fuel c.requires.0.runs OpSelf c.args.i c.requires.1.1.0 c.requires.1.1.1 in
+    read_at g.g (code c.args.closure c.args.heap.strings.now) c.args.stack.now c.args.heap.tables.now.objects c.args.pc c.registers_mut-registers.result.now c.registers_mut-registers.ensures.registers c.requires.0.cells c.requires.0.fuel c.requires.0.runs OpSelf c.args.i c.requires.1.1.0 c.requires.1.1.1 in
     let l = register_there h 0 (a_of c.args.i + 1) refl in
     let e = c.a-a.ensures in
     omega (arith, l, e)
@@ -21,7 +21,7 @@ put-requires g c =
 pub put-requires-2 : goal.put-requires-2
 put-requires-2 g c =
     let h =
-    read_at g.g (code c.args.closure c.args.strings.now) c.args.stack.now c.args.tables.now.objects c.args.pc c.registers_mut-registers.result.now c.registers_mut-registers.ensures.registers c.requires.0.cells c.requires.0.fuel c.requires.0.runs OpSelf c.args.i c.requires.1.1.0 c.requires.1.1.1 in
+    read_at g.g (code c.args.closure c.args.heap.strings.now) c.args.stack.now c.args.heap.tables.now.objects c.args.pc c.registers_mut-registers.result.now c.registers_mut-registers.ensures.registers c.requires.0.cells c.requires.0.fuel c.requires.0.runs OpSelf c.args.i c.requires.1.1.0 c.requires.1.1.1 in
     let l = register_there h 0 (a_of c.args.i + 1) refl in
     let e = c.a-a.ensures in
     let n = ap length c.put.ensures ∙ length_set c.registers_mut-registers.result.now _ _ in
@@ -30,7 +30,7 @@ put-requires-2 g c =
 pub next-to-requires : goal.next-to-requires
 next-to-requires g c =
     next_there
-    (read_at g.g (code c.args.closure c.args.strings.now) c.args.stack.now c.args.tables.now.objects c.args.pc c.registers_mut-registers.result.now c.registers_mut-registers.ensures.registers c.requires.0.cells c.requires.0.fuel c.requires.0.runs OpSelf c.args.i c.requires.1.1.0 c.requires.1.1.1)
+    (read_at g.g (code c.args.closure c.args.heap.strings.now) c.args.stack.now c.args.heap.tables.now.objects c.args.pc c.registers_mut-registers.result.now c.registers_mut-registers.ensures.registers c.requires.0.cells c.requires.0.fuel c.requires.0.runs OpSelf c.args.i c.requires.1.1.0 c.requires.1.1.1)
     refl
 
 pub set_pc-requires : goal.set_pc-requires
@@ -38,14 +38,14 @@ set_pc-requires g c = stays_so c.requires.0.runs c.registers_mut-registers.resul
 
 pub returns-clause-goes : goal.returns-clause-goes
 returns-clause-goes g c =
-    let k = code c.args.closure c.args.strings.now in
+    let k = code c.args.closure c.args.heap.strings.now in
     let r = c.registers_mut-registers.result.now in
-    let ts = c.args.tables.now.objects in
+    let ts = c.args.heap.tables.now.objects in
     let object = c.in_ok-object.object in
     let v = c.in_ok-v.v in
     let constant_key : k_of c.args.i ≡ true = sym c.k-constant.ensures ∙ c.if-not-constant.false in
     let finds =
-    finds_here g.g.around.texts c.args.strings.now ts g.g.string_metatable (metatable_number c.args.string_meta) object c.in_ok-key.key v c.requires.0.runs.may.closure.texts_are c.requires.1.0 c.in_ok-v.ensures in
+    finds_here g.g.around.texts c.args.heap.strings.now ts g.g.string_metatable (metatable_number c.args.heap.string_meta) object c.in_ok-key.key v c.requires.0.runs.may.closure.texts_are c.requires.1.0 c.in_ok-v.ensures in
     method_goes g.g k c.args.stack.now ts c.args.pc r c.registers_mut-registers.ensures.registers c.put-2.new.registers (c.put-2.auto.registers ∙ c.put.auto.registers) c.next-to.result c.set_pc.new.self c.set_pc.ensures
     c.args.i c.requires.1.1.0 c.next-to.ensures c.registers.result.now c.registers.ensures object c.in_ok-key.key v
     (ap (slice_get c.registers.result.now) (sym c.b.ensures) ∙ sym c.in_ok-object.ensures) (ap (slice_get c.args.closure.constants.now) (sym c.c.ensures) ∙ sym c.in_ok-key.ensures) finds

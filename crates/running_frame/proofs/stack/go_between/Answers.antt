@@ -1,21 +1,13 @@
-use Rattle.std.proofs.Common.{refl, sym, subst}
+use Rattle.std.proofs.Common.{refl, subst}
 use Rattle.std.specs.Prelude.{IfSome}
-use Rattle.machine_arms_tables.specs.Frame.{code}
 use Rattle.machine_loop.specs.Knowing.{AllHold}
-use Rattle.frame_calls.specs.Standing.{RunsAt, standing}
+use Rattle.frame_calls.specs.Standing.{standing}
 use Rattle.frame_calls.proofs.Chained.{reaches_none}
+use Rattle.running_frame.proofs.FoundFields.{over_runs}
 use Rattle.running_frame.proofs.stack.go_between.Goals as goal
 
 pub remember-requires : goal.remember-requires
-remember-requires g c =
-    let x = c.requires.0 in (
-      record {
-        tables = c.args.tables.now.objects;
-        fuel = x.fuel;
-        runs = subst (λ texts. RunsAt g.g (code c.args.closure texts) c.args.stack.now c.args.tables.now.objects c.args.cells.now.objects x.fuel c.args.pc) (sym x.runs.may.closure.texts_are) x.runs;
-      },
-      (c.requires.1.1.0, c.requires.1.1.1.1),
-    )
+remember-requires g c = (over_runs c.requires.0, (c.requires.1.1.0, c.requires.1.1.1.1))
 
 pub returns-in-Some-clause-goes : goal.returns-in-Some-clause-goes
 returns-in-Some-clause-goes g c = record {

@@ -25,4 +25,4 @@ returns-clause-here g c =
 
 pub returns-clause-runs : goal.returns-clause-runs
 returns-clause-runs g c =
-    subst (λ pc. RunsAt g.g (code c.args.closure c.args.strings.now) c.run_rounds-pc.new.stack c.run_rounds-pc.new.tables.objects c.run_rounds-pc.new.cells.objects c.run_rounds-pc.new.budget pc) (sym c.here_at.ensures.place) c.run_rounds-pc.ensures.runs
+    subst (λ pc. RunsAt g.g (code c.args.closure c.args.around.strings.now) c.run_rounds-pc.new.stack c.run_rounds-pc.new.tables.objects c.run_rounds-pc.new.cells.objects c.run_rounds-pc.new.budget pc) (sym c.here_at.ensures.place) c.run_rounds-pc.ensures.runs

@@ -41,7 +41,7 @@ returns-in_default-clause-reaches g c =
 pub returns-in_default-clause-runs : goal.returns-in_default-clause-runs
 returns-in_default-clause-runs g c =
     let kept : c.read_once.new.stack ≡ c.run_once-at.new.stack = search rules in
-    subst (λ (s : KeptStack). RunsAt g.g (code c.args.closure c.args.strings.now) s c.run_once-at.new.tables.objects c.run_once-at.new.cells.objects c.run_once-at.new.budget c.run_once-at.result) (sym kept) c.run_once-at.ensures.runs
+    subst (λ (s : KeptStack). RunsAt g.g (code c.args.closure c.args.around.strings.now) s c.run_once-at.new.tables.objects c.run_once-at.new.cells.objects c.run_once-at.new.budget c.run_once-at.result) (sym kept) c.run_once-at.ensures.runs
 
 pub returns-in_default-clause-opened : goal.returns-in_default-clause-opened
 returns-in_default-clause-opened g c = c.loop-round.invariant.opened ∙ c.run_once-at.ensures.opened
@@ -55,7 +55,7 @@ pub loop-round-preserved : goal.loop-round-preserved
 loop-round-preserved g c =
     let r = c.run_once-at.ensures in
     let fuel = c.run_once-at.new.budget in
-    let o : GoesWith g.g (code c.args.closure c.args.strings.now) c.run_once-at.new.stack c.read_once.new.stack c.run_once-at.new.tables.objects c.run_once-at.new.cells.objects c.run_once-at.result c.in-Some.to =
+    let o : GoesWith g.g (code c.args.closure c.args.around.strings.now) c.run_once-at.new.stack c.read_once.new.stack c.run_once-at.new.tables.objects c.run_once-at.new.cells.objects c.run_once-at.result c.in-Some.to =
     over_goes r.runs.may.closure.texts_are c.in-Some.ensures.goes in
     record {
       reaches = reaches_then g.g.around.rows (reaches_then g.g.around.rows c.loop-round.invariant.reaches r.reaches) (o.reaches fuel r.runs);

@@ -13,7 +13,7 @@ ghost-read_once g a = g.g
 abbrev pub invariant-loop-round : goal.invariant-loop-round
 invariant-loop-round g l = record {
   reaches : Reaches g.g.around.rows (standing g.g l.initial.stack l.initial.tables.objects l.initial.cells.objects l.initial.budget) (standing g.g l.stack l.tables.objects l.cells.objects l.budget);
-  runs : RunsAt g.g (code l.closure l.strings) l.stack l.tables.objects l.cells.objects l.budget l.pc;
+  runs : RunsAt g.g (code l.closure l.around.strings.now) l.stack l.tables.objects l.cells.objects l.budget l.pc;
   opened : AreOpenAlike l.initial.cells.objects l.cells.objects;
   listed : l.stack.open_cells ≡ l.initial.stack.open_cells;
 }

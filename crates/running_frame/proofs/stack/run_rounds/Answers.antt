@@ -35,7 +35,7 @@ returns-in_default-clause-reaches g c =
 pub returns-in_default-clause-runs : goal.returns-in_default-clause-runs
 returns-in_default-clause-runs g c =
     let kept : c.go_between.new.stack ≡ c.loop.stack = search rules in
-    subst (λ (s : KeptStack). RunsAt g.g (code c.args.closure c.args.strings.now) s c.loop.tables.objects c.loop.cells.objects c.loop.budget c.loop.pc) (sym kept) c.loop.invariant.runs
+    subst (λ (s : KeptStack). RunsAt g.g (code c.args.closure c.args.around.strings.now) s c.loop.tables.objects c.loop.cells.objects c.loop.budget c.loop.pc) (sym kept) c.loop.invariant.runs
 
 pub returns-in_default-clause-listed : goal.returns-in_default-clause-listed
 returns-in_default-clause-listed g c =

@@ -14,7 +14,7 @@ ghost-go_between g a = g.g
 abbrev pub invariant-loop : goal.invariant-loop
 invariant-loop g l = record {
   reaches : Reaches g.g.around.rows (standing g.g l.initial.stack l.initial.tables.objects l.initial.cells.objects l.initial.budget) (standing g.g l.stack l.tables.objects l.cells.objects l.budget);
-  runs : RunsAt g.g (code l.closure l.strings) l.stack l.tables.objects l.cells.objects l.budget l.pc;
+  runs : RunsAt g.g (code l.closure l.around.strings.now) l.stack l.tables.objects l.cells.objects l.budget l.pc;
   opened : AreOpenAlike l.initial.cells.objects l.cells.objects;
   listed : l.stack.open_cells ≡ l.initial.stack.open_cells;
   known : AllHold g.g.around l.closure.upvalues.now l.cells.objects l.memo;

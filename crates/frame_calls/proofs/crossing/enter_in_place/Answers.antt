@@ -1,0 +1,13 @@
+use Rattle.std.proofs.Common.{◌≡◌, arith, rules}
+use Rattle.std.proofs.lemmas.Option.{IfSome_then}
+use Rattle.code_core.specs.Instruction.{b_of}
+use Rattle.frame_calls.specs.Crossing.{by_counted_tail_call, by_spread_tail_call}
+use Rattle.frame_calls.proofs.crossing.enter_in_place.Goals as goal
+
+pub returns-then-b-eq0-clause-enters : goal.returns-then-b-eq0-clause-enters
+returns-then-b-eq0-clause-enters c =
+    let all : b_of c.args.stop.word ≡ 0 = search (rules, arith) in
+    IfSome_then c.replace_with_list.result c.replace_with_list.ensures.replaces (λ o x fuel left paid. by_spread_tail_call (record { is_tail_call = c.requires.is; takes_all = all; paid = paid; enters = x }))
+
+pub returns-clause-enters : goal.returns-clause-enters
+returns-clause-enters c = IfSome_then c.replace.result c.replace.ensures.replaces (λ o x fuel left paid. by_counted_tail_call (record { is_tail_call = c.requires.is; paid = paid; enters = x }))
