@@ -1,11 +1,11 @@
 -- Rows that put a value into a register.
-use Rattle.std.proofs.Common.{◌≡◌, ℕ, zero, suc, ◌+◌, ◌<◌, ◌≤◌, List, [], length, map, Option, Some, None, refl, ap, sym, ◌∙◌, subst, arith}
+use Rattle.std.proofs.Common.{◌≡◌, ℕ, zero, suc, ◌+◌, ◌<◌, ◌≤◌, List, [], length, map, Option, Some, None, refl, ap, sym, ◌∙◌, subst, arith, Bool}
 use Rattle.code_core.specs.declared.instruction.Instruction.{Instruction}
 use Rattle.code_core.specs.declared.opcode.Opcode.{Opcode}
 use Rattle.lua_heap.specs.Reading.{value}
 use Rattle.machine_core.specs.InstructionRows.{row_of}
 use Rattle.machine_view.specs.View.{Around, IsCode, IsAt, Goes}
-use Rattle.machine_view.proofs.Places.{register_there, constant_there, extra_there, target_there}
+use Rattle.machine_view.proofs.Places.{register_there, constant_there, extra_there, next_there, target_there}
 use Rattle.machine_view.proofs.Rows.{reads, writes_nils, reads_constant, same_text}
 use Rattle.machine_view.proofs.Going.{going, at_next, at_second, goes_by, puts}
 use Rattle.table_core.specs.declared.value.Value.{Value as Kept}
@@ -14,13 +14,13 @@ use Rattle.code_core.specs.Check.{extra_at}
 use Rattle.code_core.specs.Fields.{anything}
 use Rattle.code_core.specs.Instruction.{a_of, b_of, bx_of, ax_of}
 use Rattle.code_core.specs.Prototype.{Prototype}
-use Rattle.code_core.specs.declared.opcode.Opcode.TheVariants.{Move, LFalseSkip, LoadK, LoadKx, LoadNil, ExtraArg}
-use Rattle.int_core.specs.Value.{Value, known, nil, write, write_all}
-use Rattle.machine_core.specs.Text.{Arg, arg, own, read, write_register, read_constant, go_by, nils, Text, trap}
-use Rattle.machine_sound.proofs.Lists.{length_set}
+use Rattle.code_core.specs.declared.opcode.Opcode.TheVariants.{Move, LoadFalse, LFalseSkip, LoadTrue, LoadK, LoadKx, LoadNil, ExtraArg}
+use Rattle.int_core.specs.Value.{Value, boolean, known, nil, write, write_all}
+use Rattle.machine_core.specs.Text.{Arg, arg, own, read, write_register, written, read_constant, go_by, nils, Text, trap}
+use Rattle.machine_sound.proofs.Lists.{length_set, some_is}
 use Rattle.machine_view.proofs.Rows.{write_map}
-use Rattle.table_core.specs.declared.value.Value.TheVariants.{Nil}
-use Rattle.machine_arms_numbers.specs.Numbers.{cleared}
+use Rattle.table_core.specs.declared.value.Value.TheVariants.{Bool as Boolean, Nil}
+use Rattle.machine_arms_numbers.specs.Numbers.{cleared, loads_truth}
 
 pub move_does : {w : Instruction} {ws : List Instruction} {ks r s : List Kept} {pc to : ℕ} {v : Kept} → IsAt Move w ws ks r pc → slice_get r (b_of w) ≡ Some v → s ≡ slice_set r (a_of w) v → to ≡ pc + 1 → (fuel : ℕ) → Goes Move w ws ks r pc fuel s to fuel
 move_does {w = w} {r = r} {pc = pc} {v = v} h e f p fuel = going (at_next h refl p) (λ g heap cells c.
@@ -90,3 +90,22 @@ skip_lands {ws = ws} {pc = pc} h =
   where
     pos_is : (m n : ℕ) → pos m ≡ pos n → m ≡ n
     pos_is m n e = grind arith
+
+-- a truth
+
+pub record OfTruth (op : Opcode) (w : Instruction) (ws : List Instruction) (r : List Kept) (pc : ℕ) (truth : Bool) (by : ℕ) : Type 0 where
+  pub row : (p : Prototype) (pc : ℕ) → row_of p pc op w ≡ own (write_register (a_of w) (written (boolean truth))) (λ _ _. go_by (pos by))
+  pub there : a_of w < length r
+  pub lands : pc + by < length ws
+
+module _ {w : Instruction} {ws : List Instruction} {ks r : List Kept} {pc : ℕ} {truth : Bool} {by : ℕ} where
+  pub of_truth : (op : Opcode) → IsAt op w ws ks r pc → loads_truth op ≡ Some (truth, by) → OfTruth op w ws r pc truth by
+  of_truth LoadFalse h e = subst (λ (x : Bool × ℕ). OfTruth LoadFalse w ws r pc x.0 x.1) (some_is refl e) (record { row = λ p pc. refl; there = register_there h 0 (a_of w) refl; lands = next_there h refl })
+  of_truth LFalseSkip h e = subst (λ (x : Bool × ℕ). OfTruth LFalseSkip w ws r pc x.0 x.1) (some_is refl e) (record { row = λ p pc. refl; there = register_there h 0 (a_of w) refl; lands = skip_lands h })
+  of_truth LoadTrue h e = subst (λ (x : Bool × ℕ). OfTruth LoadTrue w ws r pc x.0 x.1) (some_is refl e) (record { row = λ p pc. refl; there = register_there h 0 (a_of w) refl; lands = next_there h refl })
+  of_truth _ h e = absurd (cc)
+
+  pub truth_does : {s : List Kept} {to : ℕ} (op : Opcode) → IsAt op w ws ks r pc → loads_truth op ≡ Some (truth, by) → s ≡ slice_set r (a_of w) (Boolean truth) → to ≡ pc + by → (fuel : ℕ) → Goes op w ws ks r pc fuel s to fuel
+  truth_does op h e f p =
+      let t = of_truth op h e in
+      written_does (written (boolean truth)) by (Boolean truth) t.row (λ texts. refl) (subst (λ n. n < length ws) (sym p) t.lands) t.there f p

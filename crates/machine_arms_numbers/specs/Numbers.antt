@@ -114,6 +114,13 @@ always_goes Test = true
 always_goes TestSet = true
 always_goes _ = false
 
+-- the truth that an instruction loads, and how far it goes on
+abbrev pub loads_truth : Opcode → Option (Bool × ℕ)
+loads_truth LoadFalse = Some (false, 1)
+loads_truth LFalseSkip = Some (false, 2)
+loads_truth LoadTrue = Some (true, 1)
+loads_truth _ = None
+
 -- some registers from one on are nil
 abbrev pub cleared : ℕ → ℕ → List Value → List Value
 cleared from zero r = r

@@ -10,8 +10,7 @@ use crate::comparisons::{
 };
 use crate::jumps::{begin_varargs, for_each_loop, for_each_prep, for_loop, for_prep, jump};
 use crate::loads::{
-    load_constant, load_false, load_false_skip, load_far_constant, load_integer, load_nil,
-    load_true, move_register,
+    load_constant, load_far_constant, load_integer, load_nil, load_truth, move_register,
 };
 use crate::site::Site;
 use crate::truths::{negate_truth, test, test_set};
@@ -48,9 +47,9 @@ pub fn run_instruction(
         Opcode::LoadI => Some(load_integer(site, registers)),
         Opcode::LoadK => Some(load_constant(site, registers)),
         Opcode::LoadKx => Some(load_far_constant(site, registers)),
-        Opcode::LoadFalse => Some(load_false(site, registers)),
-        Opcode::LFalseSkip => Some(load_false_skip(site, registers)),
-        Opcode::LoadTrue => Some(load_true(site, registers)),
+        Opcode::LoadFalse => Some(load_truth(Opcode::LoadFalse, site, registers, false, 1)),
+        Opcode::LFalseSkip => Some(load_truth(Opcode::LFalseSkip, site, registers, false, 2)),
+        Opcode::LoadTrue => Some(load_truth(Opcode::LoadTrue, site, registers, true, 1)),
         Opcode::LoadNil => Some(load_nil(site, registers)),
         // An arm for each operator, so that the choice is not made a second time in it.
         Opcode::AddI => Some(with_numeral(Opcode::AddI, site, registers)),

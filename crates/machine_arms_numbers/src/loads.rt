@@ -1,12 +1,12 @@
 // Instructions that put a value into a register (Lua 5.4's lopcodes.h, MOVE to LOADNIL).
-ghost use Rattle.std.specs.Prelude.{◌≡◌, ◌+◌, ◌≤◌, length};
-ghost use Rattle.code_core.specs.declared.opcode.Opcode.TheVariants.{Move, LoadI, LoadK, LoadKx, LoadFalse, LFalseSkip, LoadTrue, LoadNil};
+ghost use Rattle.std.specs.Prelude.{◌≡◌, ◌+◌, ◌≤◌, length, Some};
+ghost use Rattle.code_core.specs.declared.opcode.Opcode.TheVariants.{Move, LoadI, LoadK, LoadKx, LoadNil};
 ghost use Rattle.machine_arms_numbers.specs.Leading.{IsSite, Leads};
-ghost use Rattle.machine_arms_numbers.specs.Numbers.{cleared};
+ghost use Rattle.machine_arms_numbers.specs.Numbers.{cleared, loads_truth};
 
 use crate::registers::{constant, get_b};
 use crate::site::Site;
-use code_core::fetch;
+use code_core::{Opcode, fetch};
 use table_core::Value;
 
 /// MOVE: R[A] := R[B].
@@ -49,31 +49,20 @@ pub(crate) fn load_far_constant(site: Site, registers: &mut [Value]) -> usize
     site.put_value(registers, v, 2)
 }
 
-/// LOADFALSE: R[A] := false.
+/// LOADFALSE, LFALSESKIP and LOADTRUE: R[A] := a truth, and on to the place `by` behind the instruction.
 #[inline(always)]
-pub(crate) fn load_false(site: Site, registers: &mut [Value]) -> usize
-    requires { IsSite LoadFalse site registers.old }
-    ensures { Leads LoadFalse site.entry registers.old registers.new result }
+pub(crate) fn load_truth(
+    op: Opcode,
+    site: Site,
+    registers: &mut [Value],
+    truth: bool,
+    by: usize,
+) -> usize
+    requires at { IsSite op site registers.old }
+    requires form { loads_truth op ≡ Some (truth, by) }
+    ensures { Leads op site.entry registers.old registers.new result }
 {
-    site.put_value(registers, Value::Bool(false), 1)
-}
-
-/// LFALSESKIP: R[A] := false, and the next instruction is passed over.
-#[inline(always)]
-pub(crate) fn load_false_skip(site: Site, registers: &mut [Value]) -> usize
-    requires { IsSite LFalseSkip site registers.old }
-    ensures { Leads LFalseSkip site.entry registers.old registers.new result }
-{
-    site.put_value(registers, Value::Bool(false), 2)
-}
-
-/// LOADTRUE: R[A] := true.
-#[inline(always)]
-pub(crate) fn load_true(site: Site, registers: &mut [Value]) -> usize
-    requires { IsSite LoadTrue site registers.old }
-    ensures { Leads LoadTrue site.entry registers.old registers.new result }
-{
-    site.put_value(registers, Value::Bool(true), 1)
+    site.put_value(registers, Value::Bool(truth), by)
 }
 
 /// LOADNIL: R[A] to R[A + B] := nil.
