@@ -1,6 +1,8 @@
 -- The row of `coroutine.resume`, over whole worlds.
-use Rattle.std.proofs.Common.{◌≡◌, ⊎_elim, ℕ, ◌+◌, ◌≤◌, List, [], ◌∷◌, ◌++◌, length, map, Option, Some, None, refl, ap, sym, subst, ◌∙◌, append-nil, Bool, true, false, arith}
-use Rattle.std.specs.Prelude.{◌&&◌, cond, codes, drop, nat_lt, nat_le, slice_get}
+use Rattle.std.proofs.Common.{◌≡◌, ⊎_elim, ℕ, ◌+◌, ◌≤◌, List, [], ◌∷◌, ◌++◌, length, map, Option, Some, None, Result, refl, ap, sym, subst, ◌∙◌, append-nil, Bool, true, false, arith}
+use Rattle.std.specs.Prelude.{◌&&◌, OnErr, cond, codes, drop, nat_lt, nat_le, slice_get}
+use Rattle.std.specs.Global.{Vec}
+use Rattle.lua_stack.proofs.Called.{on_err}
 use Rattle.std.proofs.lemmas.List.{length-map}
 use Rattle.int_core.specs.Limits.{greatest_depth, greatest_resumes, stack_overflow}
 use Rattle.int_core.specs.Value.{boolean, string, Value, known, object, primitive, a_coroutine, a_function, shape, bind, last, nth}
@@ -232,6 +234,20 @@ pub goes_from : {old mid new : Memory} {co : ℕ} {fs : List Frame} → ((fuel :
 goes_from {old} {mid} {new} {co} {fs} same g = record {
   is = λ fuel s e. g.is fuel s (ap stack_of (same fuel) ∙ e) ∙ ap (λ W. go_into (wait_for_another W s) co fs) (same fuel);
 }
+
+-- the list of the coroutines that wait has only been given room
+module _ (W : Memory) (chain : Vec CoroId) (items : chain.items ≡ W.chain.items) where
+  abbrev given_room : Memory
+  given_room = record W { chain = chain }
+
+  pub room_runs : HasStack W → HasStack given_room
+  room_runs = same_runs (same_chain W given_room refl items)
+
+  pub room_reads : {A E : Type 0} (r : Result A E) → OnErr r (ReadsSame W given_room)
+  room_reads r = on_err _ r (record { is = same_chain W given_room refl items })
+
+  pub room_goes : {new : Memory} {co : ℕ} {fs : List Frame} → GoesInto given_room new co fs → GoesInto W new co fs
+  room_goes = goes_from (same_chain W given_room refl items)
 
 drop_map : {A B : Type 0} (f : A → B) (xs : List A) → map f (drop 1 xs) ≡ drop 1 (map f xs)
 drop_map f [] = refl

@@ -7,25 +7,21 @@ use Rattle.machine_core.specs.Moves.{new_frame}
 use Rattle.table_core.specs.declared.value.Value.TheVariants.{Func}
 use Rattle.lib_coroutine.specs.Resuming.{GoesInto}
 use Rattle.lib_coroutine.proofs.Closes.{taken_is}
-use Rattle.lib_coroutine.proofs.Resumes.{behind_is, enters_leads, goes_from, order_on, same_chain, same_reads, same_runs}
+use Rattle.lib_coroutine.proofs.Resumes.{behind_is, enters_leads, order_on, room_goes, room_reads, room_runs, same_reads}
 use Rattle.lib_coroutine.proofs.beginning.begin_function.Goals as goal
 
-pub run_fresh-requires-clause-running : goal.run_fresh-requires-clause-running
-run_fresh-requires-clause-running c = let W : Memory = c.args.world.now in same_runs (same_chain W (record W { chain = c.reserve.new.self }) refl (search rules)) c.requires.running
-
-pub run_fresh-requires-clause-fresh : goal.run_fresh-requires-clause-fresh
-run_fresh-requires-clause-fresh c = record { body = Func c.args.function; there = c.requires.fresh }
+pub run_fresh-requires : goal.run_fresh-requires
+run_fresh-requires c = record { running = room_runs c.args.world.now c.reserve.new.self (search rules) c.requires.running; fresh = record { body = Func c.args.function; there = c.requires.fresh }; room = search rules; closed = search rules }
 
 pub returns-clause-leads : goal.returns-clause-leads
 returns-clause-leads c =
+    let h = c.requires.function in
     let W : Memory = c.args.world.now in
-    let M : Memory = record W { chain = c.reserve.new.self } in
     let R : Memory = c.run_fresh.new.world in
     let f = value W.strings in
-    let h = c.requires.function in
-    let items : M.chain.items ≡ W.chain.items = search rules in
+    let items : c.reserve.new.self.items ≡ W.chain.items = search rules in
     let behind : c.behind_first.result.now ≡ drop 1 W.moving.items = search rules in
-    let g = goes_from (same_chain W M refl items) c.run_fresh.ensures.goes in
+    let g = room_goes W c.reserve.new.self items c.run_fresh.ensures.goes in
     enters_leads W R c.take_moving.new.world c.args.co c.requires.first c.requires.running c.requires.few c.args.function.0 (Func c.args.function) h.function refl c.requires.fresh h.is
     (subst (GoesInto W R c.args.co.0)
     (c.in_ok-stack.ensures.frames h.function h.is ∙ ap (λ vs. new_frame c.args.function.0 h.function.code vs ∷ []) (behind_is f W.moving.items c.behind_first.result.now behind)) g)
@@ -38,7 +34,4 @@ pub returns-in_err-stack-clause-err : goal.returns-in_err-stack-clause-err
 returns-in_err-stack-clause-err c = on_err _ c.from_residual.result (same_reads refl)
 
 pub returns-in_err-reserve-clause-err : goal.returns-in_err-reserve-clause-err
-returns-in_err-reserve-clause-err c =
-    let W : Memory = c.args.world.now in
-    let M : Memory = record W { chain = c.reserve.new.self } in
-    on_err _ c.from_residual-in_err-reserve.result (record { is = same_chain W M refl c.reserve.ensures.items })
+returns-in_err-reserve-clause-err c = room_reads c.args.world.now c.reserve.new.self c.reserve.ensures.items c.from_residual-in_err-reserve.result
