@@ -1,6 +1,7 @@
 mod Words
 pub mod Places
 mod OnStack
+mod Advanced
 mod OpenRead
 mod FoundFields
 mod Passed

@@ -1,5 +1,6 @@
 pub mod Here
 pub mod Apart
+pub mod Advancing
 pub mod Taking
 pub mod Closing
 pub mod Upvalues

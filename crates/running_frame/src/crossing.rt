@@ -1,11 +1,12 @@
 // Calls of Lua functions and returns from them, which most frames stop at (OP_CALL, OP_TAILCALL, OP_RETURN, OP_RETURN0 and OP_RETURN1 of lvm.c).
 ghost use Rattle.std.specs.Prelude.{◌≡◌, IfNone, IfSome};
 ghost use Rattle.lua_heap.specs.Plain.{plain};
-ghost use Rattle.machine_arms_tables.specs.Frame.{AreOpenAlike, code};
+ghost use Rattle.machine_arms_tables.specs.Frame.{code};
 ghost use Rattle.machine_focus.specs.Focus.{Reaches};
 ghost use Rattle.machine_loop.specs.Running.{Running};
 ghost use Rattle.frame_calls.specs.Calling.{MayLeave};
-ghost use Rattle.frame_calls.specs.Standing.{MayRun, RunsAt, standing};
+ghost use Rattle.frame_calls.specs.Standing.{MayRun, RunsAt};
+ghost use Rattle.running_frame.specs.Advancing.{Advances};
 ghost use Rattle.running_frame.specs.Crossing.{Ground, IsAround, LeavesFrame, MayCross, runs_on, world_around};
 ghost use Rattle.running_frame.specs.Remembering.{KnowsNothing};
 ghost use Rattle.running_frame.specs.Upvalues.{ListsOpen};
@@ -132,9 +133,7 @@ fn cross_frame(
     requires may { MayRun g (code body.closure around.strings.now) stack.old tables.old.objects cells.old.objects budget.old }
     requires around { IsAround g around body.size }
     requires nothing { KnowsNothing memo.now }
-    ensures reaches { Reaches g.around.rows (standing g stack.old tables.old.objects cells.old.objects budget.old) (standing g stack.new tables.new.objects cells.new.objects budget.new) }
-    ensures opened { AreOpenAlike cells.old.objects cells.new.objects }
-    ensures listed { stack.new.open_cells ≡ stack.old.open_cells }
+    ensures { Advances g stack.old stack.new tables.old.objects tables.new.objects cells.old.objects cells.new.objects budget.old budget.new }
 {
     let start = stack.pc();
     let runs = is_none(stack.wait());
@@ -160,9 +159,7 @@ fn run_and_cross(
     requires runs { RunsAt g (code body.closure around.strings.now) stack.old tables.old.objects cells.old.objects budget.old start }
     requires around { IsAround g around body.size }
     requires nothing { KnowsNothing memo.now }
-    ensures reaches { Reaches g.around.rows (standing g stack.old tables.old.objects cells.old.objects budget.old) (standing g stack.new tables.new.objects cells.new.objects budget.new) }
-    ensures opened { AreOpenAlike cells.old.objects cells.new.objects }
-    ensures listed { stack.new.open_cells ≡ stack.old.open_cells }
+    ensures { Advances g stack.old stack.new tables.old.objects tables.new.objects cells.old.objects cells.new.objects budget.old budget.new }
 {
     let pc = run_round(
         stack,
@@ -191,8 +188,7 @@ fn leave_or_go_on(
     ghost g: { Running }
     requires runs { RunsAt g (code body.closure around.strings.now) stack.old tables.old.objects cells.now.objects budget.old pc }
     requires around { IsAround g around body.size }
-    ensures reaches { Reaches g.around.rows (standing g stack.old tables.old.objects cells.now.objects budget.old) (standing g stack.new tables.new.objects cells.now.objects budget.new) }
-    ensures listed { stack.new.open_cells ≡ stack.old.open_cells }
+    ensures { Advances g stack.old stack.new tables.old.objects tables.new.objects cells.now.objects cells.now.objects budget.old budget.new }
 {
     let word = fetch(body.closure.words, pc);
     let stop = Stop {
@@ -223,8 +219,7 @@ fn read_or_ask(
     ghost g: { Running }
     requires runs { RunsAt g (code body.closure around.strings.now) stack.old tables.old.objects cells.now.objects budget.old pc }
     requires around { IsAround g around body.size }
-    ensures reaches { Reaches g.around.rows (standing g stack.old tables.old.objects cells.now.objects budget.old) (standing g stack.new tables.new.objects cells.now.objects budget.new) }
-    ensures listed { stack.new.open_cells ≡ stack.old.open_cells }
+    ensures { Advances g stack.old stack.new tables.old.objects tables.new.objects cells.now.objects cells.now.objects budget.old budget.new }
 {
     let heap = Heap {
         tables,
@@ -252,8 +247,7 @@ fn ask_next(
     ghost g: { Running }
     requires runs { RunsAt g (code body.closure around.strings.now) stack.old tables.old.objects cells.now.objects budget.old pc }
     requires around { IsAround g around body.size }
-    ensures reaches { Reaches g.around.rows (standing g stack.old tables.old.objects cells.now.objects budget.old) (standing g stack.new tables.new.objects cells.now.objects budget.new) }
-    ensures listed { stack.new.open_cells ≡ stack.old.open_cells }
+    ensures { Advances g stack.old stack.new tables.old.objects tables.new.objects cells.now.objects cells.now.objects budget.old budget.new }
 {
     let word = fetch(body.closure.words, pc);
     if !may_ask(word) {

@@ -1,12 +1,12 @@
 // The frame on top of a stack, and the one that is on top after a call or a return.
 ghost use Rattle.std.specs.Prelude.{◌≡◌, IfNone, IfSome, None};
-ghost use Rattle.machine_arms_tables.specs.Frame.{AreOpenAlike, code};
-ghost use Rattle.machine_focus.specs.Focus.{Reaches};
+ghost use Rattle.machine_arms_tables.specs.Frame.{code};
 ghost use Rattle.machine_loop.specs.Running.{Running};
 ghost use Rattle.frame_calls.specs.Calling.{MayLeave};
-ghost use Rattle.frame_calls.specs.Standing.{MayRun, standing};
+ghost use Rattle.frame_calls.specs.Standing.{MayRun};
 ghost use Rattle.running_frame.specs.Apart.{IsHereIn};
 ghost use Rattle.running_frame.specs.Asking.{ReachesOut, ReadSame};
+ghost use Rattle.running_frame.specs.Advancing.{Advances};
 ghost use Rattle.running_frame.specs.Crossing.{IsAround};
 ghost use Rattle.running_frame.specs.Filling.{WritesOn};
 ghost use Rattle.running_frame.specs.Inheriting.{metatable_number};
@@ -38,10 +38,8 @@ pub(crate) fn run_frame_on_top(
     ghost g: { Running }
     requires may { MayRun g (code body.closure around.strings.now) stack.old tables.old.objects cells.old.objects budget.old }
     requires around { IsAround g around body.size }
-    ensures reaches { Reaches g.around.rows (standing g stack.old tables.old.objects cells.old.objects budget.old) (standing g stack.new tables.new.objects cells.new.objects budget.new) }
+    ensures goes { Advances g stack.old stack.new tables.old.objects tables.new.objects cells.old.objects cells.new.objects budget.old budget.new }
     ensures here { IfSome result (λ here. IsHereIn g (code body.entry.closure around.entry.strings.now) stack.new here) }
-    ensures opened { AreOpenAlike cells.old.objects cells.new.objects }
-    ensures listed { stack.new.open_cells ≡ stack.old.open_cells }
 {
     let halt = run_stack(stack, body.closure, around, tables, cells, budget);
     if !halt.here.runs {

@@ -1,11 +1,11 @@
 // The frame on top of a stack, over the function that it runs.
 ghost use Rattle.std.specs.Prelude.{◌≡◌, IfNone, IfSome, true};
-ghost use Rattle.machine_arms_tables.specs.Frame.{AreOpenAlike, code};
-ghost use Rattle.machine_focus.specs.Focus.{Reaches};
+ghost use Rattle.machine_arms_tables.specs.Frame.{code};
 ghost use Rattle.machine_loop.specs.Knowing.{AllHold};
 ghost use Rattle.machine_loop.specs.Running.{ClosesNothing, Running};
+ghost use Rattle.running_frame.specs.Advancing.{Advances};
 ghost use Rattle.running_frame.specs.Inheriting.{GoesWith, RunsWith, metatable_number};
-ghost use Rattle.frame_calls.specs.Standing.{IsClosedFrom, MayRun, RunsAt, standing};
+ghost use Rattle.frame_calls.specs.Standing.{IsClosedFrom, MayRun, RunsAt};
 ghost use Rattle.running_frame.specs.Apart.{IsHereIn};
 
 use crate::closing::pass_close;
@@ -47,12 +47,10 @@ pub(crate) fn run_stack(
     requires may { MayRun g (code closure around.strings.now) stack.old tables.old.objects cells.old.objects budget.old }
     requires own { around.co.0 ≡ g.around.context.coroutine }
     requires meta { metatable_number around.string_meta ≡ g.string_metatable }
-    ensures reaches { Reaches g.around.rows (standing g stack.old tables.old.objects cells.old.objects budget.old) (standing g stack.new tables.new.objects cells.new.objects budget.new) }
+    ensures goes { Advances g stack.old stack.new tables.old.objects tables.new.objects cells.old.objects cells.new.objects budget.old budget.new }
     ensures here { IsHereIn g (code closure.entry around.entry.strings.now) stack.new result.here }
     ensures runs { result.here.runs ≡ true → RunsAt g (code closure.entry around.entry.strings.now) stack.new tables.new.objects cells.new.objects budget.new result.here.pc }
     ensures closed { IfSome result.closed (λ register. IsClosedFrom stack.new register) }
-    ensures opened { AreOpenAlike cells.old.objects cells.new.objects }
-    ensures listed { stack.new.open_cells ≡ stack.old.open_cells }
 {
     let start = stack.pc();
     let runs = is_none(stack.wait());
@@ -81,11 +79,9 @@ fn run_on_top(
     requires closed { IfSome closed (λ register. ClosesNothing g.around cells.old.objects register) }
     requires own { around.co.0 ≡ g.around.context.coroutine }
     requires meta { metatable_number around.string_meta ≡ g.string_metatable }
-    ensures reaches { Reaches g.around.rows (standing g stack.old tables.old.objects cells.old.objects budget.old) (standing g stack.new tables.new.objects cells.new.objects budget.new) }
+    ensures goes { Advances g stack.old stack.new tables.old.objects tables.new.objects cells.old.objects cells.new.objects budget.old budget.new }
     ensures here { IsHereIn g (code closure.entry around.entry.strings.now) stack.new result }
     ensures runs { RunsAt g (code closure.entry around.entry.strings.now) stack.new tables.new.objects cells.new.objects budget.new result.pc }
-    ensures opened { AreOpenAlike cells.old.objects cells.new.objects }
-    ensures listed { stack.new.open_cells ≡ stack.old.open_cells }
 {
     let pc = run_rounds(stack, closure, around, tables, cells, budget, closed, start);
     here_at(closure.words, pc, true)
@@ -109,10 +105,8 @@ fn run_rounds(
     requires closed { IfSome closed (λ register. ClosesNothing g.around cells.old.objects register) }
     requires own { around.co.0 ≡ g.around.context.coroutine }
     requires meta { metatable_number around.string_meta ≡ g.string_metatable }
-    ensures reaches { Reaches g.around.rows (standing g stack.old tables.old.objects cells.old.objects budget.old) (standing g stack.new tables.new.objects cells.new.objects budget.new) }
+    ensures goes { Advances g stack.old stack.new tables.old.objects tables.new.objects cells.old.objects cells.new.objects budget.old budget.new }
     ensures runs { RunsAt g (code closure.entry around.entry.strings.now) stack.new tables.new.objects cells.new.objects budget.new result }
-    ensures opened { AreOpenAlike cells.old.objects cells.new.objects }
-    ensures listed { stack.new.open_cells ≡ stack.old.open_cells }
 {
     let mut pc = start;
     let mut again = false;
@@ -247,10 +241,8 @@ pub(crate) fn run_round(
     requires runs { RunsAt g (code closure around.strings.now) stack.old tables.old.objects cells.old.objects budget.old start }
     requires known { AllHold g.around closure.upvalues.now cells.old.objects memo.now }
     requires own { around.co.0 ≡ g.around.context.coroutine }
-    ensures reaches { Reaches g.around.rows (standing g stack.old tables.old.objects cells.old.objects budget.old) (standing g stack.new tables.new.objects cells.new.objects budget.new) }
+    ensures goes { Advances g stack.old stack.new tables.old.objects tables.new.objects cells.old.objects cells.new.objects budget.old budget.new }
     ensures runs { RunsAt g (code closure.entry around.entry.strings.now) stack.new tables.new.objects cells.new.objects budget.new result }
-    ensures opened { AreOpenAlike cells.old.objects cells.new.objects }
-    ensures listed { stack.new.open_cells ≡ stack.old.open_cells }
 {
     let mut pc = start;
     for round in 0..ROUNDS {
@@ -288,10 +280,8 @@ fn run_once(
     ghost g: { Running }
     requires runs { RunsAt g (code closure strings.now) stack.old tables.old.objects cells.old.objects budget.old start }
     requires known { AllHold g.around closure.upvalues.now cells.old.objects memo.now }
-    ensures reaches { Reaches g.around.rows (standing g stack.old tables.old.objects cells.old.objects budget.old) (standing g stack.new tables.new.objects cells.new.objects budget.new) }
+    ensures goes { Advances g stack.old stack.new tables.old.objects tables.new.objects cells.old.objects cells.new.objects budget.old budget.new }
     ensures runs { RunsAt g (code closure.entry strings.now) stack.new tables.new.objects cells.new.objects budget.new result }
-    ensures opened { AreOpenAlike cells.old.objects cells.new.objects }
-    ensures listed { stack.new.open_cells ≡ stack.old.open_cells }
 {
     let registers = stack.registers_mut();
     let pc = run_frame(

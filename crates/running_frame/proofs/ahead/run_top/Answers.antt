@@ -75,7 +75,7 @@ returns-clause-reaches g c =
     let left = c.run_frame_on_top.new.budget in
     let r = found c.running-co.ensures c.get_mut.ensures.value c.in-Running.is in
     let x =
-    subst (λ k. Reaches g.g.around.rows (standing k s W.tables.objects W.cells.objects fuel) (standing k u tables.objects cells.objects left)) h.held c.run_frame_on_top.ensures.reaches in
+    subst (λ k. Reaches g.g.around.rows (standing k s W.tables.objects W.cells.objects fuel) (standing k u tables.objects cells.objects left)) h.held c.run_frame_on_top.ensures.goes.reaches in
     went g.g.around.primitives g.g.around.rows W h.place h.is h.still c.running-co.result s r tables cells (with_stack (with_parts W tables cells) c.running-co.result u) u fuel left (record { rest = refl; objects = refl }) x
 
 pub returns-clause-order : goal.returns-clause-order
@@ -85,7 +85,7 @@ returns-clause-order g c =
     let u = c.run_frame_on_top.new.stack in
     let V = with_stack (with_parts W c.run_frame_on_top.new.tables c.run_frame_on_top.new.cells) c.running-co.result u in
     let r = found c.running-co.ensures c.get_mut.ensures.value c.in-Running.is in
-    order_after c.requires.order refl refl (listed_alike W V c.run_frame_on_top.ensures.opened (lists_same W.coros.objects c.running-co.result.0 s u r.there c.run_frame_on_top.ensures.listed) c.requires.order.listed)
+    order_after c.requires.order refl refl (listed_alike W V c.run_frame_on_top.ensures.goes.opened (lists_same W.coros.objects c.running-co.result.0 s u r.there c.run_frame_on_top.ensures.goes.listed) c.requires.order.listed)
 
 pub returns-clause-here : goal.returns-clause-here
 returns-clause-here g c =

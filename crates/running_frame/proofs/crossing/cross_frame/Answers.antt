@@ -1,13 +1,12 @@
 use Rattle.std.proofs.Common.{sym, ap, ◌∙◌}
 use Rattle.lua_heap.specs.Reading.{value}
 use Rattle.running_frame.specs.Here.{is_none}
-use Rattle.frame_calls.specs.Standing.{standing}
-use Rattle.frame_calls.proofs.Chained.{reaches_none}
+use Rattle.running_frame.proofs.Advanced.{advances_none}
 use Rattle.running_frame.proofs.Places.{none_is}
 use Rattle.running_frame.proofs.crossing.cross_frame.Goals as goal
 
-pub returns-then-not-runs-clause-reaches : goal.returns-then-not-runs-clause-reaches
-returns-then-not-runs-clause-reaches g c = reaches_none g.g.around.rows (standing g.g c.args.stack.now c.args.tables.now.objects c.args.cells.now.objects c.args.budget.now)
+pub returns-then-not-runs : goal.returns-then-not-runs
+returns-then-not-runs g c = advances_none g.g c.args.stack.now c.args.tables.now.objects c.args.cells.now.objects c.args.budget.now
 
 pub run_and_cross-requires : goal.run_and_cross-requires
 run_and_cross-requires g c =

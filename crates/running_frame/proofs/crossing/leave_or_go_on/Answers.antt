@@ -1,11 +1,11 @@
-use Rattle.std.proofs.Common.{◌≡◌, ℕ, sym, subst, ◌∙◌}
+use Rattle.std.proofs.Common.{◌≡◌, ℕ, refl, sym, subst}
 use Rattle.std.specs.Prelude.{IfNone}
 use Rattle.lua_heap.specs.Reading.{value}
 use Rattle.lua_stack.specs.Frames.{KeptStack}
 use Rattle.machine_arms_tables.specs.Frame.{code}
-use Rattle.machine_focus.specs.Focus.{Reaches}
 use Rattle.frame_calls.specs.Calling.{program_of}
-use Rattle.frame_calls.specs.Standing.{RunsAt, standing}
+use Rattle.frame_calls.specs.Standing.{RunsAt}
+use Rattle.running_frame.specs.Advancing.{Advances}
 use Rattle.running_frame.proofs.Left.{left_or_not}
 use Rattle.running_frame.proofs.OnStack.{place_within}
 use Rattle.running_frame.proofs.OpenRead.{lists_open}
@@ -22,14 +22,15 @@ leave_frame-requires-clause-may g c =
 pub leave_frame-requires-clause-cells : goal.leave_frame-requires-clause-cells
 leave_frame-requires-clause-cells g c = lists_open c.args.around.co.0 c.requires.1.own c.requires.0
 
-pub returns-in-Some-clause-reaches : goal.returns-in-Some-clause-reaches
-returns-in-Some-clause-reaches g c =
-    left_or_not g.g (code c.args.body.closure c.args.around.strings.now) c.args.stack.now c.args.tables.now.objects c.args.cells.now.objects c.args.budget.now c.args.pc c.requires.0
-    c.leave_frame.new.stack c.args.body.size (program_of c.args.around.functions) c.fetch-word.result c.leave_frame.new.budget c.args.around.co.0 c.requires.1.functions c.requires.1.wants c.requires.1.own c.fetch-word.ensures
-    c.leave_frame.result c.leave_frame.ensures.leaves c.leave_frame.ensures.kept
-
-pub returns-in-Some-clause-listed : goal.returns-in-Some-clause-listed
-returns-in-Some-clause-listed g c = c.leave_frame.ensures.listed
+pub returns-in-Some : goal.returns-in-Some
+returns-in-Some g c = record {
+  reaches =
+      left_or_not g.g (code c.args.body.closure c.args.around.strings.now) c.args.stack.now c.args.tables.now.objects c.args.cells.now.objects c.args.budget.now c.args.pc c.requires.0
+      c.leave_frame.new.stack c.args.body.size (program_of c.args.around.functions) c.fetch-word.result c.leave_frame.new.budget c.args.around.co.0 c.requires.1.functions c.requires.1.wants c.requires.1.own c.fetch-word.ensures
+      c.leave_frame.result c.leave_frame.ensures.leaves c.leave_frame.ensures.kept;
+  opened = refl;
+  listed = c.leave_frame.ensures.listed;
+}
 
 pub read_or_ask-requires : goal.read_or_ask-requires
 read_or_ask-requires g c =
@@ -42,13 +43,9 @@ read_or_ask-requires g c =
       c.requires.1,
     )
 
-pub returns-in-None-clause-reaches : goal.returns-in-None-clause-reaches
-returns-in-None-clause-reaches g c =
+pub returns-in-None : goal.returns-in-None
+returns-in-None g c =
     let kept = subst (λ o. IfNone o ((c.leave_frame.new.stack ≡ c.args.stack.now) × (c.leave_frame.new.budget ≡ c.args.budget.now))) c.in-None.is c.leave_frame.ensures.kept in
-    let ts = c.args.tables.now.objects in
     let cs = c.args.cells.now.objects in
-    subst (λ (s : KeptStack). Reaches g.g.around.rows (standing g.g s ts cs c.args.budget.now) (standing g.g c.read_or_ask.new.stack c.read_or_ask.new.tables.objects cs c.read_or_ask.new.budget)) kept.0
-    (subst (λ (n : ℕ). Reaches g.g.around.rows (standing g.g c.leave_frame.new.stack ts cs n) (standing g.g c.read_or_ask.new.stack c.read_or_ask.new.tables.objects cs c.read_or_ask.new.budget)) kept.1 c.read_or_ask.ensures.reaches)
-
-pub returns-in-None-clause-listed : goal.returns-in-None-clause-listed
-returns-in-None-clause-listed g c = c.read_or_ask.ensures.listed ∙ c.leave_frame.ensures.listed
+    subst (λ (s : KeptStack). Advances g.g s c.read_or_ask.new.stack c.args.tables.now.objects c.read_or_ask.new.tables.objects cs cs c.args.budget.now c.read_or_ask.new.budget) kept.0
+    (subst (λ (n : ℕ). Advances g.g c.leave_frame.new.stack c.read_or_ask.new.stack c.args.tables.now.objects c.read_or_ask.new.tables.objects cs cs n c.read_or_ask.new.budget) kept.1 c.read_or_ask.ensures)

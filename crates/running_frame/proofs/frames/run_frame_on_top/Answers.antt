@@ -1,11 +1,11 @@
-use Rattle.std.proofs.Common.{◌≡◌, sym, subst, ◌∙◌}
+use Rattle.std.proofs.Common.{◌≡◌, refl, sym, subst, ◌∙◌}
 use Rattle.std.specs.Prelude.{IfNone}
 use Rattle.std.proofs.lemmas.Option.{IfSome_then}
 use Rattle.lua_heap.specs.Reading.{value}
 use Rattle.lua_stack.specs.Frames.{KeptStack}
 use Rattle.machine_arms_tables.specs.Frame.{code}
 use Rattle.frame_calls.specs.Calling.{program_of}
-use Rattle.frame_calls.proofs.Chained.{reaches_then}
+use Rattle.running_frame.proofs.Advanced.{advances_then}
 use Rattle.frame_calls.proofs.CrossedOver.{crossed_over_or_not}
 use Rattle.frame_calls.proofs.Takers.{still_may}
 use Rattle.running_frame.specs.Apart.{IsHereIn}
@@ -26,14 +26,18 @@ cross-requires g c =
     let k = c.run_stack-halt.ensures.here in
     record { top = record { value = value g.g.around.texts; below = g.g.around.context.below; top = k.top; is = k.is }; codes = c.requires.1.functions.have; closed = c.run_stack-halt.ensures.closed }
 
-pub returns-in-Some-clause-reaches : goal.returns-in-Some-clause-reaches
-returns-in-Some-clause-reaches g c =
+pub returns-in-Some-clause-goes : goal.returns-in-Some-clause-goes
+returns-in-Some-clause-goes g c =
     let h = c.run_stack-halt in
     let r = h.ensures.runs (runs_where h.result.here.runs c.if-not-halt.false) in
-    reaches_then g.g.around.rows h.ensures.reaches
-    (crossed_over_or_not g.g (code c.args.body.closure c.args.around.strings.now) h.new.stack h.new.tables.objects h.new.cells.objects h.new.budget h.result.here.pc r
-    c.cross.new.stack c.args.body.size (program_of c.args.around.functions) h.result.here.word c.cross.new.budget c.requires.1.functions c.requires.1.wants h.ensures.here.word
-    c.cross.result c.cross.ensures.crosses c.cross.ensures.kept)
+    advances_then h.ensures.goes (record {
+      reaches =
+          crossed_over_or_not g.g (code c.args.body.closure c.args.around.strings.now) h.new.stack h.new.tables.objects h.new.cells.objects h.new.budget h.result.here.pc r
+          c.cross.new.stack c.args.body.size (program_of c.args.around.functions) h.result.here.word c.cross.new.budget c.requires.1.functions c.requires.1.wants h.ensures.here.word
+          c.cross.result c.cross.ensures.crosses c.cross.ensures.kept;
+      opened = refl;
+      listed = c.cross.ensures.listed;
+    })
 
 pub write-done-requires-clause-may : goal.write-done-requires-clause-may
 write-done-requires-clause-may g c =
@@ -49,16 +53,20 @@ write-done-requires-clause-cells g c =
     let r = h.ensures.runs (runs_where h.result.here.runs c.if-not-halt.false) in
     subst (λ (s : KeptStack). ListsOpen c.args.around.co.0 s h.new.cells.objects) (sym kept.0) (lists_open c.args.around.co.0 c.requires.1.own r)
 
-pub returns-in-None-clause-reaches : goal.returns-in-None-clause-reaches
-returns-in-None-clause-reaches g c =
+pub returns-in-None-clause-goes : goal.returns-in-None-clause-goes
+returns-in-None-clause-goes g c =
     let h = c.run_stack-halt in
     let x = c.requires.1 in
     let kept = subst (λ o. IfNone o ((c.cross.new.stack ≡ h.new.stack) × (c.cross.new.budget ≡ h.new.budget))) c.in-None.is c.cross.ensures.kept in
     let r = h.ensures.runs (runs_where h.result.here.runs c.if-not-halt.false) in
-    reaches_then g.g.around.rows h.ensures.reaches
-    (written_or_not g.g (code c.args.body.closure c.args.around.strings.now) h.new.stack h.new.tables.objects h.new.cells.objects h.new.budget h.result.here.pc r
-    c.cross.new.stack c.write-done.new.stack c.write-done.new.tables.objects (metatable_number c.args.around.string_meta) (program_of c.args.around.functions) c.cross.new.budget c.write-done.new.budget c.args.around.co.0 c.args.body.size h.result.here.word
-    x.functions kept.0 kept.1 x.meta x.own x.wants h.ensures.here.word c.write-done.result c.write-done.ensures.writes c.write-done.ensures.kept)
+    advances_then h.ensures.goes (record {
+      reaches =
+          written_or_not g.g (code c.args.body.closure c.args.around.strings.now) h.new.stack h.new.tables.objects h.new.cells.objects h.new.budget h.result.here.pc r
+          c.cross.new.stack c.write-done.new.stack c.write-done.new.tables.objects (metatable_number c.args.around.string_meta) (program_of c.args.around.functions) c.cross.new.budget c.write-done.new.budget c.args.around.co.0 c.args.body.size h.result.here.word
+          x.functions kept.0 kept.1 x.meta x.own x.wants h.ensures.here.word c.write-done.result c.write-done.ensures.writes c.write-done.ensures.kept;
+      opened = refl;
+      listed = c.write-done.ensures.listed ∙ c.cross.ensures.listed;
+    })
 
 pub returns-in-None-clause-here : goal.returns-in-None-clause-here
 returns-in-None-clause-here g c =
@@ -69,6 +77,3 @@ returns-in-None-clause-here g c =
     let same = subst (λ o. IfNone o (ReadSame c.cross.new.stack c.write-done.new.stack × (c.write-done.new.budget ≡ c.cross.new.budget) × (c.write-done.new.tables.objects ≡ h.new.tables.objects))) e.1 c.write-done.ensures.kept in
     subst (λ here. IsHereIn g.g (code c.args.body.closure c.args.around.strings.now) c.write-done.new.stack here) (sym e.0)
     (here_still g.g (code c.args.body.closure c.args.around.strings.now) h.new.stack c.cross.new.stack c.write-done.new.stack h.result.here h.ensures.here (runs_where h.result.here.runs c.if-not-halt.false) kept.0 same.0))
-
-pub returns-in-None-clause-listed : goal.returns-in-None-clause-listed
-returns-in-None-clause-listed g c = c.write-done.ensures.listed ∙ c.cross.ensures.listed ∙ c.run_stack-halt.ensures.listed

@@ -1,4 +1,4 @@
-use Rattle.std.proofs.Common.{sym}
+use Rattle.std.proofs.Common.{◌≡◌, rules, sym}
 use Rattle.lua_heap.specs.Reading.{value}
 use Rattle.running_frame.proofs.OnStack.{loop_ready, round_reaches, round_runs, stays_so}
 use Rattle.running_frame.proofs.stack.run_once.Goals as goal
@@ -14,10 +14,16 @@ run_frame-pc-requires g c =
 pub set_pc-requires : goal.set_pc-requires
 set_pc-requires g c = stays_so c.requires.0 c.registers_mut-registers.result.now c.run_frame-pc.new.registers c.registers_mut-registers.ensures.registers c.run_frame-pc.auto.registers
 
-pub returns-clause-reaches : goal.returns-clause-reaches
-returns-clause-reaches g c =
-    round_reaches c.requires.0 c.registers_mut-registers.result.now c.run_frame-pc.new.registers c.registers_mut-registers.ensures.registers c.run_frame-pc.auto.registers
-    c.set_pc.new.self c.run_frame-pc.new.tables.objects c.run_frame-pc.new.cells.objects c.run_frame-pc.result c.run_frame-pc.new.fuel c.set_pc.ensures c.run_frame-pc.ensures.runs
+pub returns-clause-goes : goal.returns-clause-goes
+returns-clause-goes g c =
+    let listed : c.set_pc.new.self.open_cells ≡ c.args.stack.now.open_cells = search rules in
+    record {
+      reaches =
+          round_reaches c.requires.0 c.registers_mut-registers.result.now c.run_frame-pc.new.registers c.registers_mut-registers.ensures.registers c.run_frame-pc.auto.registers
+          c.set_pc.new.self c.run_frame-pc.new.tables.objects c.run_frame-pc.new.cells.objects c.run_frame-pc.result c.run_frame-pc.new.fuel c.set_pc.ensures c.run_frame-pc.ensures.runs;
+      opened = c.run_frame-pc.ensures.opened;
+      listed = listed;
+    }
 
 pub returns-clause-runs : goal.returns-clause-runs
 returns-clause-runs g c =

@@ -1,7 +1,6 @@
-use Rattle.std.proofs.Common.{◌≡◌}
-use Rattle.machine_arms_tables.specs.Frame.{AreOpenAlike, code}
-use Rattle.machine_focus.specs.Focus.{Reaches}
-use Rattle.frame_calls.specs.Standing.{RunsAt, standing}
+use Rattle.machine_arms_tables.specs.Frame.{code}
+use Rattle.running_frame.specs.Advancing.{Advances}
+use Rattle.frame_calls.specs.Standing.{RunsAt}
 use Rattle.running_frame.proofs.stack.run_round.Given as goal
 
 abbrev pub ghost-run_once : goal.ghost-run_once
@@ -12,8 +11,6 @@ ghost-read_once g a = g.g
 
 abbrev pub invariant-loop-round : goal.invariant-loop-round
 invariant-loop-round g l = record {
-  reaches : Reaches g.g.around.rows (standing g.g l.initial.stack l.initial.tables.objects l.initial.cells.objects l.initial.budget) (standing g.g l.stack l.tables.objects l.cells.objects l.budget);
+  goes : Advances g.g l.initial.stack l.stack l.initial.tables.objects l.tables.objects l.initial.cells.objects l.cells.objects l.initial.budget l.budget;
   runs : RunsAt g.g (code l.closure l.around.strings.now) l.stack l.tables.objects l.cells.objects l.budget l.pc;
-  opened : AreOpenAlike l.initial.cells.objects l.cells.objects;
-  listed : l.stack.open_cells ≡ l.initial.stack.open_cells;
 }

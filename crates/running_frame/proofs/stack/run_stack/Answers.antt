@@ -1,12 +1,13 @@
 use Rattle.std.proofs.Common.{◌≡◌, [], ◌∷◌, ◌++◌, sym, ap, subst, ◌∙◌, arith}
-use Rattle.machine_focus.specs.Focus.{Reaches}
 use Rattle.machine_arms_tables.specs.Frame.{code}
 use Rattle.lua_heap.specs.Reading.{value}
 use Rattle.lua_stack.specs.Frames.{KeptStack, frames}
 use Rattle.machine_core.specs.World.{lua}
 use Rattle.running_frame.specs.Here.{is_none}
-use Rattle.frame_calls.specs.Standing.{MayRun, RunsAt, standing}
+use Rattle.frame_calls.specs.Standing.{MayRun, RunsAt}
 use Rattle.frame_calls.proofs.Closed.{closes_nothing, still_closed}
+use Rattle.running_frame.specs.Advancing.{Advances}
+use Rattle.running_frame.proofs.Advanced.{advances_none}
 use Rattle.running_frame.proofs.Places.{none_is}
 use Rattle.running_frame.proofs.stack.run_stack.Goals as goal
 
@@ -59,14 +60,15 @@ returns-clause-closed g c =
     let u = c.run_on_top-here.ensures.runs.may in
     let kept = c.closed_from-closed.ensures.kept in
     still_closed (value g.g.around.texts) c.closed_from-closed.new.stack c.run_on_top-here.new.stack g.g.around.context.below m.top u.top (subst (λ (s : KeptStack). frames (value g.g.around.texts) s ≡ g.g.around.context.below ++ lua m.top ∷ []) (sym kept) m.is)
-    u.is (u.pending ∙ sym m.pending) c.run_on_top-here.ensures.listed c.closed_from-closed.result c.closed_from-closed.ensures.closed
+    u.is (u.pending ∙ sym m.pending) c.run_on_top-here.ensures.goes.listed c.closed_from-closed.result c.closed_from-closed.ensures.closed
 
-pub returns-clause-reaches : goal.returns-clause-reaches
-returns-clause-reaches g c =
-    subst (λ (s : KeptStack). Reaches g.g.around.rows (standing g.g s c.args.tables.now.objects c.args.cells.now.objects c.args.budget.now) (standing g.g c.run_on_top-here.new.stack c.run_on_top-here.new.tables.objects c.run_on_top-here.new.cells.objects c.run_on_top-here.new.budget)) c.closed_from-closed.ensures.kept c.run_on_top-here.ensures.reaches
+pub returns-then-not-runs-clause-goes : goal.returns-then-not-runs-clause-goes
+returns-then-not-runs-clause-goes g c = advances_none g.g c.args.stack.now c.args.tables.now.objects c.args.cells.now.objects c.args.budget.now
 
-pub returns-clause-listed : goal.returns-clause-listed
-returns-clause-listed g c = c.run_on_top-here.ensures.listed ∙ ap (λ (s : KeptStack). s.open_cells) c.closed_from-closed.ensures.kept
+pub returns-clause-goes : goal.returns-clause-goes
+returns-clause-goes g c =
+    subst (λ (s : KeptStack). Advances g.g s c.run_on_top-here.new.stack c.args.tables.now.objects c.run_on_top-here.new.tables.objects c.args.cells.now.objects c.run_on_top-here.new.cells.objects c.args.budget.now c.run_on_top-here.new.budget)
+    c.closed_from-closed.ensures.kept c.run_on_top-here.ensures.goes
 
 pub returns-then-not-runs-clause-runs : goal.returns-then-not-runs-clause-runs
 returns-then-not-runs-clause-runs g c = λ e. absurd (let f = sym e ∙ c.here_at-here.ensures.runs in cc)
