@@ -19,7 +19,8 @@ use Rattle.tree_terms.specs.FunctionCount.{functions}
 use Rattle.tree_terms.specs.Asked.{ExpMeets}
 use Rattle.grammar_laws.specs.Counted.{all_counted}
 use Rattle.grammar_laws.proofs.Claims.{ExpHolds, Claim, carried, written, IsReady}
-use Rattle.grammar_laws.proofs.SizeKeeping.{opened, Keeps, picks, passes, refuses, reads, ends, either, either_by, passes_if, on_a_line, on_a_name, on_an_exp, on_some_exps, on_a_field, on_some_fields, on_a_body, only_reads, more, more_arguments, more_fields_hold}
+use Rattle.grammar_laws.proofs.Pieces.{by_line, by_name, by_exp, by_exps, by_field, by_fields, by_body}
+use Rattle.grammar_laws.proofs.SizeKeeping.{opened, Keeps, picks, passes, refuses, reads, ends, either, either_by, passes_if, on_piece, only_reads, more, more_arguments, more_fields_hold}
 use Rattle.grammar_laws.proofs.Lists.{exps_weigh, exps_have, fields_weigh, fields_have, arguments_weigh}
 use Rattle.grammar_laws.proofs.Operands.{operand_has, right_has}
 use Rattle.grammar_laws.proofs.Words.{Kept, light_constant, constant_keeps}
@@ -60,7 +61,7 @@ right_gives level = right_has GivesExp chain_gives unary_gives level
 
 pub chain_kept : (level : Level) → Kept (chain level)
 chain_kept level room ready =
-    on_an_exp (operand_gives level).0 (λ e h k j c.
+    on_piece by_exp (operand_gives level).0 (λ e h k j c.
     let held = (operand_gives level).1 e k j c in
     only_reads (behind level e h) held.2 (λ p k' j' d. more p (omega (arith, held.0)) (omega (arith, held.1)) d))
 
@@ -71,7 +72,7 @@ behind_kept level left height room ready = picks (λ t. by t (operator_of level 
     by t None = ends (omega arith, omega arith, ready)
     by t (Some op) =
         passes_if (nat_lt height room) (λ is.
-        on_an_exp (right_gives level).0 (λ e h k j c.
+        on_piece by_exp (right_gives level).0 (λ e h k j c.
         let held = (right_gives level).1 e k j c in
         only_reads (behind level (joined op t.1 left e) (above height h)) (joined_counted op t.1 left e ready held.2) (λ p k' j' d.
         more p (omega (arith, held.0, joined_weighs op t.1 left e)) (omega (arith, held.1, joined_has op t.1 left e)) d)))
@@ -81,30 +82,30 @@ unary_kept room ready = picks (λ t. by t (unary_of t.0))
   where
     by : (t : Lexeme) (o : Option UnOp) → Keeps unary (Some t) (unary_move room t.1 o) 0 0
     by t None = only_reads simple tt (λ p k j c. c)
-    by t (Some op) = passes_if (nat_lt 0 room) (λ is. on_an_exp tt (λ e h k j c. ends (omega (arith, c.0), omega (arith, c.1), c.2)))
+    by t (Some op) = passes_if (nat_lt 0 room) (λ is. on_piece by_exp tt (λ e h k j c. ends (omega (arith, c.0), omega (arith, c.1), c.2)))
 
 pub simple_kept : Kept simple
 simple_kept room ready =
     picks (λ t. constant_keeps (constant_of t) (light_constant t) (λ e held. (omega (arith, held.0), omega (arith, held.1), held.2))
     (either_by (is_word FUNCTION t.0)
-    (λ is. passes (on_a_body tt (λ b h k j c. let one : opened (Some t) ≡ 1 = ap (λ v. cond v 1 0) is in ends (omega (arith, c.0), omega (arith, c.1, one), c.2))))
+    (λ is. passes (on_piece by_body tt (λ b h k j c. let one : opened (Some t) ≡ 1 = ap (λ v. cond v 1 0) is in ends (omega (arith, c.0), omega (arith, c.1, one), c.2))))
     (either (is_word OPEN_CURLY t.0) (only_reads table tt (λ p k j c. c)) (only_reads prefix tt (λ p k j c. c)))))
 
 -- constructors
 
 pub table_kept : Kept table
-table_kept room ready = on_a_line tt (λ line h k j c. on_some_fields tt (λ fs h' k' j' d. ends (omega (arith, c, d.0), omega (arith, d.1), d.2)))
+table_kept room ready = on_piece by_line tt (λ line h k j c. on_piece by_fields tt (λ fs h' k' j' d. ends (omega (arith, c, d.0), omega (arith, d.1), d.2)))
 
 pub more_fields_kept : (fs : List tree.Field) (height : ℕ) → Kept (more_fields fs height)
 more_fields_kept fs height room ready =
     picks (λ t. either (is_word CLOSE_CURLY t.0) (passes (ends (omega arith, omega arith, ready)))
-    (on_a_field tt (λ f h k j c.
+    (on_piece by_field tt (λ f h k j c.
     only_reads (more_fields (fs ++ f ∷ []) (max height h)) (fields_more all_counted fs f ready c.2) (λ p k' j' d.
     more_fields_hold p (omega (arith, c.0, fields_weigh fs f)) (omega (arith, c.1, fields_have fs f)) d))))
 
 pub separated_field_kept : Kept separated_field
 separated_field_kept room ready =
-    on_a_field tt (λ f h k j c. picks (λ t.
+    on_piece by_field tt (λ f h k j c. picks (λ t.
     either (is_separator t.0) (passes (ends (omega (arith, c.0), omega (arith, c.1), c.2)))
     (either (is_word CLOSE_CURLY t.0) (ends c) refuses)))
 
@@ -113,34 +114,34 @@ field_kept room ready = picks (λ t. either (is_word OPEN_SQUARE t.0) (only_read
 
 pub keyed_kept : Kept keyed
 keyed_kept room ready =
-    on_a_line tt (λ line h k j c. on_an_exp tt (λ key h' k' j' d. on_a_line tt (λ _ _ k'' j'' _. on_a_line tt (λ _ _ k''' j''' _. on_an_exp tt (λ value h'''' k'''' j'''' e.
+    on_piece by_line tt (λ line h k j c. on_piece by_exp tt (λ key h' k' j' d. on_piece by_line tt (λ _ _ k'' j'' _. on_piece by_line tt (λ _ _ k''' j''' _. on_piece by_exp tt (λ value h'''' k'''' j'''' e.
     ends (omega (arith, c, d.0, e.0), omega (arith, d.1, e.1), (d.2, e.2)))))))
 
 item_keeps : (room n m : ℕ) (e : tree.Exp) (known : Option Lexeme) → ExpHolds e n m → Keeps item known (item_move room (variable_of e)) n m
-item_keeps room n m (tree.Var line x) known held = passes (on_an_exp tt (λ value h k j c. ends (omega (arith, held.0, c.0), omega (arith, c.1), (tt, c.2))))
+item_keeps room n m (tree.Var line x) known held = passes (on_piece by_exp tt (λ value h k j c. ends (omega (arith, held.0, c.0), omega (arith, c.1), (tt, c.2))))
 item_keeps room n m _ known held = refuses
 
 pub item_kept : Kept item
-item_kept room ready = on_an_exp tt (λ e h k j c. picks (λ t. either (is_word ASSIGN t.0) (item_keeps room _ _ e (Some t) c) (ends c)))
+item_kept room ready = on_piece by_exp tt (λ e h k j c. picks (λ t. either (is_word ASSIGN t.0) (item_keeps room _ _ e (Some t) c) (ends c)))
 
 -- prefixes and suffixes
 
 pub prefix_kept : Kept prefix
 prefix_kept room ready =
-    on_an_exp tt (λ e h k j c. only_reads (suffixes e h) c.2 (λ p k' j' d. more p (omega (arith, c.0)) (omega (arith, c.1)) d))
+    on_piece by_exp tt (λ e h k j c. only_reads (suffixes e h) c.2 (λ p k' j' d. more p (omega (arith, c.0)) (omega (arith, c.1)) d))
 
 pub primary_kept : Kept primary
 primary_kept room ready =
-    picks (λ t. either (is_word OPEN_ROUND t.0) (only_reads paren tt (λ p k j c. c)) (on_a_name tt (λ x h k j c. ends (omega (arith, c), omega arith, tt))))
+    picks (λ t. either (is_word OPEN_ROUND t.0) (only_reads paren tt (λ p k j c. c)) (on_piece by_name tt (λ x h k j c. ends (omega (arith, c), omega arith, tt))))
 
 pub paren_kept : Kept paren
 paren_kept room ready =
-    on_a_line tt (λ line h k j c. on_an_exp tt (λ e h' k' j' d. on_a_line tt (λ _ h'' k'' j'' f. ends (omega (arith, c, d.0, f.0), omega (arith, d.1), d.2))))
+    on_piece by_line tt (λ line h k j c. on_piece by_exp tt (λ e h' k' j' d. on_piece by_line tt (λ _ h'' k'' j'' f. ends (omega (arith, c, d.0, f.0), omega (arith, d.1), d.2))))
 
 pub suffixes_kept : (left : tree.Exp) (height : ℕ) → Kept (suffixes left height)
 suffixes_kept left height room ready =
     picks (λ t. either (begins_suffix t.0)
-    (on_an_exp ready (λ e h k j c. only_reads (suffixes e h) c.2 (λ p k' j' d. more p (omega (arith, c.0)) (omega (arith, c.1)) d)))
+    (on_piece by_exp ready (λ e h k j c. only_reads (suffixes e h) c.2 (λ p k' j' d. more p (omega (arith, c.0)) (omega (arith, c.1)) d)))
     (ends (omega arith, omega arith, ready)))
 
 pub suffix_kept : (left : tree.Exp) (height : ℕ) → Kept (suffix left height)
@@ -150,20 +151,20 @@ suffix_kept left height room ready =
     (either (is_word COLON t.0) (only_reads (method left height) ready (λ p k j c. c)) (only_reads (call left height) ready (λ p k j c. c)))))
 
 pub dotted_kept : (w : Word) (left : tree.Exp) (height : ℕ) → Kept (dotted w left height)
-dotted_kept w left height room ready = on_a_line tt (λ line h k j c. on_a_name tt (λ x h' k' j' d. ends (omega (arith, c, d), omega arith, (ready, tt))))
+dotted_kept w left height room ready = on_piece by_line tt (λ line h k j c. on_piece by_name tt (λ x h' k' j' d. ends (omega (arith, c, d), omega arith, (ready, tt))))
 
 pub indexed_kept : (left : tree.Exp) (height : ℕ) → Kept (indexed left height)
 indexed_kept left height room ready =
-    on_a_line tt (λ line h k j c. on_an_exp tt (λ e h' k' j' d. on_a_line tt (λ _ h'' k'' j'' f. ends (omega (arith, c, d.0), omega (arith, d.1), (ready, d.2)))))
+    on_piece by_line tt (λ line h k j c. on_piece by_exp tt (λ e h' k' j' d. on_piece by_line tt (λ _ h'' k'' j'' f. ends (omega (arith, c, d.0), omega (arith, d.1), (ready, d.2)))))
 
 pub method_kept : (left : tree.Exp) (height : ℕ) → Kept (method left height)
 method_kept left height room ready =
-    on_a_line tt (λ _ h k j c. on_a_name tt (λ x h' k' j' d. picks (λ t. on_some_exps tt (λ es h'' k'' j'' f.
+    on_piece by_line tt (λ _ h k j c. on_piece by_name tt (λ x h' k' j' d. picks (λ t. on_piece by_exps tt (λ es h'' k'' j'' f.
     ends (omega (arith, c, d, f.0), omega (arith, f.1), (ready, f.2))))))
 
 pub call_kept : (left : tree.Exp) (height : ℕ) → Kept (call left height)
 call_kept left height room ready =
-    picks (λ t. either (nat_lt height room) (on_some_exps tt (λ es h k j c. ends (omega (arith, c.0), omega (arith, c.1), (ready, c.2)))) refuses)
+    picks (λ t. either (nat_lt height room) (on_piece by_exps tt (λ es h k j c. ends (omega (arith, c.0), omega (arith, c.1), (ready, c.2)))) refuses)
 
 -- arguments
 
@@ -175,7 +176,7 @@ method_arguments_kept room ready =
 pub arguments_kept : Kept arguments
 arguments_kept room ready =
     picks (λ t. either (is_word OPEN_ROUND t.0) (passes (only_reads listed tt (λ p k j c. more_arguments p (omega arith) (omega arith) c)))
-    (either (is_word OPEN_CURLY t.0) (passes (on_some_fields tt (λ fs h k j c. ends (omega (arith, c.0), omega (arith, c.1), (c.2, tt)))))
+    (either (is_word OPEN_CURLY t.0) (passes (on_piece by_fields tt (λ fs h k j c. ends (omega (arith, c.0), omega (arith, c.1), (c.2, tt)))))
     (only_reads string_argument tt (λ p k j c. c))))
 
 pub string_argument_kept : Kept string_argument
@@ -188,18 +189,18 @@ string_argument_kept room ready = picks (λ t. by t (string_of t.0))
 pub listed_kept : Kept listed
 listed_kept room ready =
     picks (λ t. either (is_word CLOSE_ROUND t.0) (passes (ends (omega arith, omega arith, tt)))
-    (on_some_exps tt (λ es h k j c. on_a_line tt (λ _ h' k' j' d. ends (omega (arith, c.0, d.0, arguments_weigh (tree.exps es)), omega (arith, c.1), c.2)))))
+    (on_piece by_exps tt (λ es h k j c. on_piece by_line tt (λ _ h' k' j' d. ends (omega (arith, c.0, d.0, arguments_weigh (tree.exps es)), omega (arith, c.1), c.2)))))
 
 -- lists
 
 pub explist_kept : Kept explist
 explist_kept room ready =
-    on_an_exp tt (λ e h k j c. only_reads (more_exps (e ∷ []) h) (c.2, tt) (λ p k' j' d. more p (omega (arith, c.0)) (omega (arith, c.1)) d))
+    on_piece by_exp tt (λ e h k j c. only_reads (more_exps (e ∷ []) h) (c.2, tt) (λ p k' j' d. more p (omega (arith, c.0)) (omega (arith, c.1)) d))
 
 pub more_exps_kept : (es : List tree.Exp) (height : ℕ) → Kept (more_exps es height)
 more_exps_kept es height room ready =
     picks (λ t. either (is_word COMMA t.0)
-    (passes (on_an_exp tt (λ e h k j c.
+    (passes (on_piece by_exp tt (λ e h k j c.
     only_reads (more_exps (es ++ e ∷ []) (max height h)) (exps_more all_counted es e ready c.2) (λ p k' j' d.
     more p (omega (arith, c.0, exps_weigh es e)) (omega (arith, c.1, exps_have es e)) d))))
     (ends (omega arith, omega arith, ready)))

@@ -25,7 +25,8 @@ use Rattle.lua_parse.specs.Grammar.{expects, name_move, constant_move, operand, 
 use Rattle.grammar_laws.proofs.Operands.{operand_has, right_has}
 use Rattle.grammar_laws.specs.Formed.{IsCall, IsNameOrIndex, AreTargets, BlockIsFormed, all_formed}
 use Rattle.grammar_laws.proofs.FormKeeping.{IsFormedBy, StandsFormed, FrontIsFormed, GivesFormed}
-use Rattle.grammar_laws.proofs.Walk.{picks, passes, refuses, reads, ends, either, either_by, passes_if, only_reads, on_a_line, on_a_name, on_some_names, on_some_params, on_a_declared, on_some_declared, on_an_exp, on_maybe_exp, on_some_exps, on_a_field, on_some_fields, on_a_target, on_an_arm, on_some_arms, on_some_items, on_a_stat, on_a_block, on_maybe_block, on_a_body}
+use Rattle.grammar_laws.proofs.Pieces.{by_line, by_name, by_names, by_declared, by_all_declared, by_exp, by_step, by_exps, by_field, by_fields, by_arms, by_stat, by_block, by_else, by_body, by_params, by_target, by_arm}
+use Rattle.grammar_laws.proofs.Walk.{picks, passes, refuses, reads, ends, either, either_by, passes_if, only_reads, on_piece, on_pair, on_some_items}
 use Rattle.grammar_laws.proofs.Asking.{MaybeMeets, ElseMeets, ValuesMeet, exps_more, fields_more, stats_more, arms_more}
 
 -- what the tests on expressions say
@@ -91,11 +92,11 @@ right_formed level e = right_has (λ part. IsFormedBy part (an_exp e) → ExpMee
 operator_gives : (room : ℕ) (level : Level) (left : tree.Exp) (height line : ℕ) (o : Option Infix) → ExpMeets all_formed left → GivesFormed (behind level left height) room (operator_move room level left height line o)
 operator_gives room level left height line None c = ends c
 operator_gives room level left height line (Some op) c =
-    passes_if (nat_lt height room) (on_an_exp (right_stands level) (λ e h k d. only_reads (behind level (joined op line left e) (above height h)) (joined_formed op line left e c (right_formed level e d)) (λ p q. q)))
+    passes_if (nat_lt height room) (on_piece by_exp (right_stands level) (λ e h k d. only_reads (behind level (joined op line left e) (above height h)) (joined_formed op line left e c (right_formed level e d)) (λ p q. q)))
 
 unary_gives : (room line : ℕ) (o : Option UnOp) → GivesFormed unary room (unary_move room line o)
 unary_gives room line None = only_reads simple tt (λ p q. q)
-unary_gives room line (Some op) = passes_if (nat_lt 0 room) (on_an_exp tt (λ e h k c. ends c))
+unary_gives room line (Some op) = passes_if (nat_lt 0 room) (on_piece by_exp tt (λ e h k c. ends c))
 
 name_gives : {room : ℕ} (line : ℕ) (o : Option (List ℕ)) → GivesFormed name room (name_move line o)
 name_gives line None = refuses
@@ -107,7 +108,7 @@ string_gives line (Some bytes) = passes (ends (tt, tt))
 
 item_gives : (room : ℕ) (o : Option Name) → GivesFormed item room (item_move room o)
 item_gives room None = refuses
-item_gives room (Some x) = passes (on_an_exp tt (λ value h k c. ends (tt, c)))
+item_gives room (Some x) = passes (on_piece by_exp tt (λ value h k c. ends (tt, c)))
 
 start_gives : (room line : ℕ) (s : Start) → GivesFormed stat room (stat_move room line s)
 start_gives room line start.Empty = passes (ends tt)
@@ -139,108 +140,108 @@ for_formed line x a b None inner h k i j = (h, (k, j))
 for_formed line x a b (Some c) inner h k i j = (h, (k, (i, j)))
 
 pub part_gives : (part : Part) (room : ℕ) → FrontIsFormed part room → GivesFormed part room (expects room part)
-part_gives chunk room r = on_a_block tt (λ b h k c. picks (λ t l. passes_if (is_end t.0) (ends c)))
+part_gives chunk room r = on_piece by_block tt (λ b h k c. picks (λ t l. passes_if (is_end t.0) (ends c)))
 part_gives (word w) room r = picks (λ t l. passes_if (is_word w t.0) (ends tt))
 part_gives (opener w height) room r = picks (λ t l. passes_if (is_word w t.0 && nat_lt height room) (ends tt))
 part_gives name room r = picks (λ t l. name_gives t.1 (name_of t.0))
-part_gives (chain level) room r = on_an_exp (operand_stands level) (λ e h k c. only_reads (behind level e h) (operand_formed level e c) (λ p q. q))
+part_gives (chain level) room r = on_piece by_exp (operand_stands level) (λ e h k c. only_reads (behind level e h) (operand_formed level e c) (λ p q. q))
 part_gives (behind level left height) room r = picks (λ t l. operator_gives room level left height t.1 (operator_of level t.0) r)
 part_gives unary room r = picks (λ t l. unary_gives room t.1 (unary_of t.0))
 part_gives simple room r =
-    picks (λ t l. constant_gives (constant_of t) (constant_formed t) (either (is_word FUNCTION t.0) (passes (on_a_body tt (λ b h k c. ends c)))
+    picks (λ t l. constant_gives (constant_of t) (constant_formed t) (either (is_word FUNCTION t.0) (passes (on_piece by_body tt (λ b h k c. ends c)))
     (either (is_word OPEN_CURLY t.0) (only_reads table tt (λ p q. q)) (only_reads prefix tt (λ p q. q)))))
-part_gives table room r = on_a_line tt (λ line h k _. on_some_fields tt (λ fs h1 k1 c. ends c))
+part_gives table room r = on_piece by_line tt (λ line h k _. on_piece by_fields tt (λ fs h1 k1 c. ends c))
 part_gives (more_fields fs height) room r =
     picks (λ t l. either (is_word CLOSE_CURLY t.0) (passes (ends r))
-    (on_a_field tt (λ f h k c. only_reads (more_fields (fs ++ f ∷ []) (max height h)) (fields_more all_formed fs f r c) (λ p q. q))))
-part_gives separated_field room r = on_a_field tt (λ f h k c. picks (λ t l. either (is_separator t.0) (passes (ends c)) (either (is_word CLOSE_CURLY t.0) (ends c) refuses)))
+    (on_piece by_field tt (λ f h k c. only_reads (more_fields (fs ++ f ∷ []) (max height h)) (fields_more all_formed fs f r c) (λ p q. q))))
+part_gives separated_field room r = on_piece by_field tt (λ f h k c. picks (λ t l. either (is_separator t.0) (passes (ends c)) (either (is_word CLOSE_CURLY t.0) (ends c) refuses)))
 part_gives field room r = picks (λ t l. either (is_word OPEN_SQUARE t.0) (only_reads keyed tt (λ p q. q)) (only_reads item tt (λ p q. q)))
 part_gives keyed room r =
-    on_a_line tt (λ line h k _. on_an_exp tt (λ key h1 k1 c. on_a_line tt (λ _ h2 k2 _. on_a_line tt (λ _ h3 k3 _. on_an_exp tt (λ value h4 k4 d. ends (c, d))))))
-part_gives item room r = on_an_exp tt (λ e h k c. picks (λ t l. either (is_word ASSIGN t.0) (item_gives room (variable_of e)) (ends c)))
-part_gives prefix room r = on_an_exp tt (λ e h k c. only_reads (suffixes e h) c (λ p q. q))
-part_gives primary room r = picks (λ t l. either (is_word OPEN_ROUND t.0) (only_reads paren tt (λ p q. q)) (on_a_name tt (λ x h k _. ends tt)))
-part_gives paren room r = on_a_line tt (λ line h k _. on_an_exp tt (λ e h1 k1 c. on_a_line tt (λ _ h2 k2 _. ends c)))
-part_gives (suffixes left height) room r = picks (λ t l. either (begins_suffix t.0) (on_an_exp r (λ e h k c. only_reads (suffixes e h) c (λ p q. q))) (ends r))
+    on_piece by_line tt (λ line h k _. on_piece by_exp tt (λ key h1 k1 c. on_piece by_line tt (λ _ h2 k2 _. on_piece by_line tt (λ _ h3 k3 _. on_piece by_exp tt (λ value h4 k4 d. ends (c, d))))))
+part_gives item room r = on_piece by_exp tt (λ e h k c. picks (λ t l. either (is_word ASSIGN t.0) (item_gives room (variable_of e)) (ends c)))
+part_gives prefix room r = on_piece by_exp tt (λ e h k c. only_reads (suffixes e h) c (λ p q. q))
+part_gives primary room r = picks (λ t l. either (is_word OPEN_ROUND t.0) (only_reads paren tt (λ p q. q)) (on_piece by_name tt (λ x h k _. ends tt)))
+part_gives paren room r = on_piece by_line tt (λ line h k _. on_piece by_exp tt (λ e h1 k1 c. on_piece by_line tt (λ _ h2 k2 _. ends c)))
+part_gives (suffixes left height) room r = picks (λ t l. either (begins_suffix t.0) (on_piece by_exp r (λ e h k c. only_reads (suffixes e h) c (λ p q. q))) (ends r))
 part_gives (suffix left height) room r =
     picks (λ t l. either (is_word DOT t.0) (only_reads (dotted DOT left height) r (λ p q. q.1)) (either (is_word OPEN_SQUARE t.0) (only_reads (indexed left height) r (λ p q. q))
     (either (is_word COLON t.0) (only_reads (method left height) r (λ p q. q)) (only_reads (call left height) r (λ p q. q)))))
-part_gives (dotted w left height) room r = on_a_line tt (λ line h k _. on_a_name tt (λ x h1 k1 _. ends (tt, (r, tt))))
-part_gives (indexed left height) room r = on_a_line tt (λ line h k _. on_an_exp tt (λ e h1 k1 c. on_a_line tt (λ _ h2 k2 _. ends (r, c))))
-part_gives (method left height) room r = on_a_line tt (λ _ h k _. on_a_name tt (λ x h1 k1 _. picks (λ t l. on_some_exps tt (λ es h2 k2 c. ends (r, c)))))
-part_gives (call left height) room r = picks (λ t l. either (nat_lt height room) (on_some_exps tt (λ es h k c. ends (r, c))) refuses)
+part_gives (dotted w left height) room r = on_piece by_line tt (λ line h k _. on_piece by_name tt (λ x h1 k1 _. ends (tt, (r, tt))))
+part_gives (indexed left height) room r = on_piece by_line tt (λ line h k _. on_piece by_exp tt (λ e h1 k1 c. on_piece by_line tt (λ _ h2 k2 _. ends (r, c))))
+part_gives (method left height) room r = on_piece by_line tt (λ _ h k _. on_piece by_name tt (λ x h1 k1 _. picks (λ t l. on_piece by_exps tt (λ es h2 k2 c. ends (r, c)))))
+part_gives (call left height) room r = picks (λ t l. either (nat_lt height room) (on_piece by_exps tt (λ es h k c. ends (r, c))) refuses)
 part_gives method_arguments room r =
     picks (λ t l. either (is_string t.0) (only_reads arguments tt (λ p q. q)) (either (nat_lt 0 room) (reads tt (λ p h k c. ends c)) refuses))
 part_gives arguments room r =
     picks (λ t l. either (is_word OPEN_ROUND t.0) (passes (only_reads listed tt (λ p q. q)))
-    (either (is_word OPEN_CURLY t.0) (passes (on_some_fields tt (λ fs h k c. ends (c, tt)))) (only_reads string_argument tt (λ p q. q))))
+    (either (is_word OPEN_CURLY t.0) (passes (on_piece by_fields tt (λ fs h k c. ends (c, tt)))) (only_reads string_argument tt (λ p q. q))))
 part_gives string_argument room r = picks (λ t l. string_gives t.1 (string_of t.0))
-part_gives listed room r = picks (λ t l. either (is_word CLOSE_ROUND t.0) (passes (ends tt)) (on_some_exps tt (λ es h k c. on_a_line tt (λ _ h1 k1 _. ends c))))
-part_gives explist room r = on_an_exp tt (λ e h k c. only_reads (more_exps (e ∷ []) h) (c, tt) (λ p q. q))
+part_gives listed room r = picks (λ t l. either (is_word CLOSE_ROUND t.0) (passes (ends tt)) (on_piece by_exps tt (λ es h k c. on_piece by_line tt (λ _ h1 k1 _. ends c))))
+part_gives explist room r = on_piece by_exp tt (λ e h k c. only_reads (more_exps (e ∷ []) h) (c, tt) (λ p q. q))
 part_gives (more_exps es height) room r =
     picks (λ t l. either (is_word COMMA t.0)
-    (passes (on_an_exp tt (λ e h k c. only_reads (more_exps (es ++ e ∷ []) (max height h)) (exps_more all_formed es e r c) (λ p q. q)))) (ends r))
+    (passes (on_piece by_exp tt (λ e h k c. only_reads (more_exps (es ++ e ∷ []) (max height h)) (exps_more all_formed es e r c) (λ p q. q)))) (ends r))
 part_gives (body line own) room r =
-    on_a_line tt (λ _ h k _. on_some_params tt (λ xs vararg h1 k1 _. on_a_line tt (λ _ h2 k2 _. on_a_block tt (λ b h3 k3 c. on_a_line tt (λ _ h4 k4 _. ends c)))))
+    on_piece by_line tt (λ _ h k _. on_pair by_params tt (λ xs vararg h1 k1 _. on_piece by_line tt (λ _ h2 k2 _. on_piece by_block tt (λ b h3 k3 c. on_piece by_line tt (λ _ h4 k4 _. ends c)))))
 part_gives (params own) room r = picks (λ t l. either (is_word CLOSE_ROUND t.0) (ends tt) (only_reads (more_params own) tt (λ p q. q)))
 part_gives (more_params xs) room r =
-    picks (λ t l. either (is_word DOTS t.0) (passes (ends tt)) (on_a_name tt (λ x h k _. picks (λ u m. either (is_word COMMA u.0)
+    picks (λ t l. either (is_word DOTS t.0) (passes (ends tt)) (on_piece by_name tt (λ x h k _. picks (λ u m. either (is_word COMMA u.0)
     (passes (only_reads (more_params (xs ++ x ∷ [])) tt (λ p q. q))) (ends tt)))))
 part_gives block room r = on_some_items tt (λ ss es line h k c. ends (block_formed ss es k line c.0 c.1))
 part_gives (items ss height) room r =
-    picks (λ t l. either (is_word RETURN t.0) (passes (on_some_exps tt (λ es h k c. ends (r, c)))) (either (ends_block t.0) (ends (r, tt))
-    (on_a_stat tt (λ s h k c. only_reads (items (ss ++ s ∷ []) (max height h)) (stats_more all_formed ss s r c) (λ p q. q)))))
+    picks (λ t l. either (is_word RETURN t.0) (passes (on_piece by_exps tt (λ es h k c. ends (r, c)))) (either (ends_block t.0) (ends (r, tt))
+    (on_piece by_stat tt (λ s h k c. only_reads (items (ss ++ s ∷ []) (max height h)) (stats_more all_formed ss s r c) (λ p q. q)))))
 part_gives returned room r =
     picks (λ t l. either (ends_block t.0) (ends tt) (either (is_word SEMICOLON t.0) (passes (ends tt))
-    (on_some_exps tt (λ es h k c. picks (λ u m. either (is_word SEMICOLON u.0) (passes (ends c)) (ends c))))))
+    (on_piece by_exps tt (λ es h k c. picks (λ u m. either (is_word SEMICOLON u.0) (passes (ends c)) (ends c))))))
 part_gives stat room r = picks (λ t l. start_gives room t.1 (start_of t.0))
-part_gives label_stat room r = on_a_line tt (λ line h k _. on_a_name tt (λ x h1 k1 _. on_a_line tt (λ _ h2 k2 _. ends tt)))
-part_gives goto_stat room r = on_a_line tt (λ line h k _. on_a_name tt (λ x h1 k1 _. ends tt))
-part_gives do_stat room r = picks (λ t l. on_a_block tt (λ b h k c. ends c))
-part_gives do_block room r = on_a_line tt (λ _ h k _. on_a_block tt (λ b h1 k1 c. on_a_line tt (λ _ h2 k2 _. ends c)))
-part_gives while_stat room r = on_a_line tt (λ line h k _. on_an_exp tt (λ e h1 k1 c. on_a_block tt (λ b h2 k2 d. ends (c, d))))
+part_gives label_stat room r = on_piece by_line tt (λ line h k _. on_piece by_name tt (λ x h1 k1 _. on_piece by_line tt (λ _ h2 k2 _. ends tt)))
+part_gives goto_stat room r = on_piece by_line tt (λ line h k _. on_piece by_name tt (λ x h1 k1 _. ends tt))
+part_gives do_stat room r = picks (λ t l. on_piece by_block tt (λ b h k c. ends c))
+part_gives do_block room r = on_piece by_line tt (λ _ h k _. on_piece by_block tt (λ b h1 k1 c. on_piece by_line tt (λ _ h2 k2 _. ends c)))
+part_gives while_stat room r = on_piece by_line tt (λ line h k _. on_piece by_exp tt (λ e h1 k1 c. on_piece by_block tt (λ b h2 k2 d. ends (c, d))))
 part_gives repeat_stat room r =
-    on_a_line tt (λ line h k _. on_a_block tt (λ b h1 k1 c. on_a_line tt (λ _ h2 k2 _. on_an_exp tt (λ e h3 k3 d. ends (c, d)))))
+    on_piece by_line tt (λ line h k _. on_piece by_block tt (λ b h1 k1 c. on_piece by_line tt (λ _ h2 k2 _. on_piece by_exp tt (λ e h3 k3 d. ends (c, d)))))
 part_gives if_stat room r =
-    on_a_line tt (λ line h k _. on_some_arms tt (λ as' h1 k1 c. on_maybe_block tt (λ b h2 k2 d. on_a_line tt (λ _ h3 k3 _. ends (if_formed line as' b c d)))))
-part_gives arms room r = on_an_arm tt (λ e b h k c. only_reads (more_arms ((e, b) ∷ []) h) (c.0, (c.1, tt)) (λ p q. q))
+    on_piece by_line tt (λ line h k _. on_piece by_arms tt (λ as' h1 k1 c. on_piece by_else tt (λ b h2 k2 d. on_piece by_line tt (λ _ h3 k3 _. ends (if_formed line as' b c d)))))
+part_gives arms room r = on_pair by_arm tt (λ e b h k c. only_reads (more_arms ((e, b) ∷ []) h) (c.0, (c.1, tt)) (λ p q. q))
 part_gives (more_arms as' height) room r =
     picks (λ t l. either (is_word ELSEIF t.0)
-    (passes (on_an_arm tt (λ e b h k c. only_reads (more_arms (as' ++ (e, b) ∷ []) (max height h)) (arms_more all_formed as' e b r c.0 c.1) (λ p q. q)))) (ends r))
-part_gives arm room r = on_an_exp tt (λ e h k c. on_a_line tt (λ _ h1 k1 _. on_a_block tt (λ b h2 k2 d. ends (c, d))))
-part_gives else_part room r = picks (λ t l. either (is_word ELSE t.0) (on_a_line tt (λ _ h k _. on_a_block tt (λ b h1 k1 c. ends c))) (ends tt))
+    (passes (on_pair by_arm tt (λ e b h k c. only_reads (more_arms (as' ++ (e, b) ∷ []) (max height h)) (arms_more all_formed as' e b r c.0 c.1) (λ p q. q)))) (ends r))
+part_gives arm room r = on_piece by_exp tt (λ e h k c. on_piece by_line tt (λ _ h1 k1 _. on_piece by_block tt (λ b h2 k2 d. ends (c, d))))
+part_gives else_part room r = picks (λ t l. either (is_word ELSE t.0) (on_piece by_line tt (λ _ h k _. on_piece by_block tt (λ b h1 k1 c. ends c))) (ends tt))
 part_gives for_stat room r =
-    on_a_line tt (λ line h k _. on_a_name tt (λ x h1 k1 _. picks (λ t l. either (is_word ASSIGN t.0)
+    on_piece by_line tt (λ line h k _. on_piece by_name tt (λ x h1 k1 _. picks (λ t l. either (is_word ASSIGN t.0)
     (only_reads (numeric line x) tt (λ p q. q)) (only_reads (generic line x) tt (λ p q. q)))))
 part_gives (numeric line x) room r =
-    on_a_line tt (λ _ h k _. on_an_exp tt (λ a h1 k1 c. on_a_line tt (λ _ h2 k2 _. on_an_exp tt (λ b h3 k3 d. on_maybe_exp tt (λ e h4 k4 f. on_a_block tt (λ inner h5 k5 g.
+    on_piece by_line tt (λ _ h k _. on_piece by_exp tt (λ a h1 k1 c. on_piece by_line tt (λ _ h2 k2 _. on_piece by_exp tt (λ b h3 k3 d. on_piece by_step tt (λ e h4 k4 f. on_piece by_block tt (λ inner h5 k5 g.
     ends (for_formed line x a b e inner c d f g)))))))
-part_gives step room r = picks (λ t l. either (is_word COMMA t.0) (passes (on_an_exp tt (λ e h k c. ends c))) (ends tt))
+part_gives step room r = picks (λ t l. either (is_word COMMA t.0) (passes (on_piece by_exp tt (λ e h k c. ends c))) (ends tt))
 part_gives (generic line x) room r =
-    on_some_names (omega arith) (λ xs h k c. on_a_line tt (λ _ h1 k1 _. on_some_exps tt (λ es h2 k2 d. on_a_block tt (λ b h3 k3 e. ends (c, (d, e))))))
+    on_piece by_names (omega arith) (λ xs h k c. on_piece by_line tt (λ _ h1 k1 _. on_piece by_exps tt (λ es h2 k2 d. on_piece by_block tt (λ b h3 k3 e. ends (c, (d, e))))))
 part_gives (more_names xs) room r =
-    picks (λ t l. either (is_word COMMA t.0) (passes (on_a_name tt (λ x h k _. only_reads (more_names (xs ++ x ∷ [])) (is_some xs x) (λ p q. q)))) (ends r))
+    picks (λ t l. either (is_word COMMA t.0) (passes (on_piece by_name tt (λ x h k _. only_reads (more_names (xs ++ x ∷ [])) (is_some xs x) (λ p q. q)))) (ends r))
 part_gives function_stat room r =
-    on_a_line tt (λ line h k _. on_a_target tt (λ target own h1 k1 c. on_a_body tt (λ b h2 k2 d. ends ((c.0, tt), ((c.1, tt), (d, tt))))))
+    on_piece by_line tt (λ line h k _. on_pair by_target tt (λ target own h1 k1 c. on_piece by_body tt (λ b h2 k2 d. ends ((c.0, tt), ((c.1, tt), (d, tt))))))
 part_gives function_name room r =
-    on_a_name tt (λ x h k _. on_an_exp (tt, tt) (λ e h1 k1 c. picks (λ t l. either (is_word COLON t.0) (on_an_exp c.1 (λ target h2 k2 d. ends d)) (ends c))))
+    on_piece by_name tt (λ x h k _. on_piece by_exp (tt, tt) (λ e h1 k1 c. picks (λ t l. either (is_word COLON t.0) (on_piece by_exp c.1 (λ target h2 k2 d. ends d)) (ends c))))
 part_gives (path left height) room r =
-    picks (λ t l. either (is_word DOT t.0) (on_an_exp r.1 (λ e h k c. only_reads (path e h) c (λ p q. q))) (ends r))
+    picks (λ t l. either (is_word DOT t.0) (on_piece by_exp r.1 (λ e h k c. only_reads (path e h) c (λ p q. q))) (ends r))
 part_gives local_stat room r =
-    on_a_line tt (λ line h k _. picks (λ t l. either (is_word FUNCTION t.0) (only_reads (local_function line) tt (λ p q. q)) (only_reads (local_names line) tt (λ p q. q))))
-part_gives (local_function line) room r = on_a_line tt (λ own h k _. on_a_name tt (λ x h1 k1 _. on_a_body tt (λ b h2 k2 c. ends c)))
-part_gives (local_names line) room r = on_a_declared tt (λ d h k _. on_some_declared tt (λ ds h1 k1 _. on_some_exps tt (λ es h2 k2 c. ends c)))
+    on_piece by_line tt (λ line h k _. picks (λ t l. either (is_word FUNCTION t.0) (only_reads (local_function line) tt (λ p q. q)) (only_reads (local_names line) tt (λ p q. q))))
+part_gives (local_function line) room r = on_piece by_line tt (λ own h k _. on_piece by_name tt (λ x h1 k1 _. on_piece by_body tt (λ b h2 k2 c. ends c)))
+part_gives (local_names line) room r = on_piece by_declared tt (λ d h k _. on_piece by_all_declared tt (λ ds h1 k1 _. on_piece by_exps tt (λ es h2 k2 c. ends c)))
 part_gives (more_declared ds) room r =
-    picks (λ t l. either (is_word COMMA t.0) (passes (on_a_declared tt (λ d h k _. only_reads (more_declared (ds ++ d ∷ [])) tt (λ p q. q)))) (ends tt))
+    picks (λ t l. either (is_word COMMA t.0) (passes (on_piece by_declared tt (λ d h k _. only_reads (more_declared (ds ++ d ∷ [])) tt (λ p q. q)))) (ends tt))
 part_gives declared room r =
-    on_a_name tt (λ x h k _. picks (λ t l. either (is_word LESS t.0) (passes (on_a_name tt (λ a h1 k1 _. on_a_line tt (λ _ h2 k2 _. ends tt)))) (ends tt)))
+    on_piece by_name tt (λ x h k _. picks (λ t l. either (is_word LESS t.0) (passes (on_piece by_name tt (λ a h1 k1 _. on_piece by_line tt (λ _ h2 k2 _. ends tt)))) (ends tt)))
 part_gives values room r = picks (λ t l. either (is_word ASSIGN t.0) (passes (only_reads explist tt (λ p q. q))) (ends tt))
 part_gives prefix_stat room r =
-    picks (λ t l. on_an_exp tt (λ e h k c. either_by (is_call e) (λ is. ends (call_is e is, c))
+    picks (λ t l. on_piece by_exp tt (λ e h k c. either_by (is_call e) (λ is. ends (call_is e is, c))
     (either_by (is_target e) (λ is. only_reads (assignment t.1 e h) (target_is e is, c) (λ p q. q)) refuses)))
 part_gives (assignment line first height) room r =
-    on_some_exps ((r.0, tt), (r.1, tt)) (λ ts h k c. on_a_line tt (λ _ h1 k1 _. on_some_exps tt (λ es h2 k2 d. ends (c.0, (c.1, d)))))
+    on_piece by_exps ((r.0, tt), (r.1, tt)) (λ ts h k c. on_piece by_line tt (λ _ h1 k1 _. on_piece by_exps tt (λ es h2 k2 d. ends (c.0, (c.1, d)))))
 part_gives (more_targets ts height) room r =
     picks (λ t l. either (is_word COMMA t.0)
-    (passes (on_an_exp tt (λ e h k c. either_by (is_target e)
+    (passes (on_piece by_exp tt (λ e h k c. either_by (is_target e)
     (λ is. only_reads (more_targets (ts ++ e ∷ []) (max height h)) (more_targets_formed ts e r.0 (target_is e is), exps_more all_formed ts e r.1 c) (λ p q. q)) refuses))) (ends r))

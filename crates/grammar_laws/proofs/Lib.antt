@@ -6,6 +6,7 @@ pub mod FormReadings
 pub mod PlacedParts
 pub mod PlacedForms
 mod Claims
+pub mod Pieces
 mod SizeKeeping
 mod Lists
 mod Words

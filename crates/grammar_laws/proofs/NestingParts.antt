@@ -24,7 +24,8 @@ use Rattle.lua_parse.specs.Moves.{Piece, a_line, a_name, some_names, some_params
 use Rattle.lua_parse.specs.Grammar.{expects, name_move, constant_move, operand, right_operand, operator_move, unary_move, string_move, item_move, stat_move, pass_if}
 use Rattle.grammar_laws.proofs.Operands.{operand_has, right_has}
 use Rattle.grammar_laws.proofs.Nesting.{nesting, nesting_in_exps, nesting_in_fields, nesting_in_field, nesting_in_stat, nesting_in_arms, nesting_in_stats, nesting_in_block, nesting_in_body}
-use Rattle.grammar_laws.proofs.Walk.{AnyToken, Keeps, picks, passes, refuses, reads, ends, either, passes_if, only_reads, on_a_line, on_a_name, on_some_names, on_some_params, on_a_declared, on_some_declared, on_an_exp, on_maybe_exp, on_some_exps, on_a_field, on_some_fields, on_a_target, on_an_arm, on_some_arms, on_some_items, on_a_stat, on_a_block, on_maybe_block, on_a_body}
+use Rattle.grammar_laws.proofs.Pieces.{by_line, by_name, by_names, by_declared, by_all_declared, by_exp, by_step, by_exps, by_field, by_fields, by_arms, by_stat, by_block, by_else, by_body, by_params, by_target, by_arm}
+use Rattle.grammar_laws.proofs.Walk.{AnyToken, Keeps, picks, passes, refuses, reads, ends, either, passes_if, only_reads, on_piece, on_pair, on_some_items}
 
 abbrev pub MaybeNests : ℕ → Option tree.Exp → Type 0
 MaybeNests room None = Unit {0}
@@ -157,12 +158,12 @@ right_nests level room e = right_has (λ part. Nests part room (an_exp e) → ne
 operator_kept : (room : ℕ) (level : Level) (left : tree.Exp) (height line : ℕ) (o : Option Infix) → nesting left ≤ room → KeepsNesting (behind level left height) room (operator_move room level left height line o)
 operator_kept room level left height line None h = ends h
 operator_kept room level left height line (Some op) h =
-    passes_if (nat_lt height room) (on_an_exp (right_stands level (room - 1)) (λ e h' k c.
+    passes_if (nat_lt height room) (on_piece by_exp (right_stands level (room - 1)) (λ e h' k c.
     only_reads (behind level (joined op line left e) (above height h')) (joined_nests room op line left e h (let d = right_nests level (room - 1) e c in omega (arith, d))) (λ p d. d)))
 
 unary_kept : (room line : ℕ) (o : Option UnOp) → KeepsNesting unary room (unary_move room line o)
 unary_kept room line None = only_reads simple tt (λ p c. c)
-unary_kept room line (Some op) = passes_if (nat_lt 0 room) (on_an_exp tt (λ e h k c. ends (omega (arith, c))))
+unary_kept room line (Some op) = passes_if (nat_lt 0 room) (on_piece by_exp tt (λ e h k c. ends (omega (arith, c))))
 
 name_kept : (room line : ℕ) (o : Option (List ℕ)) → KeepsNesting name room (name_move line o)
 name_kept room line None = refuses
@@ -173,7 +174,7 @@ string_kept room line None = refuses
 string_kept room line (Some bytes) = passes (ends (omega arith))
 
 item_kept : (room : ℕ) (e : tree.Exp) → KeepsNesting item room (item_move room (variable_of e))
-item_kept room (tree.Var line x) = passes (on_an_exp tt (λ value h' k c. ends (omega (arith, c))))
+item_kept room (tree.Var line x) = passes (on_piece by_exp tt (λ value h' k c. ends (omega (arith, c))))
 item_kept room _ = refuses
 
 start_kept : (room line : ℕ) (s : Start) → KeepsNesting stat room (stat_move room line s)
@@ -211,102 +212,102 @@ for_nests room line x a b None inner h k i j = omega (arith, h, k, j)
 for_nests room line x a b (Some c) inner h k i j = omega (arith, h, k, i, j)
 
 pub part_nests : (part : Part) (room : ℕ) → StandsNested part room → KeepsNesting part room (expects room part)
-part_nests chunk room r = on_a_block tt (λ b h k c. picks (λ t l. passes_if (is_end t.0) (ends c)))
+part_nests chunk room r = on_piece by_block tt (λ b h k c. picks (λ t l. passes_if (is_end t.0) (ends c)))
 part_nests (word w) room r = picks (λ t l. passes_if (is_word w t.0) (ends tt))
 part_nests (opener w height) room r = picks (λ t l. opener_kept w height room t.1 (is_word w t.0) (nat_lt height room) refl)
 part_nests name room r = picks (λ t l. name_kept room t.1 (name_of t.0))
-part_nests (chain level) room r = on_an_exp (operand_stands level room) (λ e h k c. only_reads (behind level e h) (operand_nests level room e c) (λ p d. d))
+part_nests (chain level) room r = on_piece by_exp (operand_stands level room) (λ e h k c. only_reads (behind level e h) (operand_nests level room e c) (λ p d. d))
 part_nests (behind level left height) room r = picks (λ t l. operator_kept room level left height t.1 (operator_of level t.0) r)
 part_nests unary room r = picks (λ t l. unary_kept room t.1 (unary_of t.0))
 part_nests simple room r =
-    picks (λ t l. constant_kept (constant_of t) (constant_nests room t) (either (is_word FUNCTION t.0) (passes (on_a_body tt (λ b h k c. ends c)))
+    picks (λ t l. constant_kept (constant_of t) (constant_nests room t) (either (is_word FUNCTION t.0) (passes (on_piece by_body tt (λ b h k c. ends c)))
     (either (is_word OPEN_CURLY t.0) (only_reads table tt (λ p c. c)) (only_reads prefix tt (λ p c. c)))))
-part_nests table room r = on_a_line tt (λ line h k _. on_some_fields (omega arith) (λ fs h' k' c. ends (omega (arith, c))))
+part_nests table room r = on_piece by_line tt (λ line h k _. on_piece by_fields (omega arith) (λ fs h' k' c. ends (omega (arith, c))))
 part_nests (more_fields fs height) room r =
-    picks (λ t l. either (is_word CLOSE_CURLY t.0) (passes (ends r)) (on_a_field tt (λ f h k c. only_reads (more_fields (fs ++ f ∷ []) (max height h)) (more_fields_nest room fs f r c) (λ p d. d))))
-part_nests separated_field room r = on_a_field tt (λ f h k c. picks (λ t l. either (is_separator t.0) (passes (ends c)) (either (is_word CLOSE_CURLY t.0) (ends c) refuses)))
+    picks (λ t l. either (is_word CLOSE_CURLY t.0) (passes (ends r)) (on_piece by_field tt (λ f h k c. only_reads (more_fields (fs ++ f ∷ []) (max height h)) (more_fields_nest room fs f r c) (λ p d. d))))
+part_nests separated_field room r = on_piece by_field tt (λ f h k c. picks (λ t l. either (is_separator t.0) (passes (ends c)) (either (is_word CLOSE_CURLY t.0) (ends c) refuses)))
 part_nests field room r = picks (λ t l. either (is_word OPEN_SQUARE t.0) (only_reads keyed tt (λ p c. c)) (only_reads item tt (λ p c. c)))
 part_nests keyed room r =
-    on_a_line tt (λ line h k _. on_an_exp tt (λ key h1 k1 c. on_a_line tt (λ _ h2 k2 _. on_a_line tt (λ _ h3 k3 _. on_an_exp tt (λ value h4 k4 d. ends (omega (arith, c, d)))))))
-part_nests item room r = on_an_exp tt (λ e h k c. picks (λ t l. either (is_word ASSIGN t.0) (item_kept room e) (ends c)))
-part_nests prefix room r = on_an_exp tt (λ e h k c. only_reads (suffixes e h) c (λ p d. d))
-part_nests primary room r = picks (λ t l. either (is_word OPEN_ROUND t.0) (only_reads paren tt (λ p c. c)) (on_a_name tt (λ x h k c. ends (omega arith))))
-part_nests paren room r = on_a_line tt (λ line h k _. on_an_exp tt (λ e h1 k1 c. on_a_line tt (λ _ h2 k2 _. ends (omega (arith, c)))))
-part_nests (suffixes left height) room r = picks (λ t l. either (begins_suffix t.0) (on_an_exp r (λ e h k c. only_reads (suffixes e h) c (λ p d. d))) (ends r))
+    on_piece by_line tt (λ line h k _. on_piece by_exp tt (λ key h1 k1 c. on_piece by_line tt (λ _ h2 k2 _. on_piece by_line tt (λ _ h3 k3 _. on_piece by_exp tt (λ value h4 k4 d. ends (omega (arith, c, d)))))))
+part_nests item room r = on_piece by_exp tt (λ e h k c. picks (λ t l. either (is_word ASSIGN t.0) (item_kept room e) (ends c)))
+part_nests prefix room r = on_piece by_exp tt (λ e h k c. only_reads (suffixes e h) c (λ p d. d))
+part_nests primary room r = picks (λ t l. either (is_word OPEN_ROUND t.0) (only_reads paren tt (λ p c. c)) (on_piece by_name tt (λ x h k c. ends (omega arith))))
+part_nests paren room r = on_piece by_line tt (λ line h k _. on_piece by_exp tt (λ e h1 k1 c. on_piece by_line tt (λ _ h2 k2 _. ends (omega (arith, c)))))
+part_nests (suffixes left height) room r = picks (λ t l. either (begins_suffix t.0) (on_piece by_exp r (λ e h k c. only_reads (suffixes e h) c (λ p d. d))) (ends r))
 part_nests (suffix left height) room r =
     picks (λ t l. either (is_word DOT t.0) (only_reads (dotted DOT left height) r (λ p c. c)) (either (is_word OPEN_SQUARE t.0) (only_reads (indexed left height) r (λ p c. c))
     (either (is_word COLON t.0) (only_reads (method left height) r (λ p c. c)) (only_reads (call left height) r (λ p c. c)))))
-part_nests (dotted w left height) room r = on_a_line tt (λ line h k _. on_a_name tt (λ x h1 k1 c. ends (omega (arith, r))))
-part_nests (indexed left height) room r = on_a_line tt (λ line h k _. on_an_exp tt (λ e h1 k1 c. on_a_line tt (λ _ h2 k2 _. ends (omega (arith, r, c)))))
-part_nests (method left height) room r = on_a_line tt (λ _ h k _. on_a_name tt (λ x h1 k1 c. picks (λ t l. on_some_exps tt (λ es h2 k2 d. ends (omega (arith, r, d))))))
-part_nests (call left height) room r = picks (λ t l. either (nat_lt height room) (on_some_exps tt (λ es h k c. ends (omega (arith, r, c)))) refuses)
+part_nests (dotted w left height) room r = on_piece by_line tt (λ line h k _. on_piece by_name tt (λ x h1 k1 c. ends (omega (arith, r))))
+part_nests (indexed left height) room r = on_piece by_line tt (λ line h k _. on_piece by_exp tt (λ e h1 k1 c. on_piece by_line tt (λ _ h2 k2 _. ends (omega (arith, r, c)))))
+part_nests (method left height) room r = on_piece by_line tt (λ _ h k _. on_piece by_name tt (λ x h1 k1 c. picks (λ t l. on_piece by_exps tt (λ es h2 k2 d. ends (omega (arith, r, d))))))
+part_nests (call left height) room r = picks (λ t l. either (nat_lt height room) (on_piece by_exps tt (λ es h k c. ends (omega (arith, r, c)))) refuses)
 part_nests method_arguments room r =
     picks (λ t l. either (is_string t.0) (only_reads arguments tt (λ p c. c)) (either (nat_lt 0 room) (reads tt (λ p h k c. ends (looser p (room - 1) room (omega arith) c))) refuses))
 part_nests arguments room r =
     picks (λ t l. either (is_word OPEN_ROUND t.0) (passes (only_reads listed tt (λ p c. c)))
-    (either (is_word OPEN_CURLY t.0) (passes (on_some_fields (omega arith) (λ fs h k c. ends (omega (arith, c))))) (only_reads string_argument tt (λ p c. looser p 0 room (omega arith) c))))
+    (either (is_word OPEN_CURLY t.0) (passes (on_piece by_fields (omega arith) (λ fs h k c. ends (omega (arith, c))))) (only_reads string_argument tt (λ p c. looser p 0 room (omega arith) c))))
 part_nests string_argument room r = picks (λ t l. string_kept room t.1 (string_of t.0))
-part_nests listed room r = picks (λ t l. either (is_word CLOSE_ROUND t.0) (passes (ends (omega arith))) (on_some_exps tt (λ es h k c. on_a_line tt (λ _ h1 k1 _. ends c))))
-part_nests explist room r = on_an_exp tt (λ e h k c. only_reads (more_exps (e ∷ []) h) (omega (arith, c)) (λ p d. d))
+part_nests listed room r = picks (λ t l. either (is_word CLOSE_ROUND t.0) (passes (ends (omega arith))) (on_piece by_exps tt (λ es h k c. on_piece by_line tt (λ _ h1 k1 _. ends c))))
+part_nests explist room r = on_piece by_exp tt (λ e h k c. only_reads (more_exps (e ∷ []) h) (omega (arith, c)) (λ p d. d))
 part_nests (more_exps es height) room r =
-    picks (λ t l. either (is_word COMMA t.0) (passes (on_an_exp tt (λ e h k c. only_reads (more_exps (es ++ e ∷ []) (max height h)) (more_exps_nest room es e r c) (λ p d. d)))) (ends r))
+    picks (λ t l. either (is_word COMMA t.0) (passes (on_piece by_exp tt (λ e h k c. only_reads (more_exps (es ++ e ∷ []) (max height h)) (more_exps_nest room es e r c) (λ p d. d)))) (ends r))
 part_nests (body line own) room r =
-    on_a_line tt (λ _ h k first. on_some_params tt (λ xs vararg h1 k1 _. on_a_line tt (λ _ h2 k2 second. on_a_block tt (λ b h3 k3 c. on_a_line tt (λ _ h4 k4 _. ends (omega (arith, first, second, c)))))))
+    on_piece by_line tt (λ _ h k first. on_pair by_params tt (λ xs vararg h1 k1 _. on_piece by_line tt (λ _ h2 k2 second. on_piece by_block tt (λ b h3 k3 c. on_piece by_line tt (λ _ h4 k4 _. ends (omega (arith, first, second, c)))))))
 part_nests (params own) room r = picks (λ t l. either (is_word CLOSE_ROUND t.0) (ends tt) (only_reads (more_params own) tt (λ p c. looser p 0 room (omega arith) c)))
 part_nests (more_params xs) room r =
-    picks (λ t l. either (is_word DOTS t.0) (passes (ends tt)) (on_a_name tt (λ x h k c. picks (λ u m. either (is_word COMMA u.0)
+    picks (λ t l. either (is_word DOTS t.0) (passes (ends tt)) (on_piece by_name tt (λ x h k c. picks (λ u m. either (is_word COMMA u.0)
     (passes (only_reads (more_params (xs ++ x ∷ [])) tt (λ p d. looser p 0 room (omega arith) d))) (ends tt)))))
 part_nests block room r = on_some_items (omega arith) (λ ss es line h k c. ends (block_nests room ss es k line c.0 c.1))
 part_nests (items ss height) room r =
-    picks (λ t l. either (is_word RETURN t.0) (passes (on_some_exps tt (λ es h k c. ends (r, c)))) (either (ends_block t.0) (ends (r, tt))
-    (on_a_stat tt (λ s h k c. only_reads (items (ss ++ s ∷ []) (max height h)) (more_stats_nest room ss s r c) (λ p d. d)))))
+    picks (λ t l. either (is_word RETURN t.0) (passes (on_piece by_exps tt (λ es h k c. ends (r, c)))) (either (ends_block t.0) (ends (r, tt))
+    (on_piece by_stat tt (λ s h k c. only_reads (items (ss ++ s ∷ []) (max height h)) (more_stats_nest room ss s r c) (λ p d. d)))))
 part_nests returned room r =
     picks (λ t l. either (ends_block t.0) (ends (omega arith)) (either (is_word SEMICOLON t.0) (passes (ends (omega arith)))
-    (on_some_exps tt (λ es h k c. picks (λ u m. either (is_word SEMICOLON u.0) (passes (ends c)) (ends c))))))
+    (on_piece by_exps tt (λ es h k c. picks (λ u m. either (is_word SEMICOLON u.0) (passes (ends c)) (ends c))))))
 part_nests stat room r = picks (λ t l. start_kept room t.1 (start_of t.0))
-part_nests label_stat room r = on_a_line tt (λ line h k _. on_a_name tt (λ x h1 k1 c. on_a_line tt (λ _ h2 k2 _. ends (omega arith))))
-part_nests goto_stat room r = on_a_line tt (λ line h k _. on_a_name tt (λ x h1 k1 c. ends (omega arith)))
-part_nests do_stat room r = picks (λ t l. on_a_block tt (λ b h k c. ends c))
-part_nests do_block room r = on_a_line tt (λ _ h k _. on_a_block tt (λ b h1 k1 c. on_a_line tt (λ _ h2 k2 _. ends (omega (arith, c)))))
-part_nests while_stat room r = on_a_line tt (λ line h k _. on_an_exp tt (λ e h1 k1 c. on_a_block tt (λ b h2 k2 d. ends (omega (arith, c, d)))))
+part_nests label_stat room r = on_piece by_line tt (λ line h k _. on_piece by_name tt (λ x h1 k1 c. on_piece by_line tt (λ _ h2 k2 _. ends (omega arith))))
+part_nests goto_stat room r = on_piece by_line tt (λ line h k _. on_piece by_name tt (λ x h1 k1 c. ends (omega arith)))
+part_nests do_stat room r = picks (λ t l. on_piece by_block tt (λ b h k c. ends c))
+part_nests do_block room r = on_piece by_line tt (λ _ h k _. on_piece by_block tt (λ b h1 k1 c. on_piece by_line tt (λ _ h2 k2 _. ends (omega (arith, c)))))
+part_nests while_stat room r = on_piece by_line tt (λ line h k _. on_piece by_exp tt (λ e h1 k1 c. on_piece by_block tt (λ b h2 k2 d. ends (omega (arith, c, d)))))
 part_nests repeat_stat room r =
-    on_a_line tt (λ line h k _. on_a_block tt (λ b h1 k1 c. on_a_line tt (λ _ h2 k2 _. on_an_exp tt (λ e h3 k3 d. ends (omega (arith, c, d))))))
+    on_piece by_line tt (λ line h k _. on_piece by_block tt (λ b h1 k1 c. on_piece by_line tt (λ _ h2 k2 _. on_piece by_exp tt (λ e h3 k3 d. ends (omega (arith, c, d))))))
 part_nests if_stat room r =
-    on_a_line tt (λ line h k _. on_some_arms tt (λ as' h1 k1 c. on_maybe_block tt (λ b h2 k2 d. on_a_line tt (λ _ h3 k3 _. ends (if_nests room line as' b c d)))))
-part_nests arms room r = on_an_arm tt (λ e b h k c. only_reads (more_arms ((e, b) ∷ []) h) (omega (arith, c.0, c.1)) (λ p d. d))
+    on_piece by_line tt (λ line h k _. on_piece by_arms tt (λ as' h1 k1 c. on_piece by_else tt (λ b h2 k2 d. on_piece by_line tt (λ _ h3 k3 _. ends (if_nests room line as' b c d)))))
+part_nests arms room r = on_pair by_arm tt (λ e b h k c. only_reads (more_arms ((e, b) ∷ []) h) (omega (arith, c.0, c.1)) (λ p d. d))
 part_nests (more_arms as' height) room r =
     picks (λ t l. either (is_word ELSEIF t.0)
-    (passes (on_an_arm tt (λ e b h k c. only_reads (more_arms (as' ++ (e, b) ∷ []) (max height h)) (more_arms_nest room as' e b r c.0 c.1) (λ p d. d)))) (ends r))
-part_nests arm room r = on_an_exp tt (λ e h k c. on_a_line tt (λ _ h1 k1 _. on_a_block tt (λ b h2 k2 d. ends (c, omega (arith, d)))))
-part_nests else_part room r = picks (λ t l. either (is_word ELSE t.0) (on_a_line tt (λ _ h k _. on_a_block tt (λ b h1 k1 c. ends (omega (arith, c))))) (ends tt))
+    (passes (on_pair by_arm tt (λ e b h k c. only_reads (more_arms (as' ++ (e, b) ∷ []) (max height h)) (more_arms_nest room as' e b r c.0 c.1) (λ p d. d)))) (ends r))
+part_nests arm room r = on_piece by_exp tt (λ e h k c. on_piece by_line tt (λ _ h1 k1 _. on_piece by_block tt (λ b h2 k2 d. ends (c, omega (arith, d)))))
+part_nests else_part room r = picks (λ t l. either (is_word ELSE t.0) (on_piece by_line tt (λ _ h k _. on_piece by_block tt (λ b h1 k1 c. ends (omega (arith, c))))) (ends tt))
 part_nests for_stat room r =
-    on_a_line tt (λ line h k _. on_a_name tt (λ x h1 k1 c. picks (λ t m. either (is_word ASSIGN t.0) (only_reads (numeric line x) tt (λ p d. d)) (only_reads (generic line x) tt (λ p d. d)))))
+    on_piece by_line tt (λ line h k _. on_piece by_name tt (λ x h1 k1 c. picks (λ t m. either (is_word ASSIGN t.0) (only_reads (numeric line x) tt (λ p d. d)) (only_reads (generic line x) tt (λ p d. d)))))
 part_nests (numeric line x) room r =
-    on_a_line tt (λ _ h k _. on_an_exp tt (λ a h1 k1 c. on_a_line tt (λ _ h2 k2 _. on_an_exp tt (λ b h3 k3 d. on_maybe_exp tt (λ e h4 k4 f. on_a_block tt (λ inner h5 k5 g.
+    on_piece by_line tt (λ _ h k _. on_piece by_exp tt (λ a h1 k1 c. on_piece by_line tt (λ _ h2 k2 _. on_piece by_exp tt (λ b h3 k3 d. on_piece by_step tt (λ e h4 k4 f. on_piece by_block tt (λ inner h5 k5 g.
     ends (for_nests room line x a b e inner c d f g)))))))
-part_nests step room r = picks (λ t l. either (is_word COMMA t.0) (passes (on_an_exp tt (λ e h k c. ends c))) (ends tt))
+part_nests step room r = picks (λ t l. either (is_word COMMA t.0) (passes (on_piece by_exp tt (λ e h k c. ends c))) (ends tt))
 part_nests (generic line x) room r =
-    on_some_names tt (λ xs h k c. on_a_line tt (λ _ h1 k1 _. on_some_exps tt (λ es h2 k2 d. on_a_block tt (λ b h3 k3 e. ends (omega (arith, d, e))))))
+    on_piece by_names tt (λ xs h k c. on_piece by_line tt (λ _ h1 k1 _. on_piece by_exps tt (λ es h2 k2 d. on_piece by_block tt (λ b h3 k3 e. ends (omega (arith, d, e))))))
 part_nests (more_names xs) room r =
-    picks (λ t l. either (is_word COMMA t.0) (passes (on_a_name tt (λ x h k c. only_reads (more_names (xs ++ x ∷ [])) tt (λ p d. looser p 0 room (omega arith) d)))) (ends tt))
+    picks (λ t l. either (is_word COMMA t.0) (passes (on_piece by_name tt (λ x h k c. only_reads (more_names (xs ++ x ∷ [])) tt (λ p d. looser p 0 room (omega arith) d)))) (ends tt))
 part_nests function_stat room r =
-    on_a_line tt (λ line h k _. on_a_target tt (λ target own h1 k1 c. on_a_body tt (λ b h2 k2 d. ends (omega (arith, c, d)))))
+    on_piece by_line tt (λ line h k _. on_pair by_target tt (λ target own h1 k1 c. on_piece by_body tt (λ b h2 k2 d. ends (omega (arith, c, d)))))
 part_nests function_name room r =
-    on_a_name tt (λ x h k c. on_an_exp (omega arith) (λ e h1 k1 d. picks (λ t l. either (is_word COLON t.0) (on_an_exp d (λ target h2 k2 f. ends f)) (ends d))))
-part_nests (path left height) room r = picks (λ t l. either (is_word DOT t.0) (on_an_exp r (λ e h k c. only_reads (path e h) c (λ p d. d))) (ends r))
+    on_piece by_name tt (λ x h k c. on_piece by_exp (omega arith) (λ e h1 k1 d. picks (λ t l. either (is_word COLON t.0) (on_piece by_exp d (λ target h2 k2 f. ends f)) (ends d))))
+part_nests (path left height) room r = picks (λ t l. either (is_word DOT t.0) (on_piece by_exp r (λ e h k c. only_reads (path e h) c (λ p d. d))) (ends r))
 part_nests local_stat room r =
-    on_a_line tt (λ line h k _. picks (λ t m. either (is_word FUNCTION t.0) (only_reads (local_function line) tt (λ p d. d)) (only_reads (local_names line) tt (λ p d. d))))
-part_nests (local_function line) room r = on_a_line tt (λ own h k _. on_a_name tt (λ x h1 k1 c. on_a_body tt (λ b h2 k2 d. ends d)))
-part_nests (local_names line) room r = on_a_declared tt (λ d h k c. on_some_declared tt (λ ds h1 k1 e. on_some_exps tt (λ es h2 k2 f. ends f)))
+    on_piece by_line tt (λ line h k _. picks (λ t m. either (is_word FUNCTION t.0) (only_reads (local_function line) tt (λ p d. d)) (only_reads (local_names line) tt (λ p d. d))))
+part_nests (local_function line) room r = on_piece by_line tt (λ own h k _. on_piece by_name tt (λ x h1 k1 c. on_piece by_body tt (λ b h2 k2 d. ends d)))
+part_nests (local_names line) room r = on_piece by_declared tt (λ d h k c. on_piece by_all_declared tt (λ ds h1 k1 e. on_piece by_exps tt (λ es h2 k2 f. ends f)))
 part_nests (more_declared ds) room r =
-    picks (λ t l. either (is_word COMMA t.0) (passes (on_a_declared tt (λ d h k c. only_reads (more_declared (ds ++ d ∷ [])) tt (λ p e. looser p 0 room (omega arith) e)))) (ends tt))
+    picks (λ t l. either (is_word COMMA t.0) (passes (on_piece by_declared tt (λ d h k c. only_reads (more_declared (ds ++ d ∷ [])) tt (λ p e. looser p 0 room (omega arith) e)))) (ends tt))
 part_nests declared room r =
-    on_a_name tt (λ x h k c. picks (λ t l. either (is_word LESS t.0) (passes (on_a_name tt (λ a h1 k1 d. on_a_line tt (λ _ h2 k2 _. ends tt)))) (ends tt)))
+    on_piece by_name tt (λ x h k c. picks (λ t l. either (is_word LESS t.0) (passes (on_piece by_name tt (λ a h1 k1 d. on_piece by_line tt (λ _ h2 k2 _. ends tt)))) (ends tt)))
 part_nests values room r = picks (λ t l. either (is_word ASSIGN t.0) (passes (only_reads explist tt (λ p c. c))) (ends (omega arith)))
 part_nests prefix_stat room r =
-    picks (λ t l. on_an_exp tt (λ e h k c. either (is_call e) (ends c) (either (is_target e) (only_reads (assignment t.1 e h) c (λ p d. d)) refuses)))
+    picks (λ t l. on_piece by_exp tt (λ e h k c. either (is_call e) (ends c) (either (is_target e) (only_reads (assignment t.1 e h) c (λ p d. d)) refuses)))
 part_nests (assignment line first height) room r =
-    on_some_exps (omega (arith, r)) (λ ts h k c. on_a_line tt (λ _ h1 k1 _. on_some_exps tt (λ es h2 k2 d. ends (omega (arith, c, d)))))
+    on_piece by_exps (omega (arith, r)) (λ ts h k c. on_piece by_line tt (λ _ h1 k1 _. on_piece by_exps tt (λ es h2 k2 d. ends (omega (arith, c, d)))))
 part_nests (more_targets ts height) room r =
     picks (λ t l. either (is_word COMMA t.0)
-    (passes (on_an_exp tt (λ e h k c. either (is_target e) (only_reads (more_targets (ts ++ e ∷ []) (max height h)) (more_exps_nest room ts e r c) (λ p d. d)) refuses))) (ends r))
+    (passes (on_piece by_exp tt (λ e h k c. either (is_target e) (only_reads (more_targets (ts ++ e ∷ []) (max height h)) (more_exps_nest room ts e r c) (λ p d. d)) refuses))) (ends r))

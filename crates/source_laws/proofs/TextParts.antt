@@ -27,7 +27,8 @@ use Rattle.grammar_laws.proofs.Operands.{operand_has, right_has}
 use Rattle.code_core.specs.Writable.{signed_fits}
 use Rattle.code_checked.specs.Written.{TextFits, NamesFit}
 use Rattle.source_laws.proofs.Texts.{DeclaredTextsFit, BlockTextsFit, all_texts}
-use Rattle.grammar_laws.proofs.Walk.{Keeps, picks, passes, refuses, reads, ends, either, passes_if, only_reads, on_a_line, on_a_name, on_some_names, on_some_params, on_a_declared, on_some_declared, on_an_exp, on_maybe_exp, on_some_exps, on_a_field, on_some_fields, on_a_target, on_an_arm, on_some_arms, on_some_items, on_a_stat, on_a_block, on_maybe_block, on_a_body}
+use Rattle.grammar_laws.proofs.Pieces.{by_line, by_name, by_names, by_declared, by_all_declared, by_exp, by_step, by_exps, by_field, by_fields, by_arms, by_stat, by_block, by_else, by_body, by_params, by_target, by_arm}
+use Rattle.grammar_laws.proofs.Walk.{Keeps, picks, passes, refuses, reads, ends, either, passes_if, only_reads, on_piece, on_pair, on_some_items}
 use Rattle.grammar_laws.proofs.Asking.{MaybeMeets, ElseMeets, ValuesMeet, PieceMeets, FrontMeets, exps_more, fields_more, stats_more, arms_more}
 
 abbrev pub TokenFits : Token → Type 0
@@ -135,14 +136,14 @@ right_stands level = right_has FrontFits (λ level. tt) tt level
 operator_kept : (room : ℕ) (level : Level) (left : tree.Exp) (height line : ℕ) (o : Option Infix) → ExpMeets all_texts left → KeepsTexts (behind level left height) room (operator_move room level left height line o)
 operator_kept room level left height line None h = ends h
 operator_kept room level left height line (Some op) h =
-    passes_if (nat_lt height room) (on_an_exp (right_stands level) (λ e h' k c. only_part (behind level (joined op line left e) (above height h')) (joined_fits op line left e h c)))
+    passes_if (nat_lt height room) (on_piece by_exp (right_stands level) (λ e h' k c. only_part (behind level (joined op line left e) (above height h')) (joined_fits op line left e h c)))
 
 unary_kept : (room line : ℕ) (o : Option UnOp) → KeepsTexts unary room (unary_move room line o)
 unary_kept room line None = only_part simple tt
-unary_kept room line (Some op) = passes_if (nat_lt 0 room) (on_an_exp tt (λ e h k c. ends c))
+unary_kept room line (Some op) = passes_if (nat_lt 0 room) (on_piece by_exp tt (λ e h k c. ends c))
 
 item_kept : (room : ℕ) (e : tree.Exp) → ExpMeets all_texts e → KeepsTexts item room (item_move room (variable_of e))
-item_kept room (tree.Var line x) h = passes (on_an_exp tt (λ value h' k c. ends (h, c)))
+item_kept room (tree.Var line x) h = passes (on_piece by_exp tt (λ value h' k c. ends (h, c)))
 item_kept room _ h = refuses
 
 start_kept : (room line : ℕ) (s : Start) → KeepsTexts stat room (stat_move room line s)
@@ -174,99 +175,99 @@ for_fits line x a b None inner m h k i j = (m, (h, (k, j)))
 for_fits line x a b (Some c) inner m h k i j = (m, (h, (k, (i, j))))
 
 pub part_fits : (part : Part) (room : ℕ) → StandsFit part room → KeepsTexts part room (expects room part)
-part_fits chunk room r = on_a_block tt (λ b h k c. picks (λ t l. passes_if (is_end t.0) (ends c)))
+part_fits chunk room r = on_piece by_block tt (λ b h k c. picks (λ t l. passes_if (is_end t.0) (ends c)))
 part_fits (word w) room r = picks (λ t l. passes_if (is_word w t.0) (ends tt))
 part_fits (opener w height) room r = picks (λ t l. passes_if (is_word w t.0 && nat_lt height room) (ends tt))
 part_fits name room r = picks (λ t l. name_kept room t.1 (name_of t.0) (name_fits t.0 l))
-part_fits (chain level) room r = on_an_exp (operand_stands level) (λ e h k c. only_part (behind level e h) c)
+part_fits (chain level) room r = on_piece by_exp (operand_stands level) (λ e h k c. only_part (behind level e h) c)
 part_fits (behind level left height) room r = picks (λ t l. operator_kept room level left height t.1 (operator_of level t.0) r)
 part_fits unary room r = picks (λ t l. unary_kept room t.1 (unary_of t.0))
 part_fits simple room r =
-    picks (λ t l. constant_kept (constant_of t) (constant_fits t l) (either (is_word FUNCTION t.0) (passes (on_a_body tt (λ b h k c. ends c)))
+    picks (λ t l. constant_kept (constant_of t) (constant_fits t l) (either (is_word FUNCTION t.0) (passes (on_piece by_body tt (λ b h k c. ends c)))
     (either (is_word OPEN_CURLY t.0) (only_part table tt) (only_part prefix tt))))
-part_fits table room r = on_a_line tt (λ line h k _. on_some_fields tt (λ fs h' k' c. ends c))
+part_fits table room r = on_piece by_line tt (λ line h k _. on_piece by_fields tt (λ fs h' k' c. ends c))
 part_fits (more_fields fs height) room r =
-    picks (λ t l. either (is_word CLOSE_CURLY t.0) (passes (ends r)) (on_a_field tt (λ f h k c. only_part (more_fields (fs ++ f ∷ []) (max height h)) (fields_more all_texts fs f r c))))
-part_fits separated_field room r = on_a_field tt (λ f h k c. picks (λ t l. either (is_separator t.0) (passes (ends c)) (either (is_word CLOSE_CURLY t.0) (ends c) refuses)))
+    picks (λ t l. either (is_word CLOSE_CURLY t.0) (passes (ends r)) (on_piece by_field tt (λ f h k c. only_part (more_fields (fs ++ f ∷ []) (max height h)) (fields_more all_texts fs f r c))))
+part_fits separated_field room r = on_piece by_field tt (λ f h k c. picks (λ t l. either (is_separator t.0) (passes (ends c)) (either (is_word CLOSE_CURLY t.0) (ends c) refuses)))
 part_fits field room r = picks (λ t l. either (is_word OPEN_SQUARE t.0) (only_part keyed tt) (only_part item tt))
 part_fits keyed room r =
-    on_a_line tt (λ line h k _. on_an_exp tt (λ key h1 k1 c. on_a_line tt (λ _ h2 k2 _. on_a_line tt (λ _ h3 k3 _. on_an_exp tt (λ value h4 k4 d. ends (c, d))))))
-part_fits item room r = on_an_exp tt (λ e h k c. picks (λ t l. either (is_word ASSIGN t.0) (item_kept room e c) (ends c)))
-part_fits prefix room r = on_an_exp tt (λ e h k c. only_part (suffixes e h) c)
-part_fits primary room r = picks (λ t l. either (is_word OPEN_ROUND t.0) (only_part paren tt) (on_a_name tt (λ x h k c. ends c)))
-part_fits paren room r = on_a_line tt (λ line h k _. on_an_exp tt (λ e h1 k1 c. on_a_line tt (λ _ h2 k2 _. ends c)))
-part_fits (suffixes left height) room r = picks (λ t l. either (begins_suffix t.0) (on_an_exp r (λ e h k c. only_part (suffixes e h) c)) (ends r))
+    on_piece by_line tt (λ line h k _. on_piece by_exp tt (λ key h1 k1 c. on_piece by_line tt (λ _ h2 k2 _. on_piece by_line tt (λ _ h3 k3 _. on_piece by_exp tt (λ value h4 k4 d. ends (c, d))))))
+part_fits item room r = on_piece by_exp tt (λ e h k c. picks (λ t l. either (is_word ASSIGN t.0) (item_kept room e c) (ends c)))
+part_fits prefix room r = on_piece by_exp tt (λ e h k c. only_part (suffixes e h) c)
+part_fits primary room r = picks (λ t l. either (is_word OPEN_ROUND t.0) (only_part paren tt) (on_piece by_name tt (λ x h k c. ends c)))
+part_fits paren room r = on_piece by_line tt (λ line h k _. on_piece by_exp tt (λ e h1 k1 c. on_piece by_line tt (λ _ h2 k2 _. ends c)))
+part_fits (suffixes left height) room r = picks (λ t l. either (begins_suffix t.0) (on_piece by_exp r (λ e h k c. only_part (suffixes e h) c)) (ends r))
 part_fits (suffix left height) room r =
     picks (λ t l. either (is_word DOT t.0) (only_part (dotted DOT left height) r) (either (is_word OPEN_SQUARE t.0) (only_part (indexed left height) r)
     (either (is_word COLON t.0) (only_part (method left height) r) (only_part (call left height) r))))
-part_fits (dotted w left height) room r = on_a_line tt (λ line h k _. on_a_name tt (λ x h1 k1 c. ends (r, c)))
-part_fits (indexed left height) room r = on_a_line tt (λ line h k _. on_an_exp tt (λ e h1 k1 c. on_a_line tt (λ _ h2 k2 _. ends (r, c))))
-part_fits (method left height) room r = on_a_line tt (λ _ h k _. on_a_name tt (λ x h1 k1 c. picks (λ t l. on_some_exps tt (λ es h2 k2 d. ends (r, (c, d))))))
-part_fits (call left height) room r = picks (λ t l. either (nat_lt height room) (on_some_exps tt (λ es h k c. ends (r, c))) refuses)
+part_fits (dotted w left height) room r = on_piece by_line tt (λ line h k _. on_piece by_name tt (λ x h1 k1 c. ends (r, c)))
+part_fits (indexed left height) room r = on_piece by_line tt (λ line h k _. on_piece by_exp tt (λ e h1 k1 c. on_piece by_line tt (λ _ h2 k2 _. ends (r, c))))
+part_fits (method left height) room r = on_piece by_line tt (λ _ h k _. on_piece by_name tt (λ x h1 k1 c. picks (λ t l. on_piece by_exps tt (λ es h2 k2 d. ends (r, (c, d))))))
+part_fits (call left height) room r = picks (λ t l. either (nat_lt height room) (on_piece by_exps tt (λ es h k c. ends (r, c))) refuses)
 part_fits method_arguments room r = picks (λ t l. either (is_string t.0) (only_part arguments tt) (either (nat_lt 0 room) (reads tt (λ p h k c. ends c)) refuses))
 part_fits arguments room r =
     picks (λ t l. either (is_word OPEN_ROUND t.0) (passes (only_part listed tt))
-    (either (is_word OPEN_CURLY t.0) (passes (on_some_fields tt (λ fs h k c. ends (c, tt)))) (only_part string_argument tt)))
+    (either (is_word OPEN_CURLY t.0) (passes (on_piece by_fields tt (λ fs h k c. ends (c, tt)))) (only_part string_argument tt)))
 part_fits string_argument room r = picks (λ t l. string_kept room t.1 (string_of t.0) (string_fits t.0 l))
-part_fits listed room r = picks (λ t l. either (is_word CLOSE_ROUND t.0) (passes (ends tt)) (on_some_exps tt (λ es h k c. on_a_line tt (λ _ h1 k1 _. ends c))))
-part_fits explist room r = on_an_exp tt (λ e h k c. only_part (more_exps (e ∷ []) h) (c, tt))
+part_fits listed room r = picks (λ t l. either (is_word CLOSE_ROUND t.0) (passes (ends tt)) (on_piece by_exps tt (λ es h k c. on_piece by_line tt (λ _ h1 k1 _. ends c))))
+part_fits explist room r = on_piece by_exp tt (λ e h k c. only_part (more_exps (e ∷ []) h) (c, tt))
 part_fits (more_exps es height) room r =
-    picks (λ t l. either (is_word COMMA t.0) (passes (on_an_exp tt (λ e h k c. only_part (more_exps (es ++ e ∷ []) (max height h)) (exps_more all_texts es e r c)))) (ends r))
+    picks (λ t l. either (is_word COMMA t.0) (passes (on_piece by_exp tt (λ e h k c. only_part (more_exps (es ++ e ∷ []) (max height h)) (exps_more all_texts es e r c)))) (ends r))
 part_fits (body line own) room r =
-    on_a_line tt (λ _ h k _. on_some_params r (λ xs vararg h1 k1 c. on_a_line tt (λ _ h2 k2 _. on_a_block tt (λ b h3 k3 d. on_a_line tt (λ _ h4 k4 _. ends (c, (tt, d)))))))
+    on_piece by_line tt (λ _ h k _. on_pair by_params r (λ xs vararg h1 k1 c. on_piece by_line tt (λ _ h2 k2 _. on_piece by_block tt (λ b h3 k3 d. on_piece by_line tt (λ _ h4 k4 _. ends (c, (tt, d)))))))
 part_fits (params own) room r = picks (λ t l. either (is_word CLOSE_ROUND t.0) (ends r) (only_part (more_params own) r))
 part_fits (more_params xs) room r =
-    picks (λ t l. either (is_word DOTS t.0) (passes (ends r)) (on_a_name tt (λ x h k c. picks (λ u m. either (is_word COMMA u.0)
+    picks (λ t l. either (is_word DOTS t.0) (passes (ends r)) (on_piece by_name tt (λ x h k c. picks (λ u m. either (is_word COMMA u.0)
     (passes (only_part (more_params (xs ++ x ∷ [])) (more_names_fit xs x r c))) (ends (more_names_fit xs x r c))))))
 part_fits block room r = on_some_items tt (λ ss es line h k c. ends (block_fits ss es k line c.0 c.1))
 part_fits (items ss height) room r =
-    picks (λ t l. either (is_word RETURN t.0) (passes (on_some_exps tt (λ es h k c. ends (r, c)))) (either (ends_block t.0) (ends (r, tt))
-    (on_a_stat tt (λ s h k c. only_part (items (ss ++ s ∷ []) (max height h)) (stats_more all_texts ss s r c)))))
+    picks (λ t l. either (is_word RETURN t.0) (passes (on_piece by_exps tt (λ es h k c. ends (r, c)))) (either (ends_block t.0) (ends (r, tt))
+    (on_piece by_stat tt (λ s h k c. only_part (items (ss ++ s ∷ []) (max height h)) (stats_more all_texts ss s r c)))))
 part_fits returned room r =
     picks (λ t l. either (ends_block t.0) (ends tt) (either (is_word SEMICOLON t.0) (passes (ends tt))
-    (on_some_exps tt (λ es h k c. picks (λ u m. either (is_word SEMICOLON u.0) (passes (ends c)) (ends c))))))
+    (on_piece by_exps tt (λ es h k c. picks (λ u m. either (is_word SEMICOLON u.0) (passes (ends c)) (ends c))))))
 part_fits stat room r = picks (λ t l. start_kept room t.1 (start_of t.0))
-part_fits label_stat room r = on_a_line tt (λ line h k _. on_a_name tt (λ x h1 k1 c. on_a_line tt (λ _ h2 k2 _. ends tt)))
-part_fits goto_stat room r = on_a_line tt (λ line h k _. on_a_name tt (λ x h1 k1 c. ends tt))
-part_fits do_stat room r = picks (λ t l. on_a_block tt (λ b h k c. ends c))
-part_fits do_block room r = on_a_line tt (λ _ h k _. on_a_block tt (λ b h1 k1 c. on_a_line tt (λ _ h2 k2 _. ends c)))
-part_fits while_stat room r = on_a_line tt (λ line h k _. on_an_exp tt (λ e h1 k1 c. on_a_block tt (λ b h2 k2 d. ends (c, d))))
+part_fits label_stat room r = on_piece by_line tt (λ line h k _. on_piece by_name tt (λ x h1 k1 c. on_piece by_line tt (λ _ h2 k2 _. ends tt)))
+part_fits goto_stat room r = on_piece by_line tt (λ line h k _. on_piece by_name tt (λ x h1 k1 c. ends tt))
+part_fits do_stat room r = picks (λ t l. on_piece by_block tt (λ b h k c. ends c))
+part_fits do_block room r = on_piece by_line tt (λ _ h k _. on_piece by_block tt (λ b h1 k1 c. on_piece by_line tt (λ _ h2 k2 _. ends c)))
+part_fits while_stat room r = on_piece by_line tt (λ line h k _. on_piece by_exp tt (λ e h1 k1 c. on_piece by_block tt (λ b h2 k2 d. ends (c, d))))
 part_fits repeat_stat room r =
-    on_a_line tt (λ line h k _. on_a_block tt (λ b h1 k1 c. on_a_line tt (λ _ h2 k2 _. on_an_exp tt (λ e h3 k3 d. ends (c, d)))))
+    on_piece by_line tt (λ line h k _. on_piece by_block tt (λ b h1 k1 c. on_piece by_line tt (λ _ h2 k2 _. on_piece by_exp tt (λ e h3 k3 d. ends (c, d)))))
 part_fits if_stat room r =
-    on_a_line tt (λ line h k _. on_some_arms tt (λ as' h1 k1 c. on_maybe_block tt (λ b h2 k2 d. on_a_line tt (λ _ h3 k3 _. ends (if_fits line as' b c d)))))
-part_fits arms room r = on_an_arm tt (λ e b h k c. only_part (more_arms ((e, b) ∷ []) h) (c.0, (c.1, tt)))
+    on_piece by_line tt (λ line h k _. on_piece by_arms tt (λ as' h1 k1 c. on_piece by_else tt (λ b h2 k2 d. on_piece by_line tt (λ _ h3 k3 _. ends (if_fits line as' b c d)))))
+part_fits arms room r = on_pair by_arm tt (λ e b h k c. only_part (more_arms ((e, b) ∷ []) h) (c.0, (c.1, tt)))
 part_fits (more_arms as' height) room r =
-    picks (λ t l. either (is_word ELSEIF t.0) (passes (on_an_arm tt (λ e b h k c. only_part (more_arms (as' ++ (e, b) ∷ []) (max height h)) (arms_more all_texts as' e b r c.0 c.1)))) (ends r))
-part_fits arm room r = on_an_exp tt (λ e h k c. on_a_line tt (λ _ h1 k1 _. on_a_block tt (λ b h2 k2 d. ends (c, d))))
-part_fits else_part room r = picks (λ t l. either (is_word ELSE t.0) (on_a_line tt (λ _ h k _. on_a_block tt (λ b h1 k1 c. ends c))) (ends tt))
+    picks (λ t l. either (is_word ELSEIF t.0) (passes (on_pair by_arm tt (λ e b h k c. only_part (more_arms (as' ++ (e, b) ∷ []) (max height h)) (arms_more all_texts as' e b r c.0 c.1)))) (ends r))
+part_fits arm room r = on_piece by_exp tt (λ e h k c. on_piece by_line tt (λ _ h1 k1 _. on_piece by_block tt (λ b h2 k2 d. ends (c, d))))
+part_fits else_part room r = picks (λ t l. either (is_word ELSE t.0) (on_piece by_line tt (λ _ h k _. on_piece by_block tt (λ b h1 k1 c. ends c))) (ends tt))
 part_fits for_stat room r =
-    on_a_line tt (λ line h k _. on_a_name tt (λ x h1 k1 c. picks (λ t m. either (is_word ASSIGN t.0) (only_part (numeric line x) c) (only_part (generic line x) c))))
+    on_piece by_line tt (λ line h k _. on_piece by_name tt (λ x h1 k1 c. picks (λ t m. either (is_word ASSIGN t.0) (only_part (numeric line x) c) (only_part (generic line x) c))))
 part_fits (numeric line x) room r =
-    on_a_line tt (λ _ h k _. on_an_exp tt (λ a h1 k1 c. on_a_line tt (λ _ h2 k2 _. on_an_exp tt (λ b h3 k3 d. on_maybe_exp tt (λ e h4 k4 f. on_a_block tt (λ inner h5 k5 g.
+    on_piece by_line tt (λ _ h k _. on_piece by_exp tt (λ a h1 k1 c. on_piece by_line tt (λ _ h2 k2 _. on_piece by_exp tt (λ b h3 k3 d. on_piece by_step tt (λ e h4 k4 f. on_piece by_block tt (λ inner h5 k5 g.
     ends (for_fits line x a b e inner r c d f g)))))))
-part_fits step room r = picks (λ t l. either (is_word COMMA t.0) (passes (on_an_exp tt (λ e h k c. ends c))) (ends tt))
+part_fits step room r = picks (λ t l. either (is_word COMMA t.0) (passes (on_piece by_exp tt (λ e h k c. ends c))) (ends tt))
 part_fits (generic line x) room r =
-    on_some_names (r, tt) (λ xs h k c. on_a_line tt (λ _ h1 k1 _. on_some_exps tt (λ es h2 k2 d. on_a_block tt (λ b h3 k3 e. ends (c, (d, e))))))
+    on_piece by_names (r, tt) (λ xs h k c. on_piece by_line tt (λ _ h1 k1 _. on_piece by_exps tt (λ es h2 k2 d. on_piece by_block tt (λ b h3 k3 e. ends (c, (d, e))))))
 part_fits (more_names xs) room r =
-    picks (λ t l. either (is_word COMMA t.0) (passes (on_a_name tt (λ x h k c. only_part (more_names (xs ++ x ∷ [])) (more_names_fit xs x r c)))) (ends r))
+    picks (λ t l. either (is_word COMMA t.0) (passes (on_piece by_name tt (λ x h k c. only_part (more_names (xs ++ x ∷ [])) (more_names_fit xs x r c)))) (ends r))
 part_fits function_stat room r =
-    on_a_line tt (λ line h k _. on_a_target tt (λ target own h1 k1 c. on_a_body c.1 (λ b h2 k2 d. ends ((c.0, tt), (d, tt)))))
+    on_piece by_line tt (λ line h k _. on_pair by_target tt (λ target own h1 k1 c. on_piece by_body c.1 (λ b h2 k2 d. ends ((c.0, tt), (d, tt)))))
 part_fits function_name room r =
-    on_a_name tt (λ x h k c. on_an_exp c (λ e h1 k1 d. picks (λ t l. either (is_word COLON t.0) (on_an_exp d (λ target h2 k2 f. ends (f, (refl, tt)))) (ends (d, tt)))))
-part_fits (path left height) room r = picks (λ t l. either (is_word DOT t.0) (on_an_exp r (λ e h k c. only_part (path e h) c)) (ends r))
-part_fits local_stat room r = on_a_line tt (λ line h k _. picks (λ t m. either (is_word FUNCTION t.0) (only_part (local_function line) tt) (only_part (local_names line) tt)))
-part_fits (local_function line) room r = on_a_line tt (λ own h k _. on_a_name tt (λ x h1 k1 c. on_a_body tt (λ b h2 k2 d. ends (c, d))))
-part_fits (local_names line) room r = on_a_declared tt (λ d h k c. on_some_declared (c, tt) (λ ds h1 k1 e. on_some_exps tt (λ es h2 k2 f. ends (e, f))))
+    on_piece by_name tt (λ x h k c. on_piece by_exp c (λ e h1 k1 d. picks (λ t l. either (is_word COLON t.0) (on_piece by_exp d (λ target h2 k2 f. ends (f, (refl, tt)))) (ends (d, tt)))))
+part_fits (path left height) room r = picks (λ t l. either (is_word DOT t.0) (on_piece by_exp r (λ e h k c. only_part (path e h) c)) (ends r))
+part_fits local_stat room r = on_piece by_line tt (λ line h k _. picks (λ t m. either (is_word FUNCTION t.0) (only_part (local_function line) tt) (only_part (local_names line) tt)))
+part_fits (local_function line) room r = on_piece by_line tt (λ own h k _. on_piece by_name tt (λ x h1 k1 c. on_piece by_body tt (λ b h2 k2 d. ends (c, d))))
+part_fits (local_names line) room r = on_piece by_declared tt (λ d h k c. on_piece by_all_declared (c, tt) (λ ds h1 k1 e. on_piece by_exps tt (λ es h2 k2 f. ends (e, f))))
 part_fits (more_declared ds) room r =
-    picks (λ t l. either (is_word COMMA t.0) (passes (on_a_declared tt (λ d h k c. only_part (more_declared (ds ++ d ∷ [])) (more_declared_fit ds d r c)))) (ends r))
+    picks (λ t l. either (is_word COMMA t.0) (passes (on_piece by_declared tt (λ d h k c. only_part (more_declared (ds ++ d ∷ [])) (more_declared_fit ds d r c)))) (ends r))
 part_fits declared room r =
-    on_a_name tt (λ x h k c. picks (λ t l. either (is_word LESS t.0) (passes (on_a_name tt (λ a h1 k1 d. on_a_line tt (λ _ h2 k2 _. ends c)))) (ends c)))
+    on_piece by_name tt (λ x h k c. picks (λ t l. either (is_word LESS t.0) (passes (on_piece by_name tt (λ a h1 k1 d. on_piece by_line tt (λ _ h2 k2 _. ends c)))) (ends c)))
 part_fits values room r = picks (λ t l. either (is_word ASSIGN t.0) (passes (only_part explist tt)) (ends tt))
 part_fits prefix_stat room r =
-    picks (λ t l. on_an_exp tt (λ e h k c. either (is_call e) (ends c) (either (is_target e) (only_part (assignment t.1 e h) c) refuses)))
+    picks (λ t l. on_piece by_exp tt (λ e h k c. either (is_call e) (ends c) (either (is_target e) (only_part (assignment t.1 e h) c) refuses)))
 part_fits (assignment line first height) room r =
-    on_some_exps (r, tt) (λ ts h k c. on_a_line tt (λ _ h1 k1 _. on_some_exps tt (λ es h2 k2 d. ends (c, d))))
+    on_piece by_exps (r, tt) (λ ts h k c. on_piece by_line tt (λ _ h1 k1 _. on_piece by_exps tt (λ es h2 k2 d. ends (c, d))))
 part_fits (more_targets ts height) room r =
     picks (λ t l. either (is_word COMMA t.0)
-    (passes (on_an_exp tt (λ e h k c. either (is_target e) (only_part (more_targets (ts ++ e ∷ []) (max height h)) (exps_more all_texts ts e r c)) refuses))) (ends r))
+    (passes (on_piece by_exp tt (λ e h k c. either (is_target e) (only_part (more_targets (ts ++ e ∷ []) (max height h)) (exps_more all_texts ts e r c)) refuses))) (ends r))
