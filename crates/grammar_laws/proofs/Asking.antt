@@ -1,21 +1,20 @@
 -- What is asked of every part of a tree: what it says of a piece that is read and of what stands before a part, and that lists keep it that grow.
-use Rattle.std.proofs.Common.{List, [], ◌∷◌, ◌++◌, Option, Some, None}
+use Rattle.std.proofs.Common.{List, [], ◌∷◌, ◌++◌, Option}
+use Rattle.std.specs.Prelude.{IfSome}
 use Rattle.tree_core.specs.Tree as tree
 use Rattle.tree_terms.specs.Asked.{Asked, ExpMeets, ExpsMeet, FieldsMeet, FieldMeets, StatMeets, ArmsMeet, StatsMeet, BlockMeets, BodyMeets}
-use Rattle.lua_parse.specs.Moves.{Piece, an_exp, maybe_exp, some_exps, a_field, some_fields, a_target, an_arm, some_arms, some_items, a_stat, a_block, maybe_block, a_body, Part, behind, more_fields, suffixes, suffix, dotted, indexed, method, call, more_exps, items, more_arms, path, assignment, more_targets}
+use Rattle.lua_parse.specs.Moves.{Piece, an_exp, maybe_exp, some_exps, a_field, some_fields, a_target, an_arm, some_arms, some_items, a_stat, a_block, maybe_block, a_body, Part, items}
+use Rattle.grammar_laws.proofs.Fronts.{front}
 
 module _ (asked : Asked) where
   abbrev pub MaybeMeets : Option tree.Exp → Type 0
-  MaybeMeets None = Unit {0}
-  MaybeMeets (Some e) = ExpMeets asked e
+  MaybeMeets e = IfSome e (ExpMeets asked)
 
   abbrev pub ElseMeets : Option tree.Block → Type 0
-  ElseMeets None = Unit {0}
-  ElseMeets (Some b) = BlockMeets asked b
+  ElseMeets b = IfSome b (BlockMeets asked)
 
   abbrev pub ValuesMeet : Option (List tree.Exp) → Type 0
-  ValuesMeet None = Unit {0}
-  ValuesMeet (Some es) = ExpsMeet asked (tree.exps es)
+  ValuesMeet es = IfSome es (λ xs. ExpsMeet asked (tree.exps xs))
 
   abbrev pub PieceMeets : Piece → Type 0
   PieceMeets (an_exp e) = ExpMeets asked e
@@ -35,21 +34,8 @@ module _ (asked : Asked) where
 
   -- what stands before a part
   abbrev pub FrontMeets : Part → Type 0
-  FrontMeets (behind level left height) = ExpMeets asked left
-  FrontMeets (more_fields fs height) = FieldsMeet asked (tree.fields fs)
-  FrontMeets (suffixes left height) = ExpMeets asked left
-  FrontMeets (suffix left height) = ExpMeets asked left
-  FrontMeets (dotted w left height) = ExpMeets asked left
-  FrontMeets (indexed left height) = ExpMeets asked left
-  FrontMeets (method left height) = ExpMeets asked left
-  FrontMeets (call left height) = ExpMeets asked left
-  FrontMeets (more_exps es height) = ExpsMeet asked (tree.exps es)
   FrontMeets (items ss height) = StatsMeet asked (tree.stats ss)
-  FrontMeets (more_arms as' height) = ArmsMeet asked (tree.arms as')
-  FrontMeets (path left height) = ExpMeets asked left
-  FrontMeets (assignment line first height) = ExpMeets asked first
-  FrontMeets (more_targets ts height) = ExpsMeet asked (tree.exps ts)
-  FrontMeets _ = Unit {0}
+  FrontMeets part = IfSome (front part) PieceMeets
 
   pub exps_more : (es : List tree.Exp) (e : tree.Exp) → ExpsMeet asked (tree.exps es) → ExpMeets asked e → ExpsMeet asked (tree.exps (es ++ e ∷ []))
   exps_more [] e h k = (k, tt)

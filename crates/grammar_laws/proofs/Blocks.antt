@@ -13,7 +13,7 @@ use Rattle.lua_parse.specs.Grammar.{stat_move}
 use Rattle.grammar_laws.proofs.Claims.{ItemsHold, BlockHolds}
 use Rattle.grammar_laws.proofs.Pieces.{by_line, by_name, by_exp, by_exps, by_stat, by_block, by_params, by_arm}
 use Rattle.grammar_laws.proofs.SizeKeeping.{Keeps, picks, passes, ends, either, passes_if, on_piece, on_pair, on_some_items, only_reads, more}
-use Rattle.grammar_laws.proofs.Lists.{stats_weigh, stats_have, arms_weigh, arms_have}
+use Rattle.grammar_laws.proofs.Lists.{stats_grow, arms_grow}
 use Rattle.grammar_laws.proofs.Words.{Kept}
 use Rattle.grammar_laws.proofs.Asking.{arms_more, stats_more}
 use Rattle.grammar_laws.specs.Counted.{all_counted}
@@ -54,7 +54,7 @@ items_kept ss height room ready =
     (either (ends_block t.0) (ends (omega arith, omega arith, ready))
     (on_piece by_stat tt (λ s h k j c.
     only_reads (items (ss ++ s ∷ []) (max height h)) (stats_more all_counted ss s ready c.2) (λ p k' j' d.
-    more p (omega (arith, c.0, stats_weigh ss s)) (omega (arith, c.1, stats_have ss s)) d)))))
+    more p (omega (arith, c.0, (stats_grow ss s).0)) (omega (arith, c.1, (stats_grow ss s).1)) d)))))
 
 pub returned_kept : Kept returned
 returned_kept room ready =
@@ -77,7 +77,7 @@ more_arms_kept as' height room ready =
     picks (λ t. either (is_word ELSEIF t.0)
     (passes (on_pair by_arm tt (λ e b h k j c.
     only_reads (more_arms (as' ++ (e, b) ∷ []) (max height h)) (arms_more all_counted as' e b ready c.2.0 c.2.1) (λ p k' j' d.
-    more p (omega (arith, c.0, arms_weigh as' e b)) (omega (arith, c.1, arms_have as' e b)) d))))
+    more p (omega (arith, c.0, (arms_grow as' e b).0)) (omega (arith, c.1, (arms_grow as' e b).1)) d))))
     (ends (omega arith, omega arith, ready)))
 
 pub arm_kept : Kept arm

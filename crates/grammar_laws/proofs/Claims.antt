@@ -8,11 +8,12 @@ use Rattle.token_cursor.specs.declared.word.Word.{Word}
 use Rattle.token_cursor.specs.declared.word.Word.TheVariants.{Keyword, Mark}
 use Rattle.token_cursor.specs.declared.word.TheConstants.{FUNCTION}
 use Rattle.token_cursor.specs.Words.{Lexeme, is_word}
-use Rattle.lua_parse.specs.Moves.{Piece, a_line, a_name, some_names, some_params, a_declared, some_declared, an_exp, maybe_exp, some_exps, a_field, some_fields, a_target, an_arm, some_arms, some_items, a_stat, a_block, maybe_block, a_body, Part, chunk, word, behind, more_fields, suffixes, suffix, dotted, indexed, method, call, method_arguments, arguments, listed, string_argument, more_exps, items, do_block, more_arms, numeric, generic, more_names, path, local_function, local_names, more_declared, assignment, more_targets}
+use Rattle.lua_parse.specs.Moves.{Piece, a_line, a_name, some_names, some_params, a_declared, some_declared, an_exp, maybe_exp, some_exps, a_field, some_fields, a_target, an_arm, some_arms, some_items, a_stat, a_block, maybe_block, a_body, Part, chunk, word, more_fields, method_arguments, arguments, listed, string_argument, items, do_block, numeric, generic, more_names, local_function, local_names, more_declared}
 use Rattle.tree_terms.specs.Weight.{weight, weight_of_arguments, weight_of_exps, weight_of_fields, weight_of_field, weight_of_stat, weight_of_arms, weight_of_stats, weight_of_block, weight_of_body}
 use Rattle.tree_terms.specs.FunctionCount.{functions, functions_in_exps, functions_in_fields, functions_in_field, functions_in_stat, functions_in_arms, functions_in_stats, functions_in_block, functions_in_body}
 use Rattle.tree_terms.specs.Asked.{ExpMeets, ExpsMeet, FieldsMeet, FieldMeets, StatMeets, ArmsMeet, StatsMeet}
 use Rattle.grammar_laws.specs.Counted.{BlockIsCounted, BodyIsCounted, all_counted}
+use Rattle.grammar_laws.proofs.Fronts.{front}
 use Rattle.grammar_laws.proofs.Asking.{FrontMeets}
 
 -- tokens `function`
@@ -38,26 +39,11 @@ opens_function_as w = opens_function (spelling w)
 abbrev pub ExpHolds : tree.Exp → (n m : ℕ) → Type 0
 ExpHolds e n m = (weight e ≤ n) × (functions e ≤ m) × ExpMeets all_counted e
 
-abbrev pub ExpsHold : tree.Exps → (n m : ℕ) → Type 0
-ExpsHold es n m = (weight_of_exps es ≤ n) × (functions_in_exps es ≤ m) × ExpsMeet all_counted es
-
-abbrev pub ArgumentsHold : tree.Exps → (n m : ℕ) → Type 0
-ArgumentsHold es n m = (weight_of_arguments es ≤ n) × (functions_in_exps es ≤ m) × ExpsMeet all_counted es
-
-abbrev pub FieldHolds : tree.Field → (n m : ℕ) → Type 0
-FieldHolds f n m = (weight_of_field f ≤ n) × (functions_in_field f ≤ m) × FieldMeets all_counted f
-
-abbrev pub FieldsHold : tree.Fields → (n m : ℕ) → Type 0
-FieldsHold fs n m = (weight_of_fields fs ≤ n) × (functions_in_fields fs ≤ m) × FieldsMeet all_counted fs
-
 abbrev pub StatHolds : tree.Stat → (n m : ℕ) → Type 0
 StatHolds s n m = (weight_of_stat s ≤ n) × (functions_in_stat s ≤ m) × StatMeets all_counted s
 
 abbrev pub BlockHolds : tree.Block → (n m : ℕ) → Type 0
 BlockHolds b n m = (weight_of_block b ≤ n) × (functions_in_block b ≤ m) × BlockIsCounted b
-
-abbrev pub BodyHolds : tree.Body → (n m : ℕ) → Type 0
-BodyHolds b n m = (weight_of_body b ≤ n) × (functions_in_body b ≤ m) × BodyIsCounted b
 
 abbrev pub ArmsHold : tree.Arms → (n m : ℕ) → Type 0
 ArmsHold as' n m = (weight_of_arms as' ≤ n) × (functions_in_arms as' ≤ m) × ArmsMeet all_counted as'
@@ -85,9 +71,9 @@ Holds (a_declared d) n m = 1 ≤ n
 Holds (some_declared ds) n m = length ds ≤ n
 Holds (an_exp e) n m = ExpHolds e n m
 Holds (maybe_exp e) n m = StepHolds e n m
-Holds (some_exps es) n m = ExpsHold (tree.exps es) n m
-Holds (a_field f) n m = FieldHolds f n m
-Holds (some_fields fs) n m = FieldsHold (tree.fields fs) n m
+Holds (some_exps es) n m = (weight_of_exps (tree.exps es) ≤ n) × (functions_in_exps (tree.exps es) ≤ m) × ExpsMeet all_counted (tree.exps es)
+Holds (a_field f) n m = (weight_of_field f ≤ n) × (functions_in_field f ≤ m) × FieldMeets all_counted f
+Holds (some_fields fs) n m = (weight_of_fields (tree.fields fs) ≤ n) × (functions_in_fields (tree.fields fs) ≤ m) × FieldsMeet all_counted (tree.fields fs)
 Holds (a_target e own) n m = ExpHolds e n m
 Holds (an_arm e b) n m = (weight e + weight_of_block b + 1 ≤ n) × (functions e + functions_in_block b ≤ m) × (ExpMeets all_counted e × BlockIsCounted b)
 Holds (some_arms as') n m = ArmsHold (tree.arms as') n m
@@ -95,10 +81,10 @@ Holds (some_items ss es line) n m = ItemsHold ss es n m
 Holds (a_stat s) n m = StatHolds s n m
 Holds (a_block b) n m = BlockHolds b n m
 Holds (maybe_block b) n m = ElseHolds b n m
-Holds (a_body b) n m = BodyHolds b n m
+Holds (a_body b) n m = (weight_of_body b ≤ n) × (functions_in_body b ≤ m) × BodyIsCounted b
 
 abbrev pub HoldsAsArguments : Piece → (n m : ℕ) → Type 0
-HoldsAsArguments (some_exps es) n m = ArgumentsHold (tree.exps es) n m
+HoldsAsArguments (some_exps es) n m = (weight_of_arguments (tree.exps es) ≤ n) × (functions_in_exps (tree.exps es) ≤ m) × ExpsMeet all_counted (tree.exps es)
 HoldsAsArguments _ n m = ⊥
 
 -- with the bracket behind them
@@ -133,45 +119,33 @@ Claim _ p n m = Holds p n m
 
 -- what stands before a part: its weight, its functions, and that it is counted
 
+abbrev weight_before : Option Piece → ℕ
+weight_before (Some (an_exp e)) = weight e
+weight_before (Some (some_exps es)) = weight_of_exps (tree.exps es)
+weight_before (Some (some_fields fs)) = weight_of_fields (tree.fields fs)
+weight_before (Some (some_arms as')) = weight_of_arms (tree.arms as')
+weight_before _ = 0
+
+abbrev functions_before : Option Piece → ℕ
+functions_before (Some (an_exp e)) = functions e
+functions_before (Some (some_exps es)) = functions_in_exps (tree.exps es)
+functions_before (Some (some_fields fs)) = functions_in_fields (tree.fields fs)
+functions_before (Some (some_arms as')) = functions_in_arms (tree.arms as')
+functions_before _ = 0
+
 abbrev pub carried : Part → ℕ
-carried (behind level left height) = weight left
-carried (more_fields fs height) = weight_of_fields (tree.fields fs)
-carried (suffixes left height) = weight left
-carried (suffix left height) = weight left
-carried (dotted w left height) = weight left
-carried (indexed left height) = weight left
-carried (method left height) = weight left
-carried (call left height) = weight left
-carried (more_exps es height) = weight_of_exps (tree.exps es)
 carried (items ss height) = weight_of_stats (tree.stats ss)
-carried (more_arms as' height) = weight_of_arms (tree.arms as')
 carried (numeric line x) = 2
 carried (generic line x) = 2
 carried (more_names xs) = length xs
-carried (path left height) = weight left
 carried (local_function line) = 1
 carried (local_names line) = 1
 carried (more_declared ds) = length ds
-carried (assignment line first height) = weight first
-carried (more_targets ts height) = weight_of_exps (tree.exps ts)
-carried _ = 0
+carried part = weight_before (front part)
 
 abbrev pub written : Part → ℕ
-written (behind level left height) = functions left
-written (more_fields fs height) = functions_in_fields (tree.fields fs)
-written (suffixes left height) = functions left
-written (suffix left height) = functions left
-written (dotted w left height) = functions left
-written (indexed left height) = functions left
-written (method left height) = functions left
-written (call left height) = functions left
-written (more_exps es height) = functions_in_exps (tree.exps es)
 written (items ss height) = functions_in_stats (tree.stats ss)
-written (more_arms as' height) = functions_in_arms (tree.arms as')
-written (path left height) = functions left
-written (assignment line first height) = functions first
-written (more_targets ts height) = functions_in_exps (tree.exps ts)
-written _ = 0
+written part = functions_before (front part)
 
 abbrev pub IsReady : Part → Type 0
 IsReady part = FrontMeets all_counted part

@@ -21,7 +21,7 @@ use Rattle.grammar_laws.specs.Counted.{all_counted}
 use Rattle.grammar_laws.proofs.Claims.{ExpHolds, Claim, carried, written, IsReady}
 use Rattle.grammar_laws.proofs.Pieces.{by_line, by_name, by_exp, by_exps, by_field, by_fields, by_body}
 use Rattle.grammar_laws.proofs.SizeKeeping.{opened, Keeps, picks, passes, refuses, reads, ends, either, either_by, passes_if, on_piece, only_reads, more, more_arguments, more_fields_hold}
-use Rattle.grammar_laws.proofs.Lists.{exps_weigh, exps_have, fields_weigh, fields_have, arguments_weigh}
+use Rattle.grammar_laws.proofs.Lists.{exps_grow, fields_grow, arguments_weigh}
 use Rattle.grammar_laws.proofs.Operands.{operand_has, right_has}
 use Rattle.grammar_laws.proofs.Words.{Kept, light_constant, constant_keeps}
 use Rattle.grammar_laws.proofs.Asking.{exps_more, fields_more}
@@ -101,7 +101,7 @@ more_fields_kept fs height room ready =
     picks (λ t. either (is_word CLOSE_CURLY t.0) (passes (ends (omega arith, omega arith, ready)))
     (on_piece by_field tt (λ f h k j c.
     only_reads (more_fields (fs ++ f ∷ []) (max height h)) (fields_more all_counted fs f ready c.2) (λ p k' j' d.
-    more_fields_hold p (omega (arith, c.0, fields_weigh fs f)) (omega (arith, c.1, fields_have fs f)) d))))
+    more_fields_hold p (omega (arith, c.0, (fields_grow fs f).0)) (omega (arith, c.1, (fields_grow fs f).1)) d))))
 
 pub separated_field_kept : Kept separated_field
 separated_field_kept room ready =
@@ -202,5 +202,5 @@ more_exps_kept es height room ready =
     picks (λ t. either (is_word COMMA t.0)
     (passes (on_piece by_exp tt (λ e h k j c.
     only_reads (more_exps (es ++ e ∷ []) (max height h)) (exps_more all_counted es e ready c.2) (λ p k' j' d.
-    more p (omega (arith, c.0, exps_weigh es e)) (omega (arith, c.1, exps_have es e)) d))))
+    more p (omega (arith, c.0, (exps_grow es e).0)) (omega (arith, c.1, (exps_grow es e).1)) d))))
     (ends (omega arith, omega arith, ready)))

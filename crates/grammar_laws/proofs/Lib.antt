@@ -1,3 +1,4 @@
+pub mod Fronts
 pub mod Asking
 mod FormKeeping
 pub mod Operands

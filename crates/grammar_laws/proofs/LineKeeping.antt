@@ -1,24 +1,14 @@
 -- What is read has only lines of tokens: what is claimed of each token, of each piece, and of what stands before a part.
-use Rattle.std.proofs.Common.{ℕ, ◌≤◌, List, Option, Some, None}
+use Rattle.std.proofs.Common.{ℕ, ◌≤◌}
+use Rattle.std.specs.Prelude.{IfSome}
 use Rattle.tree_core.specs.Tree as tree
 use Rattle.token_cursor.specs.Words.{Lexeme}
-use Rattle.lua_parse.specs.Moves.{Piece, a_line, a_name, some_names, some_params, a_declared, some_declared, an_exp, maybe_exp, some_exps, a_field, some_fields, a_target, an_arm, some_arms, some_items, a_stat, a_block, maybe_block, a_body, Part, behind, more_fields, suffixes, suffix, dotted, indexed, method, call, more_exps, body, params, more_params, items, more_arms, numeric, generic, more_names, path, local_function, local_names, more_declared, assignment, more_targets, Move}
+use Rattle.lua_parse.specs.Moves.{Piece, a_line, a_name, some_names, some_params, a_declared, some_declared, an_exp, maybe_exp, some_exps, a_field, some_fields, a_target, an_arm, some_arms, some_items, a_stat, a_block, maybe_block, a_body, Part, body, params, more_params, items, numeric, generic, more_names, local_function, local_names, more_declared, assignment, Move}
 use Rattle.grammar_laws.specs.Lines.{NamesAreWithin, DeclaredIsWithin, DeclaredAreWithin, ExpIsWithin, ExpsAreWithin, FieldsAreWithin, FieldIsWithin, StatIsWithin, ArmsAreWithin, StatsAreWithin, BlockIsWithin, BodyIsWithin}
+use Rattle.grammar_laws.proofs.Fronts.{front}
 use Rattle.grammar_laws.proofs.Walk.{Keeps}
 
 module _ (most : ℕ) where
-  abbrev pub MaybeIsWithin : Option tree.Exp → Type 0
-  MaybeIsWithin None = Unit {0}
-  MaybeIsWithin (Some e) = ExpIsWithin most e
-
-  abbrev pub ElseIsWithin : Option tree.Block → Type 0
-  ElseIsWithin None = Unit {0}
-  ElseIsWithin (Some b) = BlockIsWithin most b
-
-  abbrev pub ValuesAreWithin : Option (List tree.Exp) → Type 0
-  ValuesAreWithin None = Unit {0}
-  ValuesAreWithin (Some es) = ExpsAreWithin most (tree.exps es)
-
   abbrev pub IsWithin : Piece → Type 0
   IsWithin (a_line line) = line ≤ most
   IsWithin (a_name x) = x.line ≤ most
@@ -27,45 +17,33 @@ module _ (most : ℕ) where
   IsWithin (a_declared d) = DeclaredIsWithin most d
   IsWithin (some_declared ds) = DeclaredAreWithin most ds
   IsWithin (an_exp e) = ExpIsWithin most e
-  IsWithin (maybe_exp e) = MaybeIsWithin e
+  IsWithin (maybe_exp e) = IfSome e (ExpIsWithin most)
   IsWithin (some_exps es) = ExpsAreWithin most (tree.exps es)
   IsWithin (a_field f) = FieldIsWithin most f
   IsWithin (some_fields fs) = FieldsAreWithin most (tree.fields fs)
   IsWithin (a_target e own) = ExpIsWithin most e × NamesAreWithin most own
   IsWithin (an_arm e b) = ExpIsWithin most e × BlockIsWithin most b
   IsWithin (some_arms as') = ArmsAreWithin most (tree.arms as')
-  IsWithin (some_items ss es line) = (line ≤ most) × StatsAreWithin most (tree.stats ss) × ValuesAreWithin es
+  IsWithin (some_items ss es line) = (line ≤ most) × StatsAreWithin most (tree.stats ss) × IfSome es (λ xs. ExpsAreWithin most (tree.exps xs))
   IsWithin (a_stat s) = StatIsWithin most s
   IsWithin (a_block b) = BlockIsWithin most b
-  IsWithin (maybe_block b) = ElseIsWithin b
+  IsWithin (maybe_block b) = IfSome b (BlockIsWithin most)
   IsWithin (a_body b) = BodyIsWithin most b
 
   -- what stands before a part
   abbrev pub StandsWithin : Part → Type 0
-  StandsWithin (behind level left height) = ExpIsWithin most left
-  StandsWithin (more_fields fs height) = FieldsAreWithin most (tree.fields fs)
-  StandsWithin (suffixes left height) = ExpIsWithin most left
-  StandsWithin (suffix left height) = ExpIsWithin most left
-  StandsWithin (dotted w left height) = ExpIsWithin most left
-  StandsWithin (indexed left height) = ExpIsWithin most left
-  StandsWithin (method left height) = ExpIsWithin most left
-  StandsWithin (call left height) = ExpIsWithin most left
-  StandsWithin (more_exps es height) = ExpsAreWithin most (tree.exps es)
   StandsWithin (body line own) = (line ≤ most) × NamesAreWithin most own
   StandsWithin (params own) = NamesAreWithin most own
   StandsWithin (more_params xs) = NamesAreWithin most xs
   StandsWithin (items ss height) = StatsAreWithin most (tree.stats ss)
-  StandsWithin (more_arms as' height) = ArmsAreWithin most (tree.arms as')
   StandsWithin (numeric line x) = (line ≤ most) × (x.line ≤ most)
   StandsWithin (generic line x) = (line ≤ most) × (x.line ≤ most)
   StandsWithin (more_names xs) = NamesAreWithin most xs
-  StandsWithin (path left height) = ExpIsWithin most left
   StandsWithin (local_function line) = line ≤ most
   StandsWithin (local_names line) = line ≤ most
   StandsWithin (more_declared ds) = DeclaredAreWithin most ds
   StandsWithin (assignment line first height) = (line ≤ most) × ExpIsWithin most first
-  StandsWithin (more_targets ts height) = ExpsAreWithin most (tree.exps ts)
-  StandsWithin _ = Unit {0}
+  StandsWithin part = IfSome (front part) IsWithin
 
   abbrev pub TokenIsWithin : Lexeme → Type 0
   TokenIsWithin t = t.1 ≤ most

@@ -1,6 +1,6 @@
 -- The parts of a source have only lines of tokens.
 use Rattle.std.proofs.Common.{ℕ, ◌≤◌, max, Bool, true, false, List, [], ◌∷◌, ◌++◌, Option, Some, None}
-use Rattle.std.specs.Prelude.{nat_lt, ◌&&◌, if◌then◌else◌}
+use Rattle.std.specs.Prelude.{IfSome, nat_lt, ◌&&◌, if◌then◌else◌}
 use Rattle.tree_core.specs.declared.name.Name.{Name}
 use Rattle.tree_core.specs.declared.name.Declared.{Declared}
 use Rattle.tree_core.specs.declared.operator.UnOp.{UnOp}
@@ -24,7 +24,7 @@ use Rattle.lua_parse.specs.Moves.{Part, chunk, word, opener, name, chain, behind
 use Rattle.lua_parse.specs.Grammar.{expects, name_move, constant_move, operand, right_operand, operator_move, unary_move, string_move, item_move, stat_move, only}
 use Rattle.grammar_laws.proofs.Operands.{operand_has, right_has}
 use Rattle.grammar_laws.specs.Lines.{NamesAreWithin, DeclaredIsWithin, DeclaredAreWithin, ExpIsWithin, ExpsAreWithin, FieldsAreWithin, FieldIsWithin, StatIsWithin, ArmsAreWithin, StatsAreWithin, BlockIsWithin}
-use Rattle.grammar_laws.proofs.LineKeeping.{MaybeIsWithin, ElseIsWithin, ValuesAreWithin, StandsWithin, FrontIsWithin, Stays}
+use Rattle.grammar_laws.proofs.LineKeeping.{StandsWithin, FrontIsWithin, Stays}
 use Rattle.grammar_laws.proofs.Pieces.{by_line, by_name, by_names, by_declared, by_all_declared, by_exp, by_step, by_exps, by_field, by_fields, by_arms, by_stat, by_block, by_else, by_body, by_params, by_target, by_arm}
 use Rattle.grammar_laws.proofs.Walk.{picks, passes, refuses, reads, ends, either, passes_if, only_reads, on_piece, on_pair, on_some_items}
 
@@ -61,20 +61,20 @@ module _ (most : ℕ) where
 
   -- expressions of one token
 
-  constant_if : (b : Bool) (o p : Option tree.Exp) → MaybeIsWithin most o → MaybeIsWithin most p → MaybeIsWithin most (if b then o else p)
+  constant_if : (b : Bool) (o p : Option tree.Exp) → IfSome o (ExpIsWithin most) → IfSome p (ExpIsWithin most) → IfSome (if b then o else p) (ExpIsWithin most)
   constant_if true o p h k = h
   constant_if false o p h k = k
 
-  literal_within : (t : Token) (line : ℕ) → line ≤ most → MaybeIsWithin most (literal t line)
+  literal_within : (t : Token) (line : ℕ) → line ≤ most → IfSome (literal t line) (ExpIsWithin most)
   literal_within (token.Int n) line h = h
   literal_within (token.Str bytes) line h = h
   literal_within _ line h = tt
 
-  constant_within : (t : Lexeme) → t.1 ≤ most → MaybeIsWithin most (constant_of t)
+  constant_within : (t : Lexeme) → t.1 ≤ most → IfSome (constant_of t) (ExpIsWithin most)
   constant_within t h =
       constant_if (is_word NIL t.0) _ _ h (constant_if (is_word TRUE t.0) _ _ h (constant_if (is_word FALSE t.0) _ _ h (constant_if (is_word DOTS t.0) _ _ h (literal_within t.0 t.1 h))))
 
-  constant_stays : {room : ℕ} {other : Move} (o : Option tree.Exp) → MaybeIsWithin most o → Stays most simple room other → Stays most simple room (constant_move o other)
+  constant_stays : {room : ℕ} {other : Move} (o : Option tree.Exp) → IfSome o (ExpIsWithin most) → Stays most simple room other → Stays most simple room (constant_move o other)
   constant_stays None h k = k
   constant_stays (Some e) h k = passes (ends h)
 
@@ -128,15 +128,15 @@ module _ (most : ℕ) where
 
   -- statements of parts that may be missing
 
-  block_within : (ss : List tree.Stat) (es : Option (List tree.Exp)) (tokens line : ℕ) → line ≤ most → StatsAreWithin most (tree.stats ss) → ValuesAreWithin most es → BlockIsWithin most (block_of ss es tokens line)
+  block_within : (ss : List tree.Stat) (es : Option (List tree.Exp)) (tokens line : ℕ) → line ≤ most → StatsAreWithin most (tree.stats ss) → IfSome es (λ xs. ExpsAreWithin most (tree.exps xs)) → BlockIsWithin most (block_of ss es tokens line)
   block_within ss None tokens line l h k = (l, h)
   block_within ss (Some es) tokens line l h k = (l, h, k)
 
-  if_within : (line : ℕ) (as' : List (tree.Exp × tree.Block)) (b : Option tree.Block) → line ≤ most → ArmsAreWithin most (tree.arms as') → ElseIsWithin most b → StatIsWithin most (if_of line as' b)
+  if_within : (line : ℕ) (as' : List (tree.Exp × tree.Block)) (b : Option tree.Block) → line ≤ most → ArmsAreWithin most (tree.arms as') → IfSome b (BlockIsWithin most) → StatIsWithin most (if_of line as' b)
   if_within line as' None l h k = (l, h)
   if_within line as' (Some b) l h k = (l, h, k)
 
-  for_within : (line : ℕ) (x : Name) (a b : tree.Exp) (c : Option tree.Exp) (inner : tree.Block) → line ≤ most → x.line ≤ most → ExpIsWithin most a → ExpIsWithin most b → MaybeIsWithin most c → BlockIsWithin most inner
+  for_within : (line : ℕ) (x : Name) (a b : tree.Exp) (c : Option tree.Exp) (inner : tree.Block) → line ≤ most → x.line ≤ most → ExpIsWithin most a → ExpIsWithin most b → IfSome c (ExpIsWithin most) → BlockIsWithin most inner
       → StatIsWithin most (num_for_of line x a b c inner)
   for_within line x a b None inner l m h k i j = (l, m, h, k, j)
   for_within line x a b (Some c) inner l m h k i j = (l, m, h, k, i, j)

@@ -6,45 +6,32 @@ use Rattle.tree_terms.specs.FunctionCount.{functions, functions_in_exps, functio
 
 -- expressions
 
-pub exps_weigh : (es : List tree.Exp) (e : tree.Exp) → weight_of_exps (tree.exps (es ++ e ∷ [])) ≡ weight_of_exps (tree.exps es) + weight e
-exps_weigh [] e = omega arith
-exps_weigh (d ∷ es) e = omega (arith, exps_weigh es e)
-
-pub exps_have : (es : List tree.Exp) (e : tree.Exp) → functions_in_exps (tree.exps (es ++ e ∷ [])) ≡ functions_in_exps (tree.exps es) + functions e
-exps_have [] e = omega arith
-exps_have (d ∷ es) e = omega (arith, exps_have es e)
+pub exps_grow : (es : List tree.Exp) (e : tree.Exp)
+    → (weight_of_exps (tree.exps (es ++ e ∷ [])) ≡ weight_of_exps (tree.exps es) + weight e) × (functions_in_exps (tree.exps (es ++ e ∷ [])) ≡ functions_in_exps (tree.exps es) + functions e)
+exps_grow [] e = (omega arith, omega arith)
+exps_grow (d ∷ es) e = let rest = exps_grow es e in (omega (arith, rest.0), omega (arith, rest.1))
 
 -- fields
 
-pub fields_weigh : (fs : List tree.Field) (f : tree.Field) → weight_of_fields (tree.fields (fs ++ f ∷ [])) ≡ weight_of_fields (tree.fields fs) + weight_of_field f
-fields_weigh [] f = omega arith
-fields_weigh (g ∷ fs) f = omega (arith, fields_weigh fs f)
-
-pub fields_have : (fs : List tree.Field) (f : tree.Field) → functions_in_fields (tree.fields (fs ++ f ∷ [])) ≡ functions_in_fields (tree.fields fs) + functions_in_field f
-fields_have [] f = omega arith
-fields_have (g ∷ fs) f = omega (arith, fields_have fs f)
+pub fields_grow : (fs : List tree.Field) (f : tree.Field)
+    → (weight_of_fields (tree.fields (fs ++ f ∷ [])) ≡ weight_of_fields (tree.fields fs) + weight_of_field f) × (functions_in_fields (tree.fields (fs ++ f ∷ [])) ≡ functions_in_fields (tree.fields fs) + functions_in_field f)
+fields_grow [] f = (omega arith, omega arith)
+fields_grow (g ∷ fs) f = let rest = fields_grow fs f in (omega (arith, rest.0), omega (arith, rest.1))
 
 -- statements
 
-pub stats_weigh : (ss : List tree.Stat) (s : tree.Stat) → weight_of_stats (tree.stats (ss ++ s ∷ [])) ≡ weight_of_stats (tree.stats ss) + weight_of_stat s
-stats_weigh [] s = omega arith
-stats_weigh (r ∷ ss) s = omega (arith, stats_weigh ss s)
-
-pub stats_have : (ss : List tree.Stat) (s : tree.Stat) → functions_in_stats (tree.stats (ss ++ s ∷ [])) ≡ functions_in_stats (tree.stats ss) + functions_in_stat s
-stats_have [] s = omega arith
-stats_have (r ∷ ss) s = omega (arith, stats_have ss s)
+pub stats_grow : (ss : List tree.Stat) (s : tree.Stat)
+    → (weight_of_stats (tree.stats (ss ++ s ∷ [])) ≡ weight_of_stats (tree.stats ss) + weight_of_stat s) × (functions_in_stats (tree.stats (ss ++ s ∷ [])) ≡ functions_in_stats (tree.stats ss) + functions_in_stat s)
+stats_grow [] s = (omega arith, omega arith)
+stats_grow (r ∷ ss) s = let rest = stats_grow ss s in (omega (arith, rest.0), omega (arith, rest.1))
 
 -- the arms of an `if`
 
-pub arms_weigh : (as' : List (tree.Exp × tree.Block)) (e : tree.Exp) (b : tree.Block)
-    → weight_of_arms (tree.arms (as' ++ (e, b) ∷ [])) ≡ weight_of_arms (tree.arms as') + weight e + weight_of_block b + 1
-arms_weigh [] e b = omega arith
-arms_weigh (a ∷ as') e b = omega (arith, arms_weigh as' e b)
-
-pub arms_have : (as' : List (tree.Exp × tree.Block)) (e : tree.Exp) (b : tree.Block)
-    → functions_in_arms (tree.arms (as' ++ (e, b) ∷ [])) ≡ functions_in_arms (tree.arms as') + functions e + functions_in_block b
-arms_have [] e b = omega arith
-arms_have (a ∷ as') e b = omega (arith, arms_have as' e b)
+pub arms_grow : (as' : List (tree.Exp × tree.Block)) (e : tree.Exp) (b : tree.Block)
+    → (weight_of_arms (tree.arms (as' ++ (e, b) ∷ [])) ≡ weight_of_arms (tree.arms as') + weight e + weight_of_block b + 1)
+    × (functions_in_arms (tree.arms (as' ++ (e, b) ∷ [])) ≡ functions_in_arms (tree.arms as') + functions e + functions_in_block b)
+arms_grow [] e b = (omega arith, omega arith)
+arms_grow (a ∷ as') e b = let rest = arms_grow as' e b in (omega (arith, rest.0), omega (arith, rest.1))
 
 -- names
 

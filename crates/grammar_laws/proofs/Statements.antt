@@ -14,7 +14,7 @@ use Rattle.grammar_laws.specs.Counted.{BlockIsCounted, all_counted}
 use Rattle.grammar_laws.proofs.Claims.{ArmsHold, ElseHolds, StepHolds, ExpHolds, StatHolds}
 use Rattle.grammar_laws.proofs.Pieces.{by_line, by_name, by_names, by_declared, by_all_declared, by_exp, by_step, by_exps, by_arms, by_block, by_else, by_body, by_target}
 use Rattle.grammar_laws.proofs.SizeKeeping.{picks, passes, refuses, ends, either, on_piece, on_pair, only_reads, more}
-use Rattle.grammar_laws.proofs.Lists.{exps_weigh, exps_have, names_count}
+use Rattle.grammar_laws.proofs.Lists.{exps_grow, names_count}
 use Rattle.grammar_laws.proofs.Words.{Kept}
 use Rattle.grammar_laws.proofs.Asking.{exps_more}
 
@@ -154,6 +154,6 @@ more_targets_kept ts height room ready =
     picks (λ t. either (is_word COMMA t.0)
     (passes (on_piece by_exp tt (λ e h k j c. either (is_target e)
     (only_reads (more_targets (ts ++ e ∷ []) (max height h)) (exps_more all_counted ts e ready c.2) (λ p k' j' d.
-    more p (omega (arith, c.0, exps_weigh ts e)) (omega (arith, c.1, exps_have ts e)) d))
+    more p (omega (arith, c.0, (exps_grow ts e).0)) (omega (arith, c.1, (exps_grow ts e).1)) d))
     refuses)))
     (ends (omega arith, omega arith, ready)))
