@@ -25,6 +25,23 @@ pub record Leads (move : Move) (tokens : List Lexeme) (place : Move) (rest : Lis
 pub starts : (part : Part) (room : ℕ) (tokens : List Lexeme) → Leads (expects room part) tokens (expects room part) tokens
 starts part room tokens = record { leads = λ outcome h. h }
 
+-- a loop has come to a place, and no token stands behind it again
+pub record Follows (move : Move) (tokens : List Lexeme) (place : Move) (rest : List Lexeme) : Type 0 where
+  pub leads : Leads move tokens place rest
+  pub kept : length rest ≤ length tokens
+
+-- the same of a loop with what it has read so far, which has this height
+pub record Grows (move : Move) (tokens : List Lexeme) (place : Move) (rest : List Lexeme) (height most : ℕ) : Type 0 where
+  pub leads : Leads move tokens place rest
+  pub low : height ≤ most
+  pub kept : length rest ≤ length tokens
+
+-- the same where the loop begins behind a token
+pub record GrowsOn (move : Move) (tokens : List Lexeme) (place : Move) (rest : List Lexeme) (height most : ℕ) : Type 0 where
+  pub leads : Leads move tokens place rest
+  pub low : height ≤ most
+  pub taken : length rest < length tokens
+
 -- the next token decides
 pub picked : {move : Move} {tokens rest : List Lexeme} {by : Lexeme → Move} → Leads move tokens (pick by) rest → Comes rest → Leads move tokens (by (first rest)) rest
 picked {rest = rest} {by = by} l comes = record { leads = λ outcome h. l.leads outcome (subst (λ ts. Reads (pick by) ts outcome) (sym comes) (picks (subst (λ ts. Reads (by (first rest)) ts outcome) comes h))) }

@@ -9,6 +9,7 @@ ghost use Rattle.lua_parse.specs.Answers.{Answers, given_stat, given_target, giv
 use crate::expression::explist;
 use crate::fault::{Fault, Parsed, Target};
 use crate::function::body;
+use crate::room::Room;
 use crate::suffix::{dotted, prefix};
 use crate::terminal::{expect, name};
 use int_core::Bytes;
@@ -20,10 +21,9 @@ use tree_making::{Found, is_call, is_target};
 
 /// `function` with a name that is assigned to.
 #[cycle(grammar)]
-pub fn function_stat(alloc: Global, cursor: &mut Cursor, room: u32) -> Parsed<Stat>
-    requires { room ≤ 400 }
-    ensures reads { Answers given_stat function_stat room cursor.old result cursor.new }
-    ensures bound { IfOk result (λ found. (found.height ≤ room) × (length cursor.new < length cursor.old)) }
+pub fn function_stat(alloc: Global, cursor: &mut Cursor, room: Room) -> Parsed<Stat>
+    ensures reads { Answers given_stat function_stat room.max cursor.old result cursor.new }
+    ensures bound { IfOk result (λ found. (found.height ≤ room.max) × (length cursor.new < length cursor.old)) }
 {
     let line = expect(cursor, FUNCTION)?;
     let target = function_name(alloc, cursor, room)?;
@@ -34,10 +34,9 @@ pub fn function_stat(alloc: Global, cursor: &mut Cursor, room: u32) -> Parsed<St
 }
 
 /// Name {`.` Name} [`:` Name].
-fn function_name(alloc: Global, cursor: &mut Cursor, room: u32) -> Parsed<Target>
-    requires { room ≤ 400 }
-    ensures reads { Answers given_target function_name room cursor.old result cursor.new }
-    ensures bound { IfOk result (λ found. (found.height ≤ room) × (length cursor.new < length cursor.old)) }
+fn function_name(alloc: Global, cursor: &mut Cursor, room: Room) -> Parsed<Target>
+    ensures reads { Answers given_target function_name room.max cursor.old result cursor.new }
+    ensures bound { IfOk result (λ found. (found.height ≤ room.max) × (length cursor.new < length cursor.old)) }
 {
     let first = name(cursor)?;
     let first = tree_making::variable(alloc, first)?;
@@ -74,11 +73,10 @@ fn this(alloc: Global, line: u32) -> Result<Vec<Name>, AllocError>
 }
 
 /// {`.` Name}.
-fn path(alloc: Global, cursor: &mut Cursor, first: Found<Box<Exp>>, room: u32) -> Parsed<Box<Exp>>
-    requires room { room ≤ 400 }
-    requires fits { first.height ≤ room }
-    ensures reads { Answers given_exp (path (plain_boxed first.node) first.height) room cursor.old result cursor.new }
-    ensures bound { IfOk result (λ found. (found.height ≤ room) × (length cursor.new ≤ length cursor.old)) }
+fn path(alloc: Global, cursor: &mut Cursor, first: Found<Box<Exp>>, room: Room) -> Parsed<Box<Exp>>
+    requires fits { first.height ≤ room.max }
+    ensures reads { Answers given_exp (path (plain_boxed first.node) first.height) room.max cursor.old result cursor.new }
+    ensures bound { IfOk result (λ found. (found.height ≤ room.max) × (length cursor.new ≤ length cursor.old)) }
 {
     let mut left = first;
     while cursor.is(DOT) {
@@ -89,10 +87,9 @@ fn path(alloc: Global, cursor: &mut Cursor, first: Found<Box<Exp>>, room: u32) -
 
 /// `local` and what is declared.
 #[cycle(grammar)]
-pub fn local_stat(alloc: Global, cursor: &mut Cursor, room: u32) -> Parsed<Stat>
-    requires { room ≤ 400 }
-    ensures reads { Answers given_stat local_stat room cursor.old result cursor.new }
-    ensures bound { IfOk result (λ found. (found.height ≤ room) × (length cursor.new < length cursor.old)) }
+pub fn local_stat(alloc: Global, cursor: &mut Cursor, room: Room) -> Parsed<Stat>
+    ensures reads { Answers given_stat local_stat room.max cursor.old result cursor.new }
+    ensures bound { IfOk result (λ found. (found.height ≤ room.max) × (length cursor.new < length cursor.old)) }
 {
     let line = expect(cursor, LOCAL)?;
     if cursor.is(FUNCTION) {
@@ -103,10 +100,9 @@ pub fn local_stat(alloc: Global, cursor: &mut Cursor, room: u32) -> Parsed<Stat>
 
 /// `function` Name body.
 #[cycle(grammar)]
-fn local_function(alloc: Global, cursor: &mut Cursor, line: u32, room: u32) -> Parsed<Stat>
-    requires { room ≤ 400 }
-    ensures reads { Answers given_stat (local_function line) room cursor.old result cursor.new }
-    ensures bound { IfOk result (λ found. (found.height ≤ room) × (length cursor.new < length cursor.old)) }
+fn local_function(alloc: Global, cursor: &mut Cursor, line: u32, room: Room) -> Parsed<Stat>
+    ensures reads { Answers given_stat (local_function line) room.max cursor.old result cursor.new }
+    ensures bound { IfOk result (λ found. (found.height ≤ room.max) × (length cursor.new < length cursor.old)) }
 {
     let own_line = expect(cursor, FUNCTION)?;
     let name = name(cursor)?;
@@ -116,10 +112,9 @@ fn local_function(alloc: Global, cursor: &mut Cursor, line: u32, room: u32) -> P
 
 /// Names with attributes, and their values.
 #[cycle(grammar)]
-fn local_names(alloc: Global, cursor: &mut Cursor, line: u32, room: u32) -> Parsed<Stat>
-    requires { room ≤ 400 }
-    ensures reads { Answers given_stat (local_names line) room cursor.old result cursor.new }
-    ensures bound { IfOk result (λ found. (found.height ≤ room) × (length cursor.new < length cursor.old)) }
+fn local_names(alloc: Global, cursor: &mut Cursor, line: u32, room: Room) -> Parsed<Stat>
+    ensures reads { Answers given_stat (local_names line) room.max cursor.old result cursor.new }
+    ensures bound { IfOk result (λ found. (found.height ≤ room.max) × (length cursor.new < length cursor.old)) }
 {
     let first = declared(cursor)?;
     let names = more_declared(alloc, cursor, first)?;
@@ -186,10 +181,9 @@ fn attrib(text: Bytes) -> Attrib
 
 /// `=` explist, or nothing.
 #[cycle(grammar)]
-fn values(alloc: Global, cursor: &mut Cursor, room: u32) -> Parsed<Vec<Exp>>
-    requires { room ≤ 400 }
-    ensures reads { Answers given_exps values room cursor.old result cursor.new }
-    ensures bound { IfOk result (λ found. (found.height ≤ room) × (length cursor.new ≤ length cursor.old)) }
+fn values(alloc: Global, cursor: &mut Cursor, room: Room) -> Parsed<Vec<Exp>>
+    ensures reads { Answers given_exps values room.max cursor.old result cursor.new }
+    ensures bound { IfOk result (λ found. (found.height ≤ room.max) × (length cursor.new ≤ length cursor.old)) }
 {
     if !cursor.is(ASSIGN) {
         return Ok(tree_making::no_exps(alloc));
@@ -200,10 +194,9 @@ fn values(alloc: Global, cursor: &mut Cursor, room: u32) -> Parsed<Vec<Exp>>
 
 /// A call, or targets and their values.
 #[cycle(grammar)]
-pub fn prefix_stat(alloc: Global, cursor: &mut Cursor, room: u32) -> Parsed<Stat>
-    requires { room ≤ 400 }
-    ensures reads { Answers given_stat prefix_stat room cursor.old result cursor.new }
-    ensures bound { IfOk result (λ found. (found.height ≤ room) × (length cursor.new < length cursor.old)) }
+pub fn prefix_stat(alloc: Global, cursor: &mut Cursor, room: Room) -> Parsed<Stat>
+    ensures reads { Answers given_stat prefix_stat room.max cursor.old result cursor.new }
+    ensures bound { IfOk result (λ found. (found.height ≤ room.max) × (length cursor.new < length cursor.old)) }
 {
     let line = cursor.line();
     let first = prefix(alloc, cursor, room)?;
@@ -223,12 +216,11 @@ fn assignment(
     cursor: &mut Cursor,
     line: u32,
     first: Found<Box<Exp>>,
-    room: u32,
+    room: Room,
 ) -> Parsed<Stat>
-    requires room { room ≤ 400 }
-    requires fits { first.height ≤ room }
-    ensures reads { Answers given_stat (assignment line (plain_boxed first.node) first.height) room cursor.old result cursor.new }
-    ensures bound { IfOk result (λ found. (found.height ≤ room) × (length cursor.new < length cursor.old)) }
+    requires fits { first.height ≤ room.max }
+    ensures reads { Answers given_stat (assignment line (plain_boxed first.node) first.height) room.max cursor.old result cursor.new }
+    ensures bound { IfOk result (λ found. (found.height ≤ room.max) × (length cursor.new < length cursor.old)) }
 {
     let targets = targets(alloc, cursor, first, room)?;
     expect(cursor, ASSIGN)?;
@@ -242,12 +234,11 @@ fn targets(
     alloc: Global,
     cursor: &mut Cursor,
     first: Found<Box<Exp>>,
-    room: u32,
+    room: Room,
 ) -> Parsed<Vec<Exp>>
-    requires room { room ≤ 400 }
-    requires fits { first.height ≤ room }
-    ensures reads { Answers given_exps (more_targets (plain_boxed first.node ∷ []) first.height) room cursor.old result cursor.new }
-    ensures bound { IfOk result (λ found. (found.height ≤ room) × (length cursor.new ≤ length cursor.old)) }
+    requires fits { first.height ≤ room.max }
+    ensures reads { Answers given_exps (more_targets (plain_boxed first.node ∷ []) first.height) room.max cursor.old result cursor.new }
+    ensures bound { IfOk result (λ found. (found.height ≤ room.max) × (length cursor.new ≤ length cursor.old)) }
 {
     let mut items = tree_making::one_exp(alloc, first)?;
     while cursor.is(COMMA) {

@@ -5,6 +5,7 @@ ghost use Rattle.lua_parse.specs.Answers.{Answers, given_block, given_items, giv
 
 use crate::expression::explist;
 use crate::fault::Parsed;
+use crate::room::Room;
 use crate::statement::statement;
 use crate::terminal::{expect, open};
 use std::alloc::Global;
@@ -16,10 +17,9 @@ use tree_making::Items;
 
 /// A block, up to a token that ends it.
 #[cycle(grammar)]
-pub fn block(alloc: Global, cursor: &mut Cursor, room: u32) -> Parsed<Block>
-    requires { room ≤ 400 }
-    ensures reads { Answers given_block block room cursor.old result cursor.new }
-    ensures bound { IfOk result (λ found. (found.height ≤ room) × (length cursor.new ≤ length cursor.old)) }
+pub fn block(alloc: Global, cursor: &mut Cursor, room: Room) -> Parsed<Block>
+    ensures reads { Answers given_block block room.max cursor.old result cursor.new }
+    ensures bound { IfOk result (λ found. (found.height ≤ room.max) × (length cursor.new ≤ length cursor.old)) }
 {
     let before = cursor.left();
     let items = items(alloc, cursor, room)?;
@@ -28,10 +28,9 @@ pub fn block(alloc: Global, cursor: &mut Cursor, room: u32) -> Parsed<Block>
 
 /// The statements of a block, and what it returns.
 #[cycle(grammar)]
-fn items(alloc: Global, cursor: &mut Cursor, room: u32) -> Parsed<Items>
-    requires { room ≤ 400 }
-    ensures reads { Answers given_items (items [] 0) room cursor.old result cursor.new }
-    ensures bound { IfOk result (λ found. (found.height ≤ room) × (length cursor.new ≤ length cursor.old)) }
+fn items(alloc: Global, cursor: &mut Cursor, room: Room) -> Parsed<Items>
+    ensures reads { Answers given_items (items [] 0) room.max cursor.old result cursor.new }
+    ensures bound { IfOk result (λ found. (found.height ≤ room.max) × (length cursor.new ≤ length cursor.old)) }
 {
     let mut stats = tree_making::no_stats(alloc);
     while !ends_stats(cursor.peek()) {
@@ -49,10 +48,9 @@ fn items(alloc: Global, cursor: &mut Cursor, room: u32) -> Parsed<Items>
 
 /// What stands behind `return`.
 #[cycle(grammar)]
-fn returned(alloc: Global, cursor: &mut Cursor, room: u32) -> Parsed<Vec<Exp>>
-    requires { room ≤ 400 }
-    ensures reads { Answers given_exps returned room cursor.old result cursor.new }
-    ensures bound { IfOk result (λ found. (found.height ≤ room) × (length cursor.new ≤ length cursor.old)) }
+fn returned(alloc: Global, cursor: &mut Cursor, room: Room) -> Parsed<Vec<Exp>>
+    ensures reads { Answers given_exps returned room.max cursor.old result cursor.new }
+    ensures bound { IfOk result (λ found. (found.height ≤ room.max) × (length cursor.new ≤ length cursor.old)) }
 {
     if ends_block(cursor.peek()) {
         return Ok(tree_making::no_exps(alloc));
@@ -71,13 +69,12 @@ fn returned(alloc: Global, cursor: &mut Cursor, room: u32) -> Parsed<Vec<Exp>>
 
 /// `do` block `end`.
 #[cycle(grammar)]
-pub fn do_block(alloc: Global, cursor: &mut Cursor, room: u32) -> Parsed<Block>
-    requires { room ≤ 400 }
-    ensures reads { Answers given_block do_block room cursor.old result cursor.new }
-    ensures bound { IfOk result (λ found. (found.height ≤ room) × (length cursor.new < length cursor.old)) }
+pub fn do_block(alloc: Global, cursor: &mut Cursor, room: Room) -> Parsed<Block>
+    ensures reads { Answers given_block do_block room.max cursor.old result cursor.new }
+    ensures bound { IfOk result (λ found. (found.height ≤ room.max) × (length cursor.new < length cursor.old)) }
 {
     open(cursor, DO, 0, room)?;
-    let inner = block(alloc, cursor, room - 1)?;
+    let inner = block(alloc, cursor, Room { max: room.max - 1 })?;
     expect(cursor, END)?;
     Ok(tree_making::deeper(inner))
 }

@@ -6,6 +6,7 @@ ghost use Rattle.lua_parse.specs.Answers.{Answers, given_stat, given_arms, given
 use crate::block::block;
 use crate::expression::expression;
 use crate::fault::Parsed;
+use crate::room::Room;
 use crate::terminal::{expect, open};
 use std::alloc::Global;
 use token_cursor::Cursor;
@@ -15,10 +16,9 @@ use tree_making::Found;
 
 /// An `if` with its `elseif`s and its `else`.
 #[cycle(grammar)]
-pub fn if_stat(alloc: Global, cursor: &mut Cursor, room: u32) -> Parsed<Stat>
-    requires { room ≤ 400 }
-    ensures reads { Answers given_stat if_stat room cursor.old result cursor.new }
-    ensures bound { IfOk result (λ found. (found.height ≤ room) × (length cursor.new < length cursor.old)) }
+pub fn if_stat(alloc: Global, cursor: &mut Cursor, room: Room) -> Parsed<Stat>
+    ensures reads { Answers given_stat if_stat room.max cursor.old result cursor.new }
+    ensures bound { IfOk result (λ found. (found.height ≤ room.max) × (length cursor.new < length cursor.old)) }
 {
     let line = expect(cursor, IF)?;
     let arms = arms(alloc, cursor, room)?;
@@ -29,10 +29,9 @@ pub fn if_stat(alloc: Global, cursor: &mut Cursor, room: u32) -> Parsed<Stat>
 
 /// A test with its block, and those behind each `elseif`.
 #[cycle(grammar)]
-fn arms(alloc: Global, cursor: &mut Cursor, room: u32) -> Parsed<Vec<Arm>>
-    requires { room ≤ 400 }
-    ensures reads { Answers given_arms arms room cursor.old result cursor.new }
-    ensures bound { IfOk result (λ found. (found.height ≤ room) × (length cursor.new < length cursor.old)) }
+fn arms(alloc: Global, cursor: &mut Cursor, room: Room) -> Parsed<Vec<Arm>>
+    ensures reads { Answers given_arms arms room.max cursor.old result cursor.new }
+    ensures bound { IfOk result (λ found. (found.height ≤ room.max) × (length cursor.new < length cursor.old)) }
 {
     let first = arm(alloc, cursor, room)?;
     let mut items = tree_making::one_arm(alloc, first)?;
@@ -46,23 +45,21 @@ fn arms(alloc: Global, cursor: &mut Cursor, room: u32) -> Parsed<Vec<Arm>>
 
 /// exp `then` block.
 #[cycle(grammar)]
-fn arm(alloc: Global, cursor: &mut Cursor, room: u32) -> Parsed<Arm>
-    requires { room ≤ 400 }
-    ensures reads { Answers given_arm arm room cursor.old result cursor.new }
-    ensures bound { IfOk result (λ found. (found.height ≤ room) × (length cursor.new < length cursor.old)) }
+fn arm(alloc: Global, cursor: &mut Cursor, room: Room) -> Parsed<Arm>
+    ensures reads { Answers given_arm arm room.max cursor.old result cursor.new }
+    ensures bound { IfOk result (λ found. (found.height ≤ room.max) × (length cursor.new < length cursor.old)) }
 {
     let test = expression(alloc, cursor, room)?;
     open(cursor, THEN, 0, room)?;
-    let inner = block(alloc, cursor, room - 1)?;
+    let inner = block(alloc, cursor, Room { max: room.max - 1 })?;
     Ok(tree_making::arm(test, inner))
 }
 
 /// `else` block, or nothing.
 #[cycle(grammar)]
-fn else_part(alloc: Global, cursor: &mut Cursor, room: u32) -> Parsed<Option<Block>>
-    requires { room ≤ 400 }
-    ensures reads { Answers given_else else_part room cursor.old result cursor.new }
-    ensures bound { IfOk result (λ found. (found.height ≤ room) × (length cursor.new ≤ length cursor.old)) }
+fn else_part(alloc: Global, cursor: &mut Cursor, room: Room) -> Parsed<Option<Block>>
+    ensures reads { Answers given_else else_part room.max cursor.old result cursor.new }
+    ensures bound { IfOk result (λ found. (found.height ≤ room.max) × (length cursor.new ≤ length cursor.old)) }
 {
     if !cursor.is(ELSE) {
         return Ok(Found {
@@ -71,7 +68,7 @@ fn else_part(alloc: Global, cursor: &mut Cursor, room: u32) -> Parsed<Option<Blo
         });
     }
     open(cursor, ELSE, 0, room)?;
-    let inner = block(alloc, cursor, room - 1)?;
+    let inner = block(alloc, cursor, Room { max: room.max - 1 })?;
     Ok(Found {
         node: Some(inner.node),
         height: inner.height + 1,

@@ -7,6 +7,7 @@ ghost use Rattle.lua_parse.specs.Answers.{Refuses, IsOnlyTree};
 
 use crate::block::block;
 use crate::fault::{Fault, ParseFault};
+use crate::room::Room;
 use lua_lex::Tokens;
 use std::alloc::Global;
 use token_cursor::Cursor;
@@ -26,7 +27,7 @@ pub fn parse(alloc: Global, tokens: Tokens) -> Result<Block, ParseFault>
         return Err(ParseFault::Memory);
     }
     let mut cursor = Cursor::new(tokens);
-    match block(alloc, &mut cursor, 400) {
+    match block(alloc, &mut cursor, Room { max: 400 }) {
         Ok(found) => {
             if !is_end(cursor.peek()) {
                 return Err(ParseFault::Refused {

@@ -11,6 +11,7 @@ ghost use Rattle.token_cursor.specs.Words.{first};
 
 use crate::fault::{Fault, Parsed};
 use crate::function::body;
+use crate::room::Room;
 use crate::suffix::prefix;
 use crate::table::table;
 use crate::terminal::copy;
@@ -24,10 +25,9 @@ use tree_making::Found;
 
 /// Expressions with commas between.
 #[cycle(grammar)]
-pub fn explist(alloc: Global, cursor: &mut Cursor, room: u32) -> Parsed<Vec<Exp>>
-    requires { room ≤ 400 }
-    ensures reads { Answers given_exps explist room cursor.old result cursor.new }
-    ensures bound { IfOk result (λ found. (found.height ≤ room) × (length cursor.new < length cursor.old)) }
+pub fn explist(alloc: Global, cursor: &mut Cursor, room: Room) -> Parsed<Vec<Exp>>
+    ensures reads { Answers given_exps explist room.max cursor.old result cursor.new }
+    ensures bound { IfOk result (λ found. (found.height ≤ room.max) × (length cursor.new < length cursor.old)) }
 {
     let first = expression(alloc, cursor, room)?;
     let mut items = tree_making::one_exp(alloc, first)?;
@@ -41,10 +41,9 @@ pub fn explist(alloc: Global, cursor: &mut Cursor, room: u32) -> Parsed<Vec<Exp>
 
 /// An expression.
 #[cycle(grammar)]
-pub fn expression(alloc: Global, cursor: &mut Cursor, room: u32) -> Parsed<Box<Exp>>
-    requires { room ≤ 400 }
-    ensures reads { Answers given_exp exp room cursor.old result cursor.new }
-    ensures bound { IfOk result (λ found. (found.height ≤ room) × (length cursor.new < length cursor.old)) }
+pub fn expression(alloc: Global, cursor: &mut Cursor, room: Room) -> Parsed<Box<Exp>>
+    ensures reads { Answers given_exp exp room.max cursor.old result cursor.new }
+    ensures bound { IfOk result (λ found. (found.height ≤ room.max) × (length cursor.new < length cursor.old)) }
 {
     chain(alloc, cursor, Level::Or, room)
 }
@@ -52,10 +51,9 @@ pub fn expression(alloc: Global, cursor: &mut Cursor, room: u32) -> Parsed<Box<E
 /// Operands with operators of the level, and of those that bind more, between. The levels are
 /// gone through in a loop, so that parentheses within one another take little of the stack.
 #[cycle(grammar)]
-fn chain(alloc: Global, cursor: &mut Cursor, level: Level, room: u32) -> Parsed<Box<Exp>>
-    requires { room ≤ 400 }
-    ensures reads { Answers given_exp (chain level) room cursor.old result cursor.new }
-    ensures bound { IfOk result (λ found. (found.height ≤ room) × (length cursor.new < length cursor.old)) }
+fn chain(alloc: Global, cursor: &mut Cursor, level: Level, room: Room) -> Parsed<Box<Exp>>
+    ensures reads { Answers given_exp (chain level) room.max cursor.old result cursor.new }
+    ensures bound { IfOk result (λ found. (found.height ≤ room.max) × (length cursor.new < length cursor.old)) }
 {
     let mut left = unary(alloc, cursor, room)?;
     let mut current = Level::Product;
@@ -77,21 +75,20 @@ fn operators(
     cursor: &mut Cursor,
     level: Level,
     first: Found<Box<Exp>>,
-    room: u32,
+    room: Room,
 ) -> Parsed<Box<Exp>>
-    requires room { room ≤ 400 }
-    requires fits { first.height ≤ room }
-    ensures reads { Answers given_exp (behind level (plain_boxed first.node) first.height) room cursor.old result cursor.new }
-    ensures bound { IfOk result (λ found. (found.height ≤ room) × (length cursor.new ≤ length cursor.old)) }
+    requires fits { first.height ≤ room.max }
+    ensures reads { Answers given_exp (behind level (plain_boxed first.node) first.height) room.max cursor.old result cursor.new }
+    ensures bound { IfOk result (λ found. (found.height ≤ room.max) × (length cursor.new ≤ length cursor.old)) }
 {
     let mut left = first;
     while let Some(infix) = operator(cursor.peek(), level) {
-        if left.height >= room {
+        if left.height >= room.max {
             return Err(Fault::Refused);
         }
         let line = cursor.line();
         cursor.skip();
-        let right = right_operand(alloc, cursor, level, room - 1)?;
+        let right = right_operand(alloc, cursor, level, Room { max: room.max - 1 })?;
         left = tree_making::infix(alloc, line, infix, left, right)?;
     }
     Ok(left)
@@ -99,10 +96,9 @@ fn operators(
 
 /// What stands to the right of an operator of the level.
 #[cycle(grammar)]
-fn right_operand(alloc: Global, cursor: &mut Cursor, level: Level, room: u32) -> Parsed<Box<Exp>>
-    requires { room ≤ 400 }
-    ensures reads { Answers given_exp (right_operand level) room cursor.old result cursor.new }
-    ensures bound { IfOk result (λ found. (found.height ≤ room) × (length cursor.new < length cursor.old)) }
+fn right_operand(alloc: Global, cursor: &mut Cursor, level: Level, room: Room) -> Parsed<Box<Exp>>
+    ensures reads { Answers given_exp (right_operand level) room.max cursor.old result cursor.new }
+    ensures bound { IfOk result (λ found. (found.height ≤ room.max) × (length cursor.new < length cursor.old)) }
 {
     match level {
         Level::Or => chain(alloc, cursor, Level::And, room),
@@ -119,29 +115,27 @@ fn right_operand(alloc: Global, cursor: &mut Cursor, level: Level, room: u32) ->
 
 /// A simple expression, or an operator before an operand.
 #[cycle(grammar)]
-fn unary(alloc: Global, cursor: &mut Cursor, room: u32) -> Parsed<Box<Exp>>
-    requires { room ≤ 400 }
-    ensures reads { Answers given_exp unary room cursor.old result cursor.new }
-    ensures bound { IfOk result (λ found. (found.height ≤ room) × (length cursor.new < length cursor.old)) }
+fn unary(alloc: Global, cursor: &mut Cursor, room: Room) -> Parsed<Box<Exp>>
+    ensures reads { Answers given_exp unary room.max cursor.old result cursor.new }
+    ensures bound { IfOk result (λ found. (found.height ≤ room.max) × (length cursor.new < length cursor.old)) }
 {
     let Some(operator) = unary_operator(cursor.peek()) else {
         return simple(alloc, cursor, room);
     };
-    if room == 0 {
+    if room.max == 0 {
         return Err(Fault::Refused);
     }
     let line = cursor.line();
     cursor.skip();
-    let operand = unary(alloc, cursor, room - 1)?;
+    let operand = unary(alloc, cursor, Room { max: room.max - 1 })?;
     Ok(tree_making::unary(alloc, line, operator, operand)?)
 }
 
 /// An expression without operators.
 #[cycle(grammar)]
-fn simple(alloc: Global, cursor: &mut Cursor, room: u32) -> Parsed<Box<Exp>>
-    requires { room ≤ 400 }
-    ensures reads { Answers given_exp simple room cursor.old result cursor.new }
-    ensures bound { IfOk result (λ found. (found.height ≤ room) × (length cursor.new < length cursor.old)) }
+fn simple(alloc: Global, cursor: &mut Cursor, room: Room) -> Parsed<Box<Exp>>
+    ensures reads { Answers given_exp simple room.max cursor.old result cursor.new }
+    ensures bound { IfOk result (λ found. (found.height ≤ room.max) × (length cursor.new < length cursor.old)) }
 {
     let line = cursor.line();
     if let Some(node) = constant(alloc, cursor.peek(), line)? {

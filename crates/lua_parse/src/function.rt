@@ -5,6 +5,7 @@ ghost use Rattle.lua_parse.specs.Answers.{Answers, given_body, given_params};
 
 use crate::block::block;
 use crate::fault::{Fault, Parsed};
+use crate::room::Room;
 use crate::terminal::{expect, name, open};
 use std::alloc::Global;
 use token_cursor::Cursor;
@@ -20,16 +21,16 @@ pub fn body(
     cursor: &mut Cursor,
     line: u32,
     own: Vec<Name>,
-    room: u32,
+    room: Room,
 ) -> Parsed<Body>
-    requires { room ≤ 400 }
-    ensures reads { Answers given_body (body line own.items) room cursor.old result cursor.new }
-    ensures bound { IfOk result (λ found. (found.height ≤ room) × (length cursor.new < length cursor.old)) }
+    ensures reads { Answers given_body (body line own.items) room.max cursor.old result cursor.new }
+    ensures bound { IfOk result (λ found. (found.height ≤ room.max) × (length cursor.new < length cursor.old)) }
 {
     open(cursor, OPEN_ROUND, 0, room)?;
     let params = params(cursor, own)?;
-    open(cursor, CLOSE_ROUND, 0, room - 1)?;
-    let inner = block(alloc, cursor, room - 1 - 1)?;
+    let room = Room { max: room.max - 1 };
+    open(cursor, CLOSE_ROUND, 0, room)?;
+    let inner = block(alloc, cursor, Room { max: room.max - 1 })?;
     expect(cursor, END)?;
     Ok(tree_making::body(alloc, line, params, inner))
 }

@@ -9,6 +9,7 @@ mod expression;
 mod fault;
 mod function;
 mod repetition;
+mod room;
 mod statement;
 mod suffix;
 mod table;

@@ -6,6 +6,7 @@ ghost use Rattle.lua_parse.specs.Answers.{Answers, given_stat, given_step, given
 use crate::block::do_block;
 use crate::expression::{explist, expression};
 use crate::fault::{Fault, Parsed};
+use crate::room::Room;
 use crate::terminal::{expect, name};
 use std::alloc::Global;
 use token_cursor::Cursor;
@@ -15,10 +16,9 @@ use tree_making::{Found, Range};
 
 /// A `for`.
 #[cycle(grammar)]
-pub fn for_stat(alloc: Global, cursor: &mut Cursor, room: u32) -> Parsed<Stat>
-    requires { room ≤ 400 }
-    ensures reads { Answers given_stat for_stat room cursor.old result cursor.new }
-    ensures bound { IfOk result (λ found. (found.height ≤ room) × (length cursor.new < length cursor.old)) }
+pub fn for_stat(alloc: Global, cursor: &mut Cursor, room: Room) -> Parsed<Stat>
+    ensures reads { Answers given_stat for_stat room.max cursor.old result cursor.new }
+    ensures bound { IfOk result (λ found. (found.height ≤ room.max) × (length cursor.new < length cursor.old)) }
 {
     let line = expect(cursor, FOR)?;
     let first = name(cursor)?;
@@ -30,10 +30,9 @@ pub fn for_stat(alloc: Global, cursor: &mut Cursor, room: u32) -> Parsed<Stat>
 
 /// `=` exp `,` exp [`,` exp] `do` block `end`.
 #[cycle(grammar)]
-fn numeric(alloc: Global, cursor: &mut Cursor, line: u32, name: Name, room: u32) -> Parsed<Stat>
-    requires { room ≤ 400 }
-    ensures reads { Answers given_stat (numeric line name) room cursor.old result cursor.new }
-    ensures bound { IfOk result (λ found. (found.height ≤ room) × (length cursor.new < length cursor.old)) }
+fn numeric(alloc: Global, cursor: &mut Cursor, line: u32, name: Name, room: Room) -> Parsed<Stat>
+    ensures reads { Answers given_stat (numeric line name) room.max cursor.old result cursor.new }
+    ensures bound { IfOk result (λ found. (found.height ≤ room.max) × (length cursor.new < length cursor.old)) }
 {
     expect(cursor, ASSIGN)?;
     let first = expression(alloc, cursor, room)?;
@@ -47,10 +46,9 @@ fn numeric(alloc: Global, cursor: &mut Cursor, line: u32, name: Name, room: u32)
 
 /// `,` exp, or nothing.
 #[cycle(grammar)]
-fn step(alloc: Global, cursor: &mut Cursor, room: u32) -> Parsed<Option<Box<Exp>>>
-    requires { room ≤ 400 }
-    ensures reads { Answers given_step step room cursor.old result cursor.new }
-    ensures bound { IfOk result (λ found. (found.height ≤ room) × (length cursor.new ≤ length cursor.old)) }
+fn step(alloc: Global, cursor: &mut Cursor, room: Room) -> Parsed<Option<Box<Exp>>>
+    ensures reads { Answers given_step step room.max cursor.old result cursor.new }
+    ensures bound { IfOk result (λ found. (found.height ≤ room.max) × (length cursor.new ≤ length cursor.old)) }
 {
     if !cursor.is(COMMA) {
         return Ok(Found {
@@ -68,10 +66,9 @@ fn step(alloc: Global, cursor: &mut Cursor, room: u32) -> Parsed<Option<Box<Exp>
 
 /// {`,` Name} `in` explist `do` block `end`.
 #[cycle(grammar)]
-fn generic(alloc: Global, cursor: &mut Cursor, line: u32, first: Name, room: u32) -> Parsed<Stat>
-    requires { room ≤ 400 }
-    ensures reads { Answers given_stat (generic line first) room cursor.old result cursor.new }
-    ensures bound { IfOk result (λ found. (found.height ≤ room) × (length cursor.new < length cursor.old)) }
+fn generic(alloc: Global, cursor: &mut Cursor, line: u32, first: Name, room: Room) -> Parsed<Stat>
+    ensures reads { Answers given_stat (generic line first) room.max cursor.old result cursor.new }
+    ensures bound { IfOk result (λ found. (found.height ≤ room.max) × (length cursor.new < length cursor.old)) }
 {
     let names = names(alloc, cursor, first)?;
     expect(cursor, IN)?;

@@ -9,6 +9,7 @@ use crate::branch::if_stat;
 use crate::expression::expression;
 use crate::fault::Parsed;
 use crate::repetition::for_stat;
+use crate::room::Room;
 use crate::terminal::{expect, name, open};
 use std::alloc::Global;
 use token_cursor::token::start;
@@ -18,10 +19,9 @@ use tree_core::{Stat, StatNode};
 
 /// A statement.
 #[cycle(grammar)]
-pub fn statement(alloc: Global, cursor: &mut Cursor, room: u32) -> Parsed<Stat>
-    requires { room ≤ 400 }
-    ensures reads { Answers given_stat stat room cursor.old result cursor.new }
-    ensures bound { IfOk result (λ found. (found.height ≤ room) × (length cursor.new < length cursor.old)) }
+pub fn statement(alloc: Global, cursor: &mut Cursor, room: Room) -> Parsed<Stat>
+    ensures reads { Answers given_stat stat room.max cursor.old result cursor.new }
+    ensures bound { IfOk result (λ found. (found.height ≤ room.max) × (length cursor.new < length cursor.old)) }
 {
     let line = cursor.line();
     match start(cursor.peek()) {
@@ -47,9 +47,9 @@ pub fn statement(alloc: Global, cursor: &mut Cursor, room: u32) -> Parsed<Stat>
 }
 
 /// `::` Name `::`.
-fn label_stat(cursor: &mut Cursor, room: u32) -> Parsed<Stat>
-    ensures reads { Answers given_stat label_stat room cursor.old result cursor.new }
-    ensures bound { IfOk result (λ found. (found.height ≤ room) × (length cursor.new < length cursor.old)) }
+fn label_stat(cursor: &mut Cursor, room: Room) -> Parsed<Stat>
+    ensures reads { Answers given_stat label_stat room.max cursor.old result cursor.new }
+    ensures bound { IfOk result (λ found. (found.height ≤ room.max) × (length cursor.new < length cursor.old)) }
 {
     let line = expect(cursor, LABEL)?;
     let name = name(cursor)?;
@@ -58,9 +58,9 @@ fn label_stat(cursor: &mut Cursor, room: u32) -> Parsed<Stat>
 }
 
 /// `goto` Name.
-fn goto_stat(cursor: &mut Cursor, room: u32) -> Parsed<Stat>
-    ensures reads { Answers given_stat goto_stat room cursor.old result cursor.new }
-    ensures bound { IfOk result (λ found. (found.height ≤ room) × (length cursor.new < length cursor.old)) }
+fn goto_stat(cursor: &mut Cursor, room: Room) -> Parsed<Stat>
+    ensures reads { Answers given_stat goto_stat room.max cursor.old result cursor.new }
+    ensures bound { IfOk result (λ found. (found.height ≤ room.max) × (length cursor.new < length cursor.old)) }
 {
     let line = expect(cursor, GOTO)?;
     let name = name(cursor)?;
@@ -69,10 +69,9 @@ fn goto_stat(cursor: &mut Cursor, room: u32) -> Parsed<Stat>
 
 /// `do` block `end`.
 #[cycle(grammar)]
-fn do_stat(alloc: Global, cursor: &mut Cursor, room: u32) -> Parsed<Stat>
-    requires { room ≤ 400 }
-    ensures reads { Answers given_stat do_stat room cursor.old result cursor.new }
-    ensures bound { IfOk result (λ found. (found.height ≤ room) × (length cursor.new < length cursor.old)) }
+fn do_stat(alloc: Global, cursor: &mut Cursor, room: Room) -> Parsed<Stat>
+    ensures reads { Answers given_stat do_stat room.max cursor.old result cursor.new }
+    ensures bound { IfOk result (λ found. (found.height ≤ room.max) × (length cursor.new < length cursor.old)) }
 {
     let line = cursor.line();
     let inner = do_block(alloc, cursor, room)?;
@@ -81,10 +80,9 @@ fn do_stat(alloc: Global, cursor: &mut Cursor, room: u32) -> Parsed<Stat>
 
 /// `while` exp `do` block `end`.
 #[cycle(grammar)]
-fn while_stat(alloc: Global, cursor: &mut Cursor, room: u32) -> Parsed<Stat>
-    requires { room ≤ 400 }
-    ensures reads { Answers given_stat while_stat room cursor.old result cursor.new }
-    ensures bound { IfOk result (λ found. (found.height ≤ room) × (length cursor.new < length cursor.old)) }
+fn while_stat(alloc: Global, cursor: &mut Cursor, room: Room) -> Parsed<Stat>
+    ensures reads { Answers given_stat while_stat room.max cursor.old result cursor.new }
+    ensures bound { IfOk result (λ found. (found.height ≤ room.max) × (length cursor.new < length cursor.old)) }
 {
     let line = expect(cursor, WHILE)?;
     let test = expression(alloc, cursor, room)?;
@@ -94,13 +92,12 @@ fn while_stat(alloc: Global, cursor: &mut Cursor, room: u32) -> Parsed<Stat>
 
 /// `repeat` block `until` exp.
 #[cycle(grammar)]
-fn repeat_stat(alloc: Global, cursor: &mut Cursor, room: u32) -> Parsed<Stat>
-    requires { room ≤ 400 }
-    ensures reads { Answers given_stat repeat_stat room cursor.old result cursor.new }
-    ensures bound { IfOk result (λ found. (found.height ≤ room) × (length cursor.new < length cursor.old)) }
+fn repeat_stat(alloc: Global, cursor: &mut Cursor, room: Room) -> Parsed<Stat>
+    ensures reads { Answers given_stat repeat_stat room.max cursor.old result cursor.new }
+    ensures bound { IfOk result (λ found. (found.height ≤ room.max) × (length cursor.new < length cursor.old)) }
 {
     let line = open(cursor, REPEAT, 0, room)?;
-    let inner = block(alloc, cursor, room - 1)?;
+    let inner = block(alloc, cursor, Room { max: room.max - 1 })?;
     expect(cursor, UNTIL)?;
     let test = expression(alloc, cursor, room)?;
     Ok(tree_making::repeat_stat(alloc, line, inner, test)?)

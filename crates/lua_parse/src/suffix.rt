@@ -7,6 +7,7 @@ ghost use Rattle.token_cursor.specs.Words.{first};
 
 use crate::expression::{explist, expression};
 use crate::fault::{Fault, Parsed};
+use crate::room::Room;
 use crate::table::fields;
 use crate::terminal::{copy, expect, name, open};
 use lua_lex::Token;
@@ -21,10 +22,9 @@ use tree_making::Found;
 
 /// A name or an expression in parentheses with the suffixes behind it.
 #[cycle(grammar)]
-pub fn prefix(alloc: Global, cursor: &mut Cursor, room: u32) -> Parsed<Box<Exp>>
-    requires { room ≤ 400 }
-    ensures reads { Answers given_exp prefix room cursor.old result cursor.new }
-    ensures bound { IfOk result (λ found. (found.height ≤ room) × (length cursor.new < length cursor.old)) }
+pub fn prefix(alloc: Global, cursor: &mut Cursor, room: Room) -> Parsed<Box<Exp>>
+    ensures reads { Answers given_exp prefix room.max cursor.old result cursor.new }
+    ensures bound { IfOk result (λ found. (found.height ≤ room.max) × (length cursor.new < length cursor.old)) }
     ensures more { IfOk result (λ _. cursor.new ≡ first cursor.new ∷ drop 1 cursor.new) }
 {
     let mut left = primary(alloc, cursor, room)?;
@@ -36,10 +36,9 @@ pub fn prefix(alloc: Global, cursor: &mut Cursor, room: u32) -> Parsed<Box<Exp>>
 
 /// A name or an expression in parentheses.
 #[cycle(grammar)]
-fn primary(alloc: Global, cursor: &mut Cursor, room: u32) -> Parsed<Box<Exp>>
-    requires { room ≤ 400 }
-    ensures reads { Answers given_exp primary room cursor.old result cursor.new }
-    ensures bound { IfOk result (λ found. (found.height ≤ room) × (length cursor.new < length cursor.old)) }
+fn primary(alloc: Global, cursor: &mut Cursor, room: Room) -> Parsed<Box<Exp>>
+    ensures reads { Answers given_exp primary room.max cursor.old result cursor.new }
+    ensures bound { IfOk result (λ found. (found.height ≤ room.max) × (length cursor.new < length cursor.old)) }
 {
     if cursor.is(OPEN_ROUND) {
         return paren(alloc, cursor, room);
@@ -50,24 +49,21 @@ fn primary(alloc: Global, cursor: &mut Cursor, room: u32) -> Parsed<Box<Exp>>
 
 /// An expression in parentheses.
 #[cycle(grammar)]
-fn paren(alloc: Global, cursor: &mut Cursor, room: u32) -> Parsed<Box<Exp>>
-    requires { room ≤ 400 }
-    ensures reads { Answers given_exp paren room cursor.old result cursor.new }
-    ensures bound { IfOk result (λ found. (found.height ≤ room) × (length cursor.new < length cursor.old)) }
+fn paren(alloc: Global, cursor: &mut Cursor, room: Room) -> Parsed<Box<Exp>>
+    ensures reads { Answers given_exp paren room.max cursor.old result cursor.new }
+    ensures bound { IfOk result (λ found. (found.height ≤ room.max) × (length cursor.new < length cursor.old)) }
 {
     let line = open(cursor, OPEN_ROUND, 0, room)?;
-    let inner = expression(alloc, cursor, room - 1)?;
+    let inner = expression(alloc, cursor, Room { max: room.max - 1 })?;
     expect(cursor, CLOSE_ROUND)?;
     Ok(tree_making::paren(alloc, line, inner)?)
 }
 
 /// A suffix of the expression before it.
 #[cycle(grammar)]
-fn suffix(alloc: Global, cursor: &mut Cursor, left: Found<Box<Exp>>, room: u32) -> Parsed<Box<Exp>>
-    requires room { room ≤ 400 }
-    requires fits { left.height ≤ room }
-    ensures reads { Answers given_exp (suffix (plain_boxed left.node) left.height) room cursor.old result cursor.new }
-    ensures bound { IfOk result (λ found. (found.height ≤ room) × (length cursor.new < length cursor.old)) }
+fn suffix(alloc: Global, cursor: &mut Cursor, left: Found<Box<Exp>>, room: Room) -> Parsed<Box<Exp>>
+    ensures reads { Answers given_exp (suffix (plain_boxed left.node) left.height) room.max cursor.old result cursor.new }
+    ensures bound { IfOk result (λ found. (found.height ≤ room.max) × (length cursor.new < length cursor.old)) }
 {
     if cursor.is(DOT) {
         return dotted(alloc, cursor, DOT, left, room);
@@ -87,12 +83,10 @@ pub fn dotted(
     cursor: &mut Cursor,
     wanted: Word,
     left: Found<Box<Exp>>,
-    room: u32,
+    room: Room,
 ) -> Parsed<Box<Exp>>
-    requires room { room ≤ 400 }
-    requires fits { left.height ≤ room }
-    ensures reads { Answers given_exp (dotted wanted (plain_boxed left.node) left.height) room cursor.old result cursor.new }
-    ensures bound { IfOk result (λ found. (found.height ≤ room) × (length cursor.new < length cursor.old)) }
+    ensures reads { Answers given_exp (dotted wanted (plain_boxed left.node) left.height) room.max cursor.old result cursor.new }
+    ensures bound { IfOk result (λ found. (found.height ≤ room.max) × (length cursor.new < length cursor.old)) }
 {
     let line = open(cursor, wanted, left.height, room)?;
     let name = name(cursor)?;
@@ -101,63 +95,61 @@ pub fn dotted(
 
 /// `[` exp `]`.
 #[cycle(grammar)]
-fn indexed(alloc: Global, cursor: &mut Cursor, left: Found<Box<Exp>>, room: u32) -> Parsed<Box<Exp>>
-    requires room { room ≤ 400 }
-    requires fits { left.height ≤ room }
-    ensures reads { Answers given_exp (indexed (plain_boxed left.node) left.height) room cursor.old result cursor.new }
-    ensures bound { IfOk result (λ found. (found.height ≤ room) × (length cursor.new < length cursor.old)) }
+fn indexed(
+    alloc: Global,
+    cursor: &mut Cursor,
+    left: Found<Box<Exp>>,
+    room: Room,
+) -> Parsed<Box<Exp>>
+    ensures reads { Answers given_exp (indexed (plain_boxed left.node) left.height) room.max cursor.old result cursor.new }
+    ensures bound { IfOk result (λ found. (found.height ≤ room.max) × (length cursor.new < length cursor.old)) }
 {
     let line = open(cursor, OPEN_SQUARE, left.height, room)?;
-    let key = expression(alloc, cursor, room - 1)?;
+    let key = expression(alloc, cursor, Room { max: room.max - 1 })?;
     expect(cursor, CLOSE_SQUARE)?;
     Ok(tree_making::index(alloc, line, left, key)?)
 }
 
 /// `:` Name and arguments.
 #[cycle(grammar)]
-fn method(alloc: Global, cursor: &mut Cursor, left: Found<Box<Exp>>, room: u32) -> Parsed<Box<Exp>>
-    requires room { room ≤ 400 }
-    requires fits { left.height ≤ room }
-    ensures reads { Answers given_exp (method (plain_boxed left.node) left.height) room cursor.old result cursor.new }
-    ensures bound { IfOk result (λ found. (found.height ≤ room) × (length cursor.new < length cursor.old)) }
+fn method(alloc: Global, cursor: &mut Cursor, left: Found<Box<Exp>>, room: Room) -> Parsed<Box<Exp>>
+    ensures reads { Answers given_exp (method (plain_boxed left.node) left.height) room.max cursor.old result cursor.new }
+    ensures bound { IfOk result (λ found. (found.height ≤ room.max) × (length cursor.new < length cursor.old)) }
 {
     open(cursor, COLON, left.height, room)?;
     let name = name(cursor)?;
     let line = cursor.line();
-    let arguments = method_arguments(alloc, cursor, room - 1)?;
+    let arguments = method_arguments(alloc, cursor, Room { max: room.max - 1 })?;
     Ok(tree_making::method(alloc, line, left, name, arguments)?)
 }
 
 /// Arguments.
 #[cycle(grammar)]
-fn call(alloc: Global, cursor: &mut Cursor, left: Found<Box<Exp>>, room: u32) -> Parsed<Box<Exp>>
-    requires room { room ≤ 400 }
-    requires fits { left.height ≤ room }
-    ensures reads { Answers given_exp (call (plain_boxed left.node) left.height) room cursor.old result cursor.new }
-    ensures bound { IfOk result (λ found. (found.height ≤ room) × (length cursor.new < length cursor.old)) }
+fn call(alloc: Global, cursor: &mut Cursor, left: Found<Box<Exp>>, room: Room) -> Parsed<Box<Exp>>
+    ensures reads { Answers given_exp (call (plain_boxed left.node) left.height) room.max cursor.old result cursor.new }
+    ensures bound { IfOk result (λ found. (found.height ≤ room.max) × (length cursor.new < length cursor.old)) }
 {
     let line = cursor.line();
-    if left.height >= room {
+    if left.height >= room.max {
         return Err(Fault::Refused);
     }
-    let arguments = arguments(alloc, cursor, room - 1)?;
+    let arguments = arguments(alloc, cursor, Room { max: room.max - 1 })?;
     Ok(tree_making::call(alloc, line, left, arguments)?)
 }
 
 /// Arguments behind `:` and a name, whose brackets open a level of their own.
 #[cycle(grammar)]
-fn method_arguments(alloc: Global, cursor: &mut Cursor, room: u32) -> Parsed<Vec<Exp>>
-    requires { room ≤ 400 }
-    ensures reads { Answers given_exps method_arguments room cursor.old result cursor.new }
-    ensures bound { IfOk result (λ found. (found.height ≤ room) × (length cursor.new < length cursor.old)) }
+fn method_arguments(alloc: Global, cursor: &mut Cursor, room: Room) -> Parsed<Vec<Exp>>
+    ensures reads { Answers given_exps method_arguments room.max cursor.old result cursor.new }
+    ensures bound { IfOk result (λ found. (found.height ≤ room.max) × (length cursor.new < length cursor.old)) }
 {
     if is_string(cursor.peek()) {
         return arguments(alloc, cursor, room);
     }
-    if room == 0 {
+    if room.max == 0 {
         return Err(Fault::Refused);
     }
-    let inner = arguments(alloc, cursor, room - 1)?;
+    let inner = arguments(alloc, cursor, Room { max: room.max - 1 })?;
     Ok(Found {
         node: inner.node,
         height: inner.height + 1,
@@ -166,10 +158,9 @@ fn method_arguments(alloc: Global, cursor: &mut Cursor, room: u32) -> Parsed<Vec
 
 /// Expressions in parentheses, a table or a string, within a level that is open.
 #[cycle(grammar)]
-fn arguments(alloc: Global, cursor: &mut Cursor, room: u32) -> Parsed<Vec<Exp>>
-    requires { room ≤ 400 }
-    ensures reads { Answers given_exps arguments room cursor.old result cursor.new }
-    ensures bound { IfOk result (λ found. (found.height ≤ room) × (length cursor.new < length cursor.old)) }
+fn arguments(alloc: Global, cursor: &mut Cursor, room: Room) -> Parsed<Vec<Exp>>
+    ensures reads { Answers given_exps arguments room.max cursor.old result cursor.new }
+    ensures bound { IfOk result (λ found. (found.height ≤ room.max) × (length cursor.new < length cursor.old)) }
 {
     if cursor.is(OPEN_ROUND) {
         cursor.skip();
@@ -200,10 +191,9 @@ fn string_argument(alloc: Global, cursor: &mut Cursor) -> Parsed<Vec<Exp>>
 
 /// What stands behind the `(` of arguments.
 #[cycle(grammar)]
-fn listed(alloc: Global, cursor: &mut Cursor, room: u32) -> Parsed<Vec<Exp>>
-    requires { room ≤ 400 }
-    ensures reads { Answers given_exps listed room cursor.old result cursor.new }
-    ensures bound { IfOk result (λ found. (found.height ≤ room) × (length cursor.new < length cursor.old)) }
+fn listed(alloc: Global, cursor: &mut Cursor, room: Room) -> Parsed<Vec<Exp>>
+    ensures reads { Answers given_exps listed room.max cursor.old result cursor.new }
+    ensures bound { IfOk result (λ found. (found.height ≤ room.max) × (length cursor.new < length cursor.old)) }
 {
     if cursor.is(CLOSE_ROUND) {
         cursor.skip();

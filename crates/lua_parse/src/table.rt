@@ -5,6 +5,7 @@ ghost use Rattle.lua_parse.specs.Answers.{Answers, given_exp, given_field, given
 
 use crate::expression::expression;
 use crate::fault::{Fault, Parsed};
+use crate::room::Room;
 use crate::terminal::{expect, open};
 use std::alloc::Global;
 use token_cursor::Cursor;
@@ -15,22 +16,20 @@ use tree_making::{Found, name_of};
 
 /// `{` fields `}`.
 #[cycle(grammar)]
-pub fn table(alloc: Global, cursor: &mut Cursor, room: u32) -> Parsed<Box<Exp>>
-    requires { room ≤ 400 }
-    ensures reads { Answers given_exp table room cursor.old result cursor.new }
-    ensures bound { IfOk result (λ found. (found.height ≤ room) × (length cursor.new < length cursor.old)) }
+pub fn table(alloc: Global, cursor: &mut Cursor, room: Room) -> Parsed<Box<Exp>>
+    ensures reads { Answers given_exp table room.max cursor.old result cursor.new }
+    ensures bound { IfOk result (λ found. (found.height ≤ room.max) × (length cursor.new < length cursor.old)) }
 {
     let line = open(cursor, OPEN_CURLY, 0, room)?;
-    let fields = fields(alloc, cursor, room - 1)?;
+    let fields = fields(alloc, cursor, Room { max: room.max - 1 })?;
     Ok(tree_making::table(alloc, line, fields)?)
 }
 
 /// What stands behind the `{` of a table, its `}` included.
 #[cycle(grammar)]
-pub fn fields(alloc: Global, cursor: &mut Cursor, room: u32) -> Parsed<Vec<Field>>
-    requires { room ≤ 400 }
-    ensures reads { Answers given_fields (more_fields [] 0) room cursor.old result cursor.new }
-    ensures bound { IfOk result (λ found. (found.height ≤ room) × (length cursor.new < length cursor.old)) }
+pub fn fields(alloc: Global, cursor: &mut Cursor, room: Room) -> Parsed<Vec<Field>>
+    ensures reads { Answers given_fields (more_fields [] 0) room.max cursor.old result cursor.new }
+    ensures bound { IfOk result (λ found. (found.height ≤ room.max) × (length cursor.new < length cursor.old)) }
 {
     let mut items = tree_making::no_fields(alloc);
     while !cursor.is(CLOSE_CURLY) {
@@ -43,10 +42,9 @@ pub fn fields(alloc: Global, cursor: &mut Cursor, room: u32) -> Parsed<Vec<Field
 
 /// A field and a separator, which is missing only before the `}`.
 #[cycle(grammar)]
-fn separated_field(alloc: Global, cursor: &mut Cursor, room: u32) -> Parsed<Field>
-    requires { room ≤ 400 }
-    ensures reads { Answers given_field separated_field room cursor.old result cursor.new }
-    ensures bound { IfOk result (λ found. (found.height ≤ room) × (length cursor.new < length cursor.old)) }
+fn separated_field(alloc: Global, cursor: &mut Cursor, room: Room) -> Parsed<Field>
+    ensures reads { Answers given_field separated_field room.max cursor.old result cursor.new }
+    ensures bound { IfOk result (λ found. (found.height ≤ room.max) × (length cursor.new < length cursor.old)) }
 {
     let field = field(alloc, cursor, room)?;
     if is_separator(cursor.peek()) {
@@ -62,10 +60,9 @@ fn separated_field(alloc: Global, cursor: &mut Cursor, room: u32) -> Parsed<Fiel
 
 /// A field.
 #[cycle(grammar)]
-fn field(alloc: Global, cursor: &mut Cursor, room: u32) -> Parsed<Field>
-    requires { room ≤ 400 }
-    ensures reads { Answers given_field field room cursor.old result cursor.new }
-    ensures bound { IfOk result (λ found. (found.height ≤ room) × (length cursor.new < length cursor.old)) }
+fn field(alloc: Global, cursor: &mut Cursor, room: Room) -> Parsed<Field>
+    ensures reads { Answers given_field field room.max cursor.old result cursor.new }
+    ensures bound { IfOk result (λ found. (found.height ≤ room.max) × (length cursor.new < length cursor.old)) }
 {
     if cursor.is(OPEN_SQUARE) {
         return keyed(alloc, cursor, room);
@@ -75,13 +72,12 @@ fn field(alloc: Global, cursor: &mut Cursor, room: u32) -> Parsed<Field>
 
 /// `[` exp `]` `=` exp.
 #[cycle(grammar)]
-fn keyed(alloc: Global, cursor: &mut Cursor, room: u32) -> Parsed<Field>
-    requires { room ≤ 400 }
-    ensures reads { Answers given_field keyed room cursor.old result cursor.new }
-    ensures bound { IfOk result (λ found. (found.height ≤ room) × (length cursor.new < length cursor.old)) }
+fn keyed(alloc: Global, cursor: &mut Cursor, room: Room) -> Parsed<Field>
+    ensures reads { Answers given_field keyed room.max cursor.old result cursor.new }
+    ensures bound { IfOk result (λ found. (found.height ≤ room.max) × (length cursor.new < length cursor.old)) }
 {
     let line = open(cursor, OPEN_SQUARE, 0, room)?;
-    let key = expression(alloc, cursor, room - 1)?;
+    let key = expression(alloc, cursor, Room { max: room.max - 1 })?;
     expect(cursor, CLOSE_SQUARE)?;
     expect(cursor, ASSIGN)?;
     let value = expression(alloc, cursor, room)?;
@@ -90,10 +86,9 @@ fn keyed(alloc: Global, cursor: &mut Cursor, room: u32) -> Parsed<Field>
 
 /// Name `=` exp, or an expression.
 #[cycle(grammar)]
-fn item(alloc: Global, cursor: &mut Cursor, room: u32) -> Parsed<Field>
-    requires { room ≤ 400 }
-    ensures reads { Answers given_field item room cursor.old result cursor.new }
-    ensures bound { IfOk result (λ found. (found.height ≤ room) × (length cursor.new < length cursor.old)) }
+fn item(alloc: Global, cursor: &mut Cursor, room: Room) -> Parsed<Field>
+    ensures reads { Answers given_field item room.max cursor.old result cursor.new }
+    ensures bound { IfOk result (λ found. (found.height ≤ room.max) × (length cursor.new < length cursor.old)) }
 {
     let first = expression(alloc, cursor, room)?;
     if !cursor.is(ASSIGN) {

@@ -4,6 +4,7 @@ ghost use Rattle.lua_parse.specs.Moves.{word, opener, name};
 ghost use Rattle.lua_parse.specs.Answers.{Answers, given_line, given_name};
 
 use crate::fault::Fault;
+use crate::room::Room;
 use int_core::Bytes;
 use std::alloc::{AllocError, Global};
 use token_cursor::{Cursor, Word};
@@ -22,13 +23,13 @@ pub fn expect(cursor: &mut Cursor, wanted: Word) -> Result<u32, Fault>
 }
 
 /// Passes the word, which opens a level over what has this height, and answers its line.
-pub fn open(cursor: &mut Cursor, wanted: Word, height: u32, room: u32) -> Result<u32, Fault>
-    ensures reads { Answers given_line (opener wanted height) room cursor.old result cursor.new }
+pub fn open(cursor: &mut Cursor, wanted: Word, height: u32, room: Room) -> Result<u32, Fault>
+    ensures reads { Answers given_line (opener wanted height) room.max cursor.old result cursor.new }
     ensures taken { IfOk result (λ _. length cursor.new < length cursor.old) }
-    ensures fits { IfOk result (λ _. height < room) }
+    ensures fits { IfOk result (λ _. height < room.max) }
 {
     let line = cursor.line();
-    if height >= room {
+    if height >= room.max {
         return Err(Fault::Refused);
     }
     if !cursor.take(wanted) {

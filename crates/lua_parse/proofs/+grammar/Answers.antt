@@ -29,36 +29,36 @@ mod Statements
 
 pub suffix::primary-returns-then-is-clause-reads : goal.suffix::primary-returns-then-is-clause-reads
 suffix::primary-returns-then-is-clause-reads t c =
-    answered (into (holds _ (picked (starts primary c.args.room c.args.cursor.now) c.if-is.ensures.more) (sym c.if-is.ensures.is))) c.paren.result c.paren.ensures.reads
+    answered (into (holds _ (picked (starts primary c.args.room.max c.args.cursor.now) c.if-is.ensures.more) (sym c.if-is.ensures.is))) c.paren.result c.paren.ensures.reads
 
 pub suffix::primary-returns-in_err-name-clause-reads : goal.suffix::primary-returns-in_err-name-clause-reads
 suffix::primary-returns-in_err-name-clause-reads t c =
-    failed_by (fails _ (picked (starts primary c.args.room c.args.cursor.now) c.if-is.ensures.more) (sym c.if-is.ensures.is)) c.in_err-name.ensures.reads (search rules)
+    failed_by (fails _ (picked (starts primary c.args.room.max c.args.cursor.now) c.if-is.ensures.more) (sym c.if-is.ensures.is)) c.in_err-name.ensures.reads (search rules)
 
 pub suffix::primary-returns-clause-reads : goal.suffix::primary-returns-clause-reads
 suffix::primary-returns-clause-reads t c =
-    record { tells = ended_as (found (fails _ (picked (starts primary c.args.room c.args.cursor.now) c.if-is.ensures.more) (sym c.if-is.ensures.is)) (c.in_ok-name.ensures.reads.tells)) (ap an_exp c.in_ok-variable.ensures.node) c.in_ok-variable.ensures.levels }
+    record { tells = ended_as (found (fails _ (picked (starts primary c.args.room.max c.args.cursor.now) c.if-is.ensures.more) (sym c.if-is.ensures.is)) (c.in_ok-name.ensures.reads.tells)) (ap an_exp c.in_ok-variable.ensures.node) c.in_ok-variable.ensures.levels }
 
 pub suffix::paren-returns-in_err-line-clause-reads : goal.suffix::paren-returns-in_err-line-clause-reads
-suffix::paren-returns-in_err-line-clause-reads t c = failed_by (starts paren c.args.room c.args.cursor.now) c.in_err-line.ensures.reads (search rules)
+suffix::paren-returns-in_err-line-clause-reads t c = failed_by (starts paren c.args.room.max c.args.cursor.now) c.in_err-line.ensures.reads (search rules)
 
 pub suffix::paren-returns-in_err-inner-clause-reads : goal.suffix::paren-returns-in_err-inner-clause-reads
-suffix::paren-returns-in_err-inner-clause-reads t c = failed_by (found (starts paren c.args.room c.args.cursor.now) (c.in_ok-line.ensures.reads.tells)) c.in_err-inner.ensures.reads (search rules)
+suffix::paren-returns-in_err-inner-clause-reads t c = failed_by (found (starts paren c.args.room.max c.args.cursor.now) (c.in_ok-line.ensures.reads.tells)) c.in_err-inner.ensures.reads (search rules)
 
 pub suffix::paren-returns-in_err-expect-clause-reads : goal.suffix::paren-returns-in_err-expect-clause-reads
 suffix::paren-returns-in_err-expect-clause-reads t c =
-    failed_by (found (found (starts paren c.args.room c.args.cursor.now) (c.in_ok-line.ensures.reads.tells)) (c.in_ok-inner.ensures.reads.tells)) c.in_err-expect.ensures.reads (search rules)
+    failed_by (found (found (starts paren c.args.room.max c.args.cursor.now) (c.in_ok-line.ensures.reads.tells)) (c.in_ok-inner.ensures.reads.tells)) c.in_err-expect.ensures.reads (search rules)
 
 pub suffix::paren-returns-clause-reads : goal.suffix::paren-returns-clause-reads
 suffix::paren-returns-clause-reads = expressions.suffix::paren-returns-clause-reads
 
 pub suffix::suffix-returns-then-is-clause-reads : goal.suffix::suffix-returns-then-is-clause-reads
 suffix::suffix-returns-then-is-clause-reads t c =
-    answered (into (holds _ (picked (starts (suffix (plain_boxed c.args.left.node) c.args.left.height) c.args.room c.args.cursor.now) c.if-is.ensures.more) (sym c.if-is.ensures.is))) c.dotted.result c.dotted.ensures.reads
+    answered (into (holds _ (picked (starts (suffix (plain_boxed c.args.left.node) c.args.left.height) c.args.room.max c.args.cursor.now) c.if-is.ensures.more) (sym c.if-is.ensures.is))) c.dotted.result c.dotted.ensures.reads
 
 pub suffix::suffix-returns-then-is-2-clause-reads : goal.suffix::suffix-returns-then-is-2-clause-reads
 suffix::suffix-returns-then-is-2-clause-reads t c =
-    answered (into (holds _ (fails _ (picked (starts (suffix (plain_boxed c.args.left.node) c.args.left.height) c.args.room c.args.cursor.now) c.if-is.ensures.more) (sym c.if-is.ensures.is)) (sym c.if-is-2.ensures.is))) c.indexed.result c.indexed.ensures.reads
+    answered (into (holds _ (fails _ (picked (starts (suffix (plain_boxed c.args.left.node) c.args.left.height) c.args.room.max c.args.cursor.now) c.if-is.ensures.more) (sym c.if-is.ensures.is)) (sym c.if-is-2.ensures.is))) c.indexed.result c.indexed.ensures.reads
 
 pub suffix::suffix-returns-then-is-3-clause-reads : goal.suffix::suffix-returns-then-is-3-clause-reads
 suffix::suffix-returns-then-is-3-clause-reads = expressions.suffix::suffix-returns-then-is-3-clause-reads
@@ -68,26 +68,26 @@ suffix::suffix-returns-clause-reads = expressions.suffix::suffix-returns-clause-
 
 pub suffix::indexed-returns-in_err-line-clause-reads : goal.suffix::indexed-returns-in_err-line-clause-reads
 suffix::indexed-returns-in_err-line-clause-reads t c =
-    failed_by (starts (indexed (plain_boxed c.args.left.node) c.args.left.height) c.args.room c.args.cursor.now) c.in_err-line.ensures.reads (search rules)
+    failed_by (starts (indexed (plain_boxed c.args.left.node) c.args.left.height) c.args.room.max c.args.cursor.now) c.in_err-line.ensures.reads (search rules)
 
 pub suffix::indexed-returns-in_err-key-clause-reads : goal.suffix::indexed-returns-in_err-key-clause-reads
 suffix::indexed-returns-in_err-key-clause-reads t c =
-    failed_by (found (starts (indexed (plain_boxed c.args.left.node) c.args.left.height) c.args.room c.args.cursor.now) (c.in_ok-line.ensures.reads.tells)) c.in_err-key.ensures.reads (search rules)
+    failed_by (found (starts (indexed (plain_boxed c.args.left.node) c.args.left.height) c.args.room.max c.args.cursor.now) (c.in_ok-line.ensures.reads.tells)) c.in_err-key.ensures.reads (search rules)
 
 pub suffix::indexed-returns-in_err-expect-clause-reads : goal.suffix::indexed-returns-in_err-expect-clause-reads
 suffix::indexed-returns-in_err-expect-clause-reads t c =
-    failed_by (found (found (starts (indexed (plain_boxed c.args.left.node) c.args.left.height) c.args.room c.args.cursor.now) (c.in_ok-line.ensures.reads.tells)) (c.in_ok-key.ensures.reads.tells)) c.in_err-expect.ensures.reads (search rules)
+    failed_by (found (found (starts (indexed (plain_boxed c.args.left.node) c.args.left.height) c.args.room.max c.args.cursor.now) (c.in_ok-line.ensures.reads.tells)) (c.in_ok-key.ensures.reads.tells)) c.in_err-expect.ensures.reads (search rules)
 
 pub suffix::indexed-returns-clause-reads : goal.suffix::indexed-returns-clause-reads
 suffix::indexed-returns-clause-reads = expressions.suffix::indexed-returns-clause-reads
 
 pub suffix::method-returns-in_err-open-clause-reads : goal.suffix::method-returns-in_err-open-clause-reads
 suffix::method-returns-in_err-open-clause-reads t c =
-    failed_by (starts (method (plain_boxed c.args.left.node) c.args.left.height) c.args.room c.args.cursor.now) c.in_err-open.ensures.reads (search rules)
+    failed_by (starts (method (plain_boxed c.args.left.node) c.args.left.height) c.args.room.max c.args.cursor.now) c.in_err-open.ensures.reads (search rules)
 
 pub suffix::method-returns-in_err-name-clause-reads : goal.suffix::method-returns-in_err-name-clause-reads
 suffix::method-returns-in_err-name-clause-reads t c =
-    failed_by (found (starts (method (plain_boxed c.args.left.node) c.args.left.height) c.args.room c.args.cursor.now) (c.in_ok-open.ensures.reads.tells)) c.in_err-name.ensures.reads (search rules)
+    failed_by (found (starts (method (plain_boxed c.args.left.node) c.args.left.height) c.args.room.max c.args.cursor.now) (c.in_ok-open.ensures.reads.tells)) c.in_err-name.ensures.reads (search rules)
 
 pub suffix::method-returns-in_err-arguments-clause-reads : goal.suffix::method-returns-in_err-arguments-clause-reads
 suffix::method-returns-in_err-arguments-clause-reads = expressions.suffix::method-returns-in_err-arguments-clause-reads
@@ -106,7 +106,7 @@ suffix::call-returns-clause-reads = expressions.suffix::call-returns-clause-read
 
 pub suffix::method_arguments-returns-then-is_string-clause-reads : goal.suffix::method_arguments-returns-then-is_string-clause-reads
 suffix::method_arguments-returns-then-is_string-clause-reads t c =
-    answered (into (holds _ (picked (starts method_arguments c.args.room c.args.cursor.now) c.peek.ensures.more) (ap is_string (sym c.peek.ensures.is) ∙ sym c.if-is_string.ensures))) c.arguments.result c.arguments.ensures.reads
+    answered (into (holds _ (picked (starts method_arguments c.args.room.max c.args.cursor.now) c.peek.ensures.more) (ap is_string (sym c.peek.ensures.is) ∙ sym c.if-is_string.ensures))) c.arguments.result c.arguments.ensures.reads
 
 pub suffix::method_arguments-returns-then-room-eq0-clause-reads : goal.suffix::method_arguments-returns-then-room-eq0-clause-reads
 suffix::method_arguments-returns-then-room-eq0-clause-reads = expressions.suffix::method_arguments-returns-then-room-eq0-clause-reads
@@ -119,7 +119,7 @@ suffix::method_arguments-returns-clause-reads = expressions.suffix::method_argum
 
 pub suffix::arguments-returns-then-is-clause-reads : goal.suffix::arguments-returns-then-is-clause-reads
 suffix::arguments-returns-then-is-clause-reads t c =
-    answered (into (passed (holds _ (picked (starts arguments c.args.room c.args.cursor.now) c.if-is.ensures.more) (sym c.if-is.ensures.is)) c.if-is.ensures.more (c.skip.ensures))) c.listed.result c.listed.ensures.reads
+    answered (into (passed (holds _ (picked (starts arguments c.args.room.max c.args.cursor.now) c.if-is.ensures.more) (sym c.if-is.ensures.is)) c.if-is.ensures.more (c.skip.ensures))) c.listed.result c.listed.ensures.reads
 
 pub suffix::arguments-returns-in_err-fields-clause-reads : goal.suffix::arguments-returns-in_err-fields-clause-reads
 suffix::arguments-returns-in_err-fields-clause-reads = expressions.suffix::arguments-returns-in_err-fields-clause-reads
@@ -129,36 +129,36 @@ suffix::arguments-returns-then-is-2-clause-reads = expressions.suffix::arguments
 
 pub suffix::arguments-returns-clause-reads : goal.suffix::arguments-returns-clause-reads
 suffix::arguments-returns-clause-reads t c =
-    answered (into (fails _ (fails _ (picked (starts arguments c.args.room c.args.cursor.now) c.if-is.ensures.more) (sym c.if-is.ensures.is)) (sym c.if-is-2.ensures.is))) c.string_argument.result c.string_argument.ensures.reads
+    answered (into (fails _ (fails _ (picked (starts arguments c.args.room.max c.args.cursor.now) c.if-is.ensures.more) (sym c.if-is.ensures.is)) (sym c.if-is-2.ensures.is))) c.string_argument.result c.string_argument.ensures.reads
 
 pub suffix::listed-returns-then-is-clause-reads : goal.suffix::listed-returns-then-is-clause-reads
 suffix::listed-returns-then-is-clause-reads t c =
-    record { tells = ended_as (passed (holds _ (picked (starts listed c.args.room c.args.cursor.now) c.if-is.ensures.more) (sym c.if-is.ensures.is)) c.if-is.ensures.more (c.skip.ensures)) (ap some_exps c.no_exps.ensures.node) c.no_exps.ensures.levels }
+    record { tells = ended_as (passed (holds _ (picked (starts listed c.args.room.max c.args.cursor.now) c.if-is.ensures.more) (sym c.if-is.ensures.is)) c.if-is.ensures.more (c.skip.ensures)) (ap some_exps c.no_exps.ensures.node) c.no_exps.ensures.levels }
 
 pub suffix::listed-returns-in_err-items-clause-reads : goal.suffix::listed-returns-in_err-items-clause-reads
 suffix::listed-returns-in_err-items-clause-reads t c =
-    failed_by (fails _ (picked (starts listed c.args.room c.args.cursor.now) c.if-is.ensures.more) (sym c.if-is.ensures.is)) c.in_err-items.ensures.reads (search rules)
+    failed_by (fails _ (picked (starts listed c.args.room.max c.args.cursor.now) c.if-is.ensures.more) (sym c.if-is.ensures.is)) c.in_err-items.ensures.reads (search rules)
 
 pub suffix::listed-returns-in_err-expect-clause-reads : goal.suffix::listed-returns-in_err-expect-clause-reads
 suffix::listed-returns-in_err-expect-clause-reads t c =
-    failed_by (found (fails _ (picked (starts listed c.args.room c.args.cursor.now) c.if-is.ensures.more) (sym c.if-is.ensures.is)) (c.in_ok-items.ensures.reads.tells)) c.in_err-expect.ensures.reads (search rules)
+    failed_by (found (fails _ (picked (starts listed c.args.room.max c.args.cursor.now) c.if-is.ensures.more) (sym c.if-is.ensures.is)) (c.in_ok-items.ensures.reads.tells)) c.in_err-expect.ensures.reads (search rules)
 
 pub suffix::listed-returns-clause-reads : goal.suffix::listed-returns-clause-reads
 suffix::listed-returns-clause-reads t c =
-    record { tells = ended_as (found (found (fails _ (picked (starts listed c.args.room c.args.cursor.now) c.if-is.ensures.more) (sym c.if-is.ensures.is)) (c.in_ok-items.ensures.reads.tells)) (c.in_ok-expect.ensures.reads.tells)) (refl) (refl) }
+    record { tells = ended_as (found (found (fails _ (picked (starts listed c.args.room.max c.args.cursor.now) c.if-is.ensures.more) (sym c.if-is.ensures.is)) (c.in_ok-items.ensures.reads.tells)) (c.in_ok-expect.ensures.reads.tells)) (refl) (refl) }
 
 pub table::table-returns-in_err-line-clause-reads : goal.table::table-returns-in_err-line-clause-reads
-table::table-returns-in_err-line-clause-reads t c = failed_by (starts table c.args.room c.args.cursor.now) c.in_err-line.ensures.reads (search rules)
+table::table-returns-in_err-line-clause-reads t c = failed_by (starts table c.args.room.max c.args.cursor.now) c.in_err-line.ensures.reads (search rules)
 
 pub table::table-returns-in_err-fields-clause-reads : goal.table::table-returns-in_err-fields-clause-reads
-table::table-returns-in_err-fields-clause-reads t c = failed_by (found (starts table c.args.room c.args.cursor.now) (c.in_ok-line.ensures.reads.tells)) c.in_err-fields.ensures.reads (search rules)
+table::table-returns-in_err-fields-clause-reads t c = failed_by (found (starts table c.args.room.max c.args.cursor.now) (c.in_ok-line.ensures.reads.tells)) c.in_err-fields.ensures.reads (search rules)
 
 pub table::table-returns-clause-reads : goal.table::table-returns-clause-reads
 table::table-returns-clause-reads t c =
-    record { tells = ended_as (found (found (starts table c.args.room c.args.cursor.now) (c.in_ok-line.ensures.reads.tells)) (c.in_ok-fields.ensures.reads.tells)) (ap an_exp c.in_ok-table.ensures.node) c.in_ok-table.ensures.levels }
+    record { tells = ended_as (found (found (starts table c.args.room.max c.args.cursor.now) (c.in_ok-line.ensures.reads.tells)) (c.in_ok-fields.ensures.reads.tells)) (ap an_exp c.in_ok-table.ensures.node) c.in_ok-table.ensures.levels }
 
 pub table::separated_field-returns-in_err-field-clause-reads : goal.table::separated_field-returns-in_err-field-clause-reads
-table::separated_field-returns-in_err-field-clause-reads t c = failed_by (starts separated_field c.args.room c.args.cursor.now) c.in_err-field.ensures.reads (search rules)
+table::separated_field-returns-in_err-field-clause-reads t c = failed_by (starts separated_field c.args.room.max c.args.cursor.now) c.in_err-field.ensures.reads (search rules)
 
 pub table::separated_field-returns-then-is_separator-clause-reads : goal.table::separated_field-returns-then-is_separator-clause-reads
 table::separated_field-returns-then-is_separator-clause-reads = expressions.table::separated_field-returns-then-is_separator-clause-reads
@@ -171,24 +171,24 @@ table::separated_field-returns-clause-reads = expressions.table::separated_field
 
 pub table::field-returns-then-is-clause-reads : goal.table::field-returns-then-is-clause-reads
 table::field-returns-then-is-clause-reads t c =
-    answered (into (holds _ (picked (starts field c.args.room c.args.cursor.now) c.if-is.ensures.more) (sym c.if-is.ensures.is))) c.keyed.result c.keyed.ensures.reads
+    answered (into (holds _ (picked (starts field c.args.room.max c.args.cursor.now) c.if-is.ensures.more) (sym c.if-is.ensures.is))) c.keyed.result c.keyed.ensures.reads
 
 pub table::field-returns-clause-reads : goal.table::field-returns-clause-reads
-table::field-returns-clause-reads t c = answered (into (fails _ (picked (starts field c.args.room c.args.cursor.now) c.if-is.ensures.more) (sym c.if-is.ensures.is))) c.item.result c.item.ensures.reads
+table::field-returns-clause-reads t c = answered (into (fails _ (picked (starts field c.args.room.max c.args.cursor.now) c.if-is.ensures.more) (sym c.if-is.ensures.is))) c.item.result c.item.ensures.reads
 
 pub table::keyed-returns-in_err-line-clause-reads : goal.table::keyed-returns-in_err-line-clause-reads
-table::keyed-returns-in_err-line-clause-reads t c = failed_by (starts keyed c.args.room c.args.cursor.now) c.in_err-line.ensures.reads (search rules)
+table::keyed-returns-in_err-line-clause-reads t c = failed_by (starts keyed c.args.room.max c.args.cursor.now) c.in_err-line.ensures.reads (search rules)
 
 pub table::keyed-returns-in_err-key-clause-reads : goal.table::keyed-returns-in_err-key-clause-reads
-table::keyed-returns-in_err-key-clause-reads t c = failed_by (found (starts keyed c.args.room c.args.cursor.now) (c.in_ok-line.ensures.reads.tells)) c.in_err-key.ensures.reads (search rules)
+table::keyed-returns-in_err-key-clause-reads t c = failed_by (found (starts keyed c.args.room.max c.args.cursor.now) (c.in_ok-line.ensures.reads.tells)) c.in_err-key.ensures.reads (search rules)
 
 pub table::keyed-returns-in_err-expect-clause-reads : goal.table::keyed-returns-in_err-expect-clause-reads
 table::keyed-returns-in_err-expect-clause-reads t c =
-    failed_by (found (found (starts keyed c.args.room c.args.cursor.now) (c.in_ok-line.ensures.reads.tells)) (c.in_ok-key.ensures.reads.tells)) c.in_err-expect.ensures.reads (search rules)
+    failed_by (found (found (starts keyed c.args.room.max c.args.cursor.now) (c.in_ok-line.ensures.reads.tells)) (c.in_ok-key.ensures.reads.tells)) c.in_err-expect.ensures.reads (search rules)
 
 pub table::keyed-returns-in_err-expect-2-clause-reads : goal.table::keyed-returns-in_err-expect-2-clause-reads
 table::keyed-returns-in_err-expect-2-clause-reads t c =
-    failed_by (found (found (found (starts keyed c.args.room c.args.cursor.now) (c.in_ok-line.ensures.reads.tells)) (c.in_ok-key.ensures.reads.tells)) (c.in_ok-expect.ensures.reads.tells)) c.in_err-expect-2.ensures.reads (search rules)
+    failed_by (found (found (found (starts keyed c.args.room.max c.args.cursor.now) (c.in_ok-line.ensures.reads.tells)) (c.in_ok-key.ensures.reads.tells)) (c.in_ok-expect.ensures.reads.tells)) c.in_err-expect-2.ensures.reads (search rules)
 
 pub table::keyed-returns-in_err-value-clause-reads : goal.table::keyed-returns-in_err-value-clause-reads
 table::keyed-returns-in_err-value-clause-reads = expressions.table::keyed-returns-in_err-value-clause-reads
@@ -197,11 +197,11 @@ pub table::keyed-returns-clause-reads : goal.table::keyed-returns-clause-reads
 table::keyed-returns-clause-reads = expressions.table::keyed-returns-clause-reads
 
 pub table::item-returns-in_err-first-clause-reads : goal.table::item-returns-in_err-first-clause-reads
-table::item-returns-in_err-first-clause-reads t c = failed_by (starts item c.args.room c.args.cursor.now) c.in_err-first.ensures.reads (search rules)
+table::item-returns-in_err-first-clause-reads t c = failed_by (starts item c.args.room.max c.args.cursor.now) c.in_err-first.ensures.reads (search rules)
 
 pub table::item-returns-then-not-is-clause-reads : goal.table::item-returns-then-not-is-clause-reads
 table::item-returns-then-not-is-clause-reads t c =
-    record { tells = ended_as (fails _ (picked (found (starts item c.args.room c.args.cursor.now) (c.in_ok-first.ensures.reads.tells)) c.if-not-is.ensures.more) (sym c.if-not-is.ensures.is)) (ap a_field c.item.ensures.node) c.item.ensures.levels }
+    record { tells = ended_as (fails _ (picked (found (starts item c.args.room.max c.args.cursor.now) (c.in_ok-first.ensures.reads.tells)) c.if-not-is.ensures.more) (sym c.if-not-is.ensures.is)) (ap a_field c.item.ensures.node) c.item.ensures.levels }
 
 pub table::item-returns-in_default-clause-reads : goal.table::item-returns-in_default-clause-reads
 table::item-returns-in_default-clause-reads = expressions.table::item-returns-in_default-clause-reads
@@ -213,19 +213,19 @@ pub table::item-returns-clause-reads : goal.table::item-returns-clause-reads
 table::item-returns-clause-reads = expressions.table::item-returns-clause-reads
 
 pub function::body-returns-in_err-open-clause-reads : goal.function::body-returns-in_err-open-clause-reads
-function::body-returns-in_err-open-clause-reads t c = failed_by (starts (body c.args.line c.args.own.items) c.args.room c.args.cursor.now) c.in_err-open.ensures.reads (search rules)
+function::body-returns-in_err-open-clause-reads t c = failed_by (starts (body c.args.line c.args.own.items) c.args.room.max c.args.cursor.now) c.in_err-open.ensures.reads (search rules)
 
 pub function::body-returns-in_err-params-clause-reads : goal.function::body-returns-in_err-params-clause-reads
 function::body-returns-in_err-params-clause-reads t c =
-    failed_by (found (starts (body c.args.line c.args.own.items) c.args.room c.args.cursor.now) (c.in_ok-open.ensures.reads.tells)) c.in_err-params.ensures.reads (search rules)
+    failed_by (found (starts (body c.args.line c.args.own.items) c.args.room.max c.args.cursor.now) (c.in_ok-open.ensures.reads.tells)) c.in_err-params.ensures.reads (search rules)
 
 pub function::body-returns-in_err-open-2-clause-reads : goal.function::body-returns-in_err-open-2-clause-reads
 function::body-returns-in_err-open-2-clause-reads t c =
-    failed_by (found (found (starts (body c.args.line c.args.own.items) c.args.room c.args.cursor.now) (c.in_ok-open.ensures.reads.tells)) (c.in_ok-params.ensures.reads.tells)) c.in_err-open-2.ensures.reads (search rules)
+    failed_by (found (found (starts (body c.args.line c.args.own.items) c.args.room.max c.args.cursor.now) (c.in_ok-open.ensures.reads.tells)) (c.in_ok-params.ensures.reads.tells)) c.in_err-open-2.ensures.reads (search rules)
 
 pub function::body-returns-in_err-inner-clause-reads : goal.function::body-returns-in_err-inner-clause-reads
 function::body-returns-in_err-inner-clause-reads t c =
-    failed_by (found (found (found (starts (body c.args.line c.args.own.items) c.args.room c.args.cursor.now) (c.in_ok-open.ensures.reads.tells)) (c.in_ok-params.ensures.reads.tells)) (c.in_ok-open-2.ensures.reads.tells)) c.in_err-inner.ensures.reads (search rules)
+    failed_by (found (found (found (starts (body c.args.line c.args.own.items) c.args.room.max c.args.cursor.now) (c.in_ok-open.ensures.reads.tells)) (c.in_ok-params.ensures.reads.tells)) (c.in_ok-open-2.ensures.reads.tells)) c.in_err-inner.ensures.reads (search rules)
 
 pub function::body-returns-in_err-expect-clause-reads : goal.function::body-returns-in_err-expect-clause-reads
 function::body-returns-in_err-expect-clause-reads = statements.function::body-returns-in_err-expect-clause-reads
@@ -235,14 +235,14 @@ function::body-returns-clause-reads = statements.function::body-returns-clause-r
 
 pub block::returned-returns-then-ends_block-clause-reads : goal.block::returned-returns-then-ends_block-clause-reads
 block::returned-returns-then-ends_block-clause-reads t c =
-    record { tells = ended_as (holds _ (picked (starts returned c.args.room c.args.cursor.now) c.peek.ensures.more) (ap ends_block (sym c.peek.ensures.is) ∙ sym c.if-ends_block.ensures)) (ap some_exps c.no_exps.ensures.node) c.no_exps.ensures.levels }
+    record { tells = ended_as (holds _ (picked (starts returned c.args.room.max c.args.cursor.now) c.peek.ensures.more) (ap ends_block (sym c.peek.ensures.is) ∙ sym c.if-ends_block.ensures)) (ap some_exps c.no_exps.ensures.node) c.no_exps.ensures.levels }
 
 pub block::returned-returns-then-is-clause-reads : goal.block::returned-returns-then-is-clause-reads
 block::returned-returns-then-is-clause-reads = statements.block::returned-returns-then-is-clause-reads
 
 pub block::returned-returns-in_err-values-clause-reads : goal.block::returned-returns-in_err-values-clause-reads
 block::returned-returns-in_err-values-clause-reads t c =
-    failed_by (fails _ (fails _ (picked (starts returned c.args.room c.args.cursor.now) c.peek.ensures.more) (ap ends_block (sym c.peek.ensures.is) ∙ sym c.if-ends_block.ensures)) (sym c.if-is.ensures.is)) c.in_err-values.ensures.reads (search rules)
+    failed_by (fails _ (fails _ (picked (starts returned c.args.room.max c.args.cursor.now) c.peek.ensures.more) (ap ends_block (sym c.peek.ensures.is) ∙ sym c.if-ends_block.ensures)) (sym c.if-is.ensures.is)) c.in_err-values.ensures.reads (search rules)
 
 pub block::returned-returns-then-not-is-clause-reads : goal.block::returned-returns-then-not-is-clause-reads
 block::returned-returns-then-not-is-clause-reads = statements.block::returned-returns-then-not-is-clause-reads
@@ -251,55 +251,55 @@ pub block::returned-returns-clause-reads : goal.block::returned-returns-clause-r
 block::returned-returns-clause-reads = statements.block::returned-returns-clause-reads
 
 pub block::do_block-returns-in_err-open-clause-reads : goal.block::do_block-returns-in_err-open-clause-reads
-block::do_block-returns-in_err-open-clause-reads t c = failed_by (starts do_block c.args.room c.args.cursor.now) c.in_err-open.ensures.reads (search rules)
+block::do_block-returns-in_err-open-clause-reads t c = failed_by (starts do_block c.args.room.max c.args.cursor.now) c.in_err-open.ensures.reads (search rules)
 
 pub block::do_block-returns-in_err-inner-clause-reads : goal.block::do_block-returns-in_err-inner-clause-reads
-block::do_block-returns-in_err-inner-clause-reads t c = failed_by (found (starts do_block c.args.room c.args.cursor.now) (c.in_ok-open.ensures.reads.tells)) c.in_err-inner.ensures.reads (search rules)
+block::do_block-returns-in_err-inner-clause-reads t c = failed_by (found (starts do_block c.args.room.max c.args.cursor.now) (c.in_ok-open.ensures.reads.tells)) c.in_err-inner.ensures.reads (search rules)
 
 pub block::do_block-returns-in_err-expect-clause-reads : goal.block::do_block-returns-in_err-expect-clause-reads
 block::do_block-returns-in_err-expect-clause-reads t c =
-    failed_by (found (found (starts do_block c.args.room c.args.cursor.now) (c.in_ok-open.ensures.reads.tells)) (c.in_ok-inner.ensures.reads.tells)) c.in_err-expect.ensures.reads (search rules)
+    failed_by (found (found (starts do_block c.args.room.max c.args.cursor.now) (c.in_ok-open.ensures.reads.tells)) (c.in_ok-inner.ensures.reads.tells)) c.in_err-expect.ensures.reads (search rules)
 
 pub block::do_block-returns-clause-reads : goal.block::do_block-returns-clause-reads
 block::do_block-returns-clause-reads t c =
-    record { tells = ended_as (found (found (found (starts do_block c.args.room c.args.cursor.now) (c.in_ok-open.ensures.reads.tells)) (c.in_ok-inner.ensures.reads.tells)) (c.in_ok-expect.ensures.reads.tells)) (ap a_block c.deeper.ensures.node) c.deeper.ensures.levels }
+    record { tells = ended_as (found (found (found (starts do_block c.args.room.max c.args.cursor.now) (c.in_ok-open.ensures.reads.tells)) (c.in_ok-inner.ensures.reads.tells)) (c.in_ok-expect.ensures.reads.tells)) (ap a_block c.deeper.ensures.node) c.deeper.ensures.levels }
 
 pub statement::do_stat-returns-in_err-inner-clause-reads : goal.statement::do_stat-returns-in_err-inner-clause-reads
 statement::do_stat-returns-in_err-inner-clause-reads t c =
-    failed_by (rw (← c.line-line.ensures.is) at (picked (starts do_stat c.args.room c.args.cursor.now) c.line-line.ensures.more)) c.in_err-inner.ensures.reads (search rules)
+    failed_by (rw (← c.line-line.ensures.is) at (picked (starts do_stat c.args.room.max c.args.cursor.now) c.line-line.ensures.more)) c.in_err-inner.ensures.reads (search rules)
 
 pub statement::do_stat-returns-clause-reads : goal.statement::do_stat-returns-clause-reads
 statement::do_stat-returns-clause-reads t c =
-    record { tells = ended_as (found (rw (← c.line-line.ensures.is) at (picked (starts do_stat c.args.room c.args.cursor.now) c.line-line.ensures.more)) (c.in_ok-inner.ensures.reads.tells)) (ap a_stat c.in_ok-do_stat.ensures.node) c.in_ok-do_stat.ensures.levels }
+    record { tells = ended_as (found (rw (← c.line-line.ensures.is) at (picked (starts do_stat c.args.room.max c.args.cursor.now) c.line-line.ensures.more)) (c.in_ok-inner.ensures.reads.tells)) (ap a_stat c.in_ok-do_stat.ensures.node) c.in_ok-do_stat.ensures.levels }
 
 pub statement::while_stat-returns-in_err-line-clause-reads : goal.statement::while_stat-returns-in_err-line-clause-reads
-statement::while_stat-returns-in_err-line-clause-reads t c = failed_by (starts while_stat c.args.room c.args.cursor.now) c.in_err-line.ensures.reads (search rules)
+statement::while_stat-returns-in_err-line-clause-reads t c = failed_by (starts while_stat c.args.room.max c.args.cursor.now) c.in_err-line.ensures.reads (search rules)
 
 pub statement::while_stat-returns-in_err-test-clause-reads : goal.statement::while_stat-returns-in_err-test-clause-reads
 statement::while_stat-returns-in_err-test-clause-reads t c =
-    failed_by (found (starts while_stat c.args.room c.args.cursor.now) (c.in_ok-line.ensures.reads.tells)) c.in_err-test.ensures.reads (search rules)
+    failed_by (found (starts while_stat c.args.room.max c.args.cursor.now) (c.in_ok-line.ensures.reads.tells)) c.in_err-test.ensures.reads (search rules)
 
 pub statement::while_stat-returns-in_err-inner-clause-reads : goal.statement::while_stat-returns-in_err-inner-clause-reads
 statement::while_stat-returns-in_err-inner-clause-reads t c =
-    failed_by (found (found (starts while_stat c.args.room c.args.cursor.now) (c.in_ok-line.ensures.reads.tells)) (c.in_ok-test.ensures.reads.tells)) c.in_err-inner.ensures.reads (search rules)
+    failed_by (found (found (starts while_stat c.args.room.max c.args.cursor.now) (c.in_ok-line.ensures.reads.tells)) (c.in_ok-test.ensures.reads.tells)) c.in_err-inner.ensures.reads (search rules)
 
 pub statement::while_stat-returns-clause-reads : goal.statement::while_stat-returns-clause-reads
 statement::while_stat-returns-clause-reads = statements.statement::while_stat-returns-clause-reads
 
 pub statement::repeat_stat-returns-in_err-line-clause-reads : goal.statement::repeat_stat-returns-in_err-line-clause-reads
-statement::repeat_stat-returns-in_err-line-clause-reads t c = failed_by (starts repeat_stat c.args.room c.args.cursor.now) c.in_err-line.ensures.reads (search rules)
+statement::repeat_stat-returns-in_err-line-clause-reads t c = failed_by (starts repeat_stat c.args.room.max c.args.cursor.now) c.in_err-line.ensures.reads (search rules)
 
 pub statement::repeat_stat-returns-in_err-inner-clause-reads : goal.statement::repeat_stat-returns-in_err-inner-clause-reads
 statement::repeat_stat-returns-in_err-inner-clause-reads t c =
-    failed_by (found (starts repeat_stat c.args.room c.args.cursor.now) (c.in_ok-line.ensures.reads.tells)) c.in_err-inner.ensures.reads (search rules)
+    failed_by (found (starts repeat_stat c.args.room.max c.args.cursor.now) (c.in_ok-line.ensures.reads.tells)) c.in_err-inner.ensures.reads (search rules)
 
 pub statement::repeat_stat-returns-in_err-expect-clause-reads : goal.statement::repeat_stat-returns-in_err-expect-clause-reads
 statement::repeat_stat-returns-in_err-expect-clause-reads t c =
-    failed_by (found (found (starts repeat_stat c.args.room c.args.cursor.now) (c.in_ok-line.ensures.reads.tells)) (c.in_ok-inner.ensures.reads.tells)) c.in_err-expect.ensures.reads (search rules)
+    failed_by (found (found (starts repeat_stat c.args.room.max c.args.cursor.now) (c.in_ok-line.ensures.reads.tells)) (c.in_ok-inner.ensures.reads.tells)) c.in_err-expect.ensures.reads (search rules)
 
 pub statement::repeat_stat-returns-in_err-test-clause-reads : goal.statement::repeat_stat-returns-in_err-test-clause-reads
 statement::repeat_stat-returns-in_err-test-clause-reads t c =
-    failed_by (found (found (found (starts repeat_stat c.args.room c.args.cursor.now) (c.in_ok-line.ensures.reads.tells)) (c.in_ok-inner.ensures.reads.tells)) (c.in_ok-expect.ensures.reads.tells)) c.in_err-test.ensures.reads (search rules)
+    failed_by (found (found (found (starts repeat_stat c.args.room.max c.args.cursor.now) (c.in_ok-line.ensures.reads.tells)) (c.in_ok-inner.ensures.reads.tells)) (c.in_ok-expect.ensures.reads.tells)) c.in_err-test.ensures.reads (search rules)
 
 pub statement::repeat_stat-returns-clause-reads : goal.statement::repeat_stat-returns-clause-reads
 statement::repeat_stat-returns-clause-reads = statements.statement::repeat_stat-returns-clause-reads
@@ -341,80 +341,80 @@ pub statement::statement-returns-in-Break-clause-reads : goal.statement::stateme
 statement::statement-returns-in-Break-clause-reads = statements.statement::statement-returns-in-Break-clause-reads
 
 pub branch::if_stat-returns-in_err-line-clause-reads : goal.branch::if_stat-returns-in_err-line-clause-reads
-branch::if_stat-returns-in_err-line-clause-reads t c = failed_by (starts if_stat c.args.room c.args.cursor.now) c.in_err-line.ensures.reads (search rules)
+branch::if_stat-returns-in_err-line-clause-reads t c = failed_by (starts if_stat c.args.room.max c.args.cursor.now) c.in_err-line.ensures.reads (search rules)
 
 pub branch::if_stat-returns-in_err-arms-clause-reads : goal.branch::if_stat-returns-in_err-arms-clause-reads
-branch::if_stat-returns-in_err-arms-clause-reads t c = failed_by (found (starts if_stat c.args.room c.args.cursor.now) (c.in_ok-line.ensures.reads.tells)) c.in_err-arms.ensures.reads (search rules)
+branch::if_stat-returns-in_err-arms-clause-reads t c = failed_by (found (starts if_stat c.args.room.max c.args.cursor.now) (c.in_ok-line.ensures.reads.tells)) c.in_err-arms.ensures.reads (search rules)
 
 pub branch::if_stat-returns-in_err-other-clause-reads : goal.branch::if_stat-returns-in_err-other-clause-reads
 branch::if_stat-returns-in_err-other-clause-reads t c =
-    failed_by (found (found (starts if_stat c.args.room c.args.cursor.now) (c.in_ok-line.ensures.reads.tells)) (c.in_ok-arms.ensures.reads.tells)) c.in_err-other.ensures.reads (search rules)
+    failed_by (found (found (starts if_stat c.args.room.max c.args.cursor.now) (c.in_ok-line.ensures.reads.tells)) (c.in_ok-arms.ensures.reads.tells)) c.in_err-other.ensures.reads (search rules)
 
 pub branch::if_stat-returns-in_err-expect-clause-reads : goal.branch::if_stat-returns-in_err-expect-clause-reads
 branch::if_stat-returns-in_err-expect-clause-reads t c =
-    failed_by (found (found (found (starts if_stat c.args.room c.args.cursor.now) (c.in_ok-line.ensures.reads.tells)) (c.in_ok-arms.ensures.reads.tells)) (c.in_ok-other.ensures.reads.tells)) c.in_err-expect.ensures.reads (search rules)
+    failed_by (found (found (found (starts if_stat c.args.room.max c.args.cursor.now) (c.in_ok-line.ensures.reads.tells)) (c.in_ok-arms.ensures.reads.tells)) (c.in_ok-other.ensures.reads.tells)) c.in_err-expect.ensures.reads (search rules)
 
 pub branch::if_stat-returns-clause-reads : goal.branch::if_stat-returns-clause-reads
 branch::if_stat-returns-clause-reads = statements.branch::if_stat-returns-clause-reads
 
 pub branch::arm-returns-in_err-test-clause-reads : goal.branch::arm-returns-in_err-test-clause-reads
-branch::arm-returns-in_err-test-clause-reads t c = failed_by (starts arm c.args.room c.args.cursor.now) c.in_err-test.ensures.reads (search rules)
+branch::arm-returns-in_err-test-clause-reads t c = failed_by (starts arm c.args.room.max c.args.cursor.now) c.in_err-test.ensures.reads (search rules)
 
 pub branch::arm-returns-in_err-open-clause-reads : goal.branch::arm-returns-in_err-open-clause-reads
-branch::arm-returns-in_err-open-clause-reads t c = failed_by (found (starts arm c.args.room c.args.cursor.now) (c.in_ok-test.ensures.reads.tells)) c.in_err-open.ensures.reads (search rules)
+branch::arm-returns-in_err-open-clause-reads t c = failed_by (found (starts arm c.args.room.max c.args.cursor.now) (c.in_ok-test.ensures.reads.tells)) c.in_err-open.ensures.reads (search rules)
 
 pub branch::arm-returns-in_err-inner-clause-reads : goal.branch::arm-returns-in_err-inner-clause-reads
 branch::arm-returns-in_err-inner-clause-reads t c =
-    failed_by (found (found (starts arm c.args.room c.args.cursor.now) (c.in_ok-test.ensures.reads.tells)) (c.in_ok-open.ensures.reads.tells)) c.in_err-inner.ensures.reads (search rules)
+    failed_by (found (found (starts arm c.args.room.max c.args.cursor.now) (c.in_ok-test.ensures.reads.tells)) (c.in_ok-open.ensures.reads.tells)) c.in_err-inner.ensures.reads (search rules)
 
 pub branch::arm-returns-clause-reads : goal.branch::arm-returns-clause-reads
 branch::arm-returns-clause-reads = statements.branch::arm-returns-clause-reads
 
 pub branch::else_part-returns-then-not-is-clause-reads : goal.branch::else_part-returns-then-not-is-clause-reads
 branch::else_part-returns-then-not-is-clause-reads t c =
-    record { tells = ended_as (fails _ (picked (starts else_part c.args.room c.args.cursor.now) c.if-not-is.ensures.more) (sym c.if-not-is.ensures.is)) (refl) (refl) }
+    record { tells = ended_as (fails _ (picked (starts else_part c.args.room.max c.args.cursor.now) c.if-not-is.ensures.more) (sym c.if-not-is.ensures.is)) (refl) (refl) }
 
 pub branch::else_part-returns-in_err-open-clause-reads : goal.branch::else_part-returns-in_err-open-clause-reads
 branch::else_part-returns-in_err-open-clause-reads t c =
-    failed_by (holds _ (picked (starts else_part c.args.room c.args.cursor.now) c.if-not-is.ensures.more) (sym c.if-not-is.ensures.is)) c.in_err-open.ensures.reads (search rules)
+    failed_by (holds _ (picked (starts else_part c.args.room.max c.args.cursor.now) c.if-not-is.ensures.more) (sym c.if-not-is.ensures.is)) c.in_err-open.ensures.reads (search rules)
 
 pub branch::else_part-returns-in_err-inner-clause-reads : goal.branch::else_part-returns-in_err-inner-clause-reads
 branch::else_part-returns-in_err-inner-clause-reads t c =
-    failed_by (found (holds _ (picked (starts else_part c.args.room c.args.cursor.now) c.if-not-is.ensures.more) (sym c.if-not-is.ensures.is)) (c.in_ok-open.ensures.reads.tells)) c.in_err-inner.ensures.reads (search rules)
+    failed_by (found (holds _ (picked (starts else_part c.args.room.max c.args.cursor.now) c.if-not-is.ensures.more) (sym c.if-not-is.ensures.is)) (c.in_ok-open.ensures.reads.tells)) c.in_err-inner.ensures.reads (search rules)
 
 pub branch::else_part-returns-clause-reads : goal.branch::else_part-returns-clause-reads
 branch::else_part-returns-clause-reads t c =
-    record { tells = ended_as (found (found (holds _ (picked (starts else_part c.args.room c.args.cursor.now) c.if-not-is.ensures.more) (sym c.if-not-is.ensures.is)) (c.in_ok-open.ensures.reads.tells)) (c.in_ok-inner.ensures.reads.tells)) (refl) (refl) }
+    record { tells = ended_as (found (found (holds _ (picked (starts else_part c.args.room.max c.args.cursor.now) c.if-not-is.ensures.more) (sym c.if-not-is.ensures.is)) (c.in_ok-open.ensures.reads.tells)) (c.in_ok-inner.ensures.reads.tells)) (refl) (refl) }
 
 pub repetition::for_stat-returns-in_err-line-clause-reads : goal.repetition::for_stat-returns-in_err-line-clause-reads
-repetition::for_stat-returns-in_err-line-clause-reads t c = failed_by (starts for_stat c.args.room c.args.cursor.now) c.in_err-line.ensures.reads (search rules)
+repetition::for_stat-returns-in_err-line-clause-reads t c = failed_by (starts for_stat c.args.room.max c.args.cursor.now) c.in_err-line.ensures.reads (search rules)
 
 pub repetition::for_stat-returns-in_err-first-clause-reads : goal.repetition::for_stat-returns-in_err-first-clause-reads
 repetition::for_stat-returns-in_err-first-clause-reads t c =
-    failed_by (found (starts for_stat c.args.room c.args.cursor.now) (c.in_ok-line.ensures.reads.tells)) c.in_err-first.ensures.reads (search rules)
+    failed_by (found (starts for_stat c.args.room.max c.args.cursor.now) (c.in_ok-line.ensures.reads.tells)) c.in_err-first.ensures.reads (search rules)
 
 pub repetition::for_stat-returns-then-is-clause-reads : goal.repetition::for_stat-returns-then-is-clause-reads
 repetition::for_stat-returns-then-is-clause-reads t c =
-    answered (into (holds _ (picked (found (found (starts for_stat c.args.room c.args.cursor.now) (c.in_ok-line.ensures.reads.tells)) (c.in_ok-first.ensures.reads.tells)) c.if-is.ensures.more) (sym c.if-is.ensures.is))) c.numeric.result c.numeric.ensures.reads
+    answered (into (holds _ (picked (found (found (starts for_stat c.args.room.max c.args.cursor.now) (c.in_ok-line.ensures.reads.tells)) (c.in_ok-first.ensures.reads.tells)) c.if-is.ensures.more) (sym c.if-is.ensures.is))) c.numeric.result c.numeric.ensures.reads
 
 pub repetition::for_stat-returns-clause-reads : goal.repetition::for_stat-returns-clause-reads
 repetition::for_stat-returns-clause-reads t c =
-    answered (into (fails _ (picked (found (found (starts for_stat c.args.room c.args.cursor.now) (c.in_ok-line.ensures.reads.tells)) (c.in_ok-first.ensures.reads.tells)) c.if-is.ensures.more) (sym c.if-is.ensures.is))) c.generic.result c.generic.ensures.reads
+    answered (into (fails _ (picked (found (found (starts for_stat c.args.room.max c.args.cursor.now) (c.in_ok-line.ensures.reads.tells)) (c.in_ok-first.ensures.reads.tells)) c.if-is.ensures.more) (sym c.if-is.ensures.is))) c.generic.result c.generic.ensures.reads
 
 pub repetition::numeric-returns-in_err-expect-clause-reads : goal.repetition::numeric-returns-in_err-expect-clause-reads
-repetition::numeric-returns-in_err-expect-clause-reads t c = failed_by (starts (numeric c.args.line c.args.name) c.args.room c.args.cursor.now) c.in_err-expect.ensures.reads (search rules)
+repetition::numeric-returns-in_err-expect-clause-reads t c = failed_by (starts (numeric c.args.line c.args.name) c.args.room.max c.args.cursor.now) c.in_err-expect.ensures.reads (search rules)
 
 pub repetition::numeric-returns-in_err-first-clause-reads : goal.repetition::numeric-returns-in_err-first-clause-reads
 repetition::numeric-returns-in_err-first-clause-reads t c =
-    failed_by (found (starts (numeric c.args.line c.args.name) c.args.room c.args.cursor.now) (c.in_ok-expect.ensures.reads.tells)) c.in_err-first.ensures.reads (search rules)
+    failed_by (found (starts (numeric c.args.line c.args.name) c.args.room.max c.args.cursor.now) (c.in_ok-expect.ensures.reads.tells)) c.in_err-first.ensures.reads (search rules)
 
 pub repetition::numeric-returns-in_err-expect-2-clause-reads : goal.repetition::numeric-returns-in_err-expect-2-clause-reads
 repetition::numeric-returns-in_err-expect-2-clause-reads t c =
-    failed_by (found (found (starts (numeric c.args.line c.args.name) c.args.room c.args.cursor.now) (c.in_ok-expect.ensures.reads.tells)) (c.in_ok-first.ensures.reads.tells)) c.in_err-expect-2.ensures.reads (search rules)
+    failed_by (found (found (starts (numeric c.args.line c.args.name) c.args.room.max c.args.cursor.now) (c.in_ok-expect.ensures.reads.tells)) (c.in_ok-first.ensures.reads.tells)) c.in_err-expect-2.ensures.reads (search rules)
 
 pub repetition::numeric-returns-in_err-limit-clause-reads : goal.repetition::numeric-returns-in_err-limit-clause-reads
 repetition::numeric-returns-in_err-limit-clause-reads t c =
-    failed_by (found (found (found (starts (numeric c.args.line c.args.name) c.args.room c.args.cursor.now) (c.in_ok-expect.ensures.reads.tells)) (c.in_ok-first.ensures.reads.tells)) (c.in_ok-expect-2.ensures.reads.tells)) c.in_err-limit.ensures.reads (search rules)
+    failed_by (found (found (found (starts (numeric c.args.line c.args.name) c.args.room.max c.args.cursor.now) (c.in_ok-expect.ensures.reads.tells)) (c.in_ok-first.ensures.reads.tells)) (c.in_ok-expect-2.ensures.reads.tells)) c.in_err-limit.ensures.reads (search rules)
 
 pub repetition::numeric-returns-in_err-step-clause-reads : goal.repetition::numeric-returns-in_err-step-clause-reads
 repetition::numeric-returns-in_err-step-clause-reads = statements.repetition::numeric-returns-in_err-step-clause-reads
@@ -427,65 +427,65 @@ repetition::numeric-returns-clause-reads = statements.repetition::numeric-return
 
 pub repetition::step-returns-then-not-is-clause-reads : goal.repetition::step-returns-then-not-is-clause-reads
 repetition::step-returns-then-not-is-clause-reads t c =
-    record { tells = ended_as (fails _ (picked (starts step c.args.room c.args.cursor.now) c.if-not-is.ensures.more) (sym c.if-not-is.ensures.is)) (refl) (refl) }
+    record { tells = ended_as (fails _ (picked (starts step c.args.room.max c.args.cursor.now) c.if-not-is.ensures.more) (sym c.if-not-is.ensures.is)) (refl) (refl) }
 
 pub repetition::step-returns-in_err-value-clause-reads : goal.repetition::step-returns-in_err-value-clause-reads
 repetition::step-returns-in_err-value-clause-reads t c =
-    failed_by (passed (holds _ (picked (starts step c.args.room c.args.cursor.now) c.if-not-is.ensures.more) (sym c.if-not-is.ensures.is)) c.if-not-is.ensures.more (c.skip.ensures)) c.in_err-value.ensures.reads (search rules)
+    failed_by (passed (holds _ (picked (starts step c.args.room.max c.args.cursor.now) c.if-not-is.ensures.more) (sym c.if-not-is.ensures.is)) c.if-not-is.ensures.more (c.skip.ensures)) c.in_err-value.ensures.reads (search rules)
 
 pub repetition::step-returns-clause-reads : goal.repetition::step-returns-clause-reads
 repetition::step-returns-clause-reads t c =
-    record { tells = ended_as (found (passed (holds _ (picked (starts step c.args.room c.args.cursor.now) c.if-not-is.ensures.more) (sym c.if-not-is.ensures.is)) c.if-not-is.ensures.more (c.skip.ensures)) (c.in_ok-value.ensures.reads.tells)) (refl) (refl) }
+    record { tells = ended_as (found (passed (holds _ (picked (starts step c.args.room.max c.args.cursor.now) c.if-not-is.ensures.more) (sym c.if-not-is.ensures.is)) c.if-not-is.ensures.more (c.skip.ensures)) (c.in_ok-value.ensures.reads.tells)) (refl) (refl) }
 
 pub repetition::generic-returns-in_err-names-clause-reads : goal.repetition::generic-returns-in_err-names-clause-reads
-repetition::generic-returns-in_err-names-clause-reads t c = failed_by (starts (generic c.args.line c.args.first) c.args.room c.args.cursor.now) c.in_err-names.ensures.reads (search rules)
+repetition::generic-returns-in_err-names-clause-reads t c = failed_by (starts (generic c.args.line c.args.first) c.args.room.max c.args.cursor.now) c.in_err-names.ensures.reads (search rules)
 
 pub repetition::generic-returns-in_err-expect-clause-reads : goal.repetition::generic-returns-in_err-expect-clause-reads
 repetition::generic-returns-in_err-expect-clause-reads t c =
-    failed_by (found (starts (generic c.args.line c.args.first) c.args.room c.args.cursor.now) (c.in_ok-names.ensures.reads.tells)) c.in_err-expect.ensures.reads (search rules)
+    failed_by (found (starts (generic c.args.line c.args.first) c.args.room.max c.args.cursor.now) (c.in_ok-names.ensures.reads.tells)) c.in_err-expect.ensures.reads (search rules)
 
 pub repetition::generic-returns-in_err-values-clause-reads : goal.repetition::generic-returns-in_err-values-clause-reads
 repetition::generic-returns-in_err-values-clause-reads t c =
-    failed_by (found (found (starts (generic c.args.line c.args.first) c.args.room c.args.cursor.now) (c.in_ok-names.ensures.reads.tells)) (c.in_ok-expect.ensures.reads.tells)) c.in_err-values.ensures.reads (search rules)
+    failed_by (found (found (starts (generic c.args.line c.args.first) c.args.room.max c.args.cursor.now) (c.in_ok-names.ensures.reads.tells)) (c.in_ok-expect.ensures.reads.tells)) c.in_err-values.ensures.reads (search rules)
 
 pub repetition::generic-returns-in_err-inner-clause-reads : goal.repetition::generic-returns-in_err-inner-clause-reads
 repetition::generic-returns-in_err-inner-clause-reads t c =
-    failed_by (found (found (found (starts (generic c.args.line c.args.first) c.args.room c.args.cursor.now) (c.in_ok-names.ensures.reads.tells)) (c.in_ok-expect.ensures.reads.tells)) (c.in_ok-values.ensures.reads.tells)) c.in_err-inner.ensures.reads (search rules)
+    failed_by (found (found (found (starts (generic c.args.line c.args.first) c.args.room.max c.args.cursor.now) (c.in_ok-names.ensures.reads.tells)) (c.in_ok-expect.ensures.reads.tells)) (c.in_ok-values.ensures.reads.tells)) c.in_err-inner.ensures.reads (search rules)
 
 pub repetition::generic-returns-clause-reads : goal.repetition::generic-returns-clause-reads
 repetition::generic-returns-clause-reads = statements.repetition::generic-returns-clause-reads
 
 pub assignment::function_stat-returns-in_err-line-clause-reads : goal.assignment::function_stat-returns-in_err-line-clause-reads
-assignment::function_stat-returns-in_err-line-clause-reads t c = failed_by (starts function_stat c.args.room c.args.cursor.now) c.in_err-line.ensures.reads (search rules)
+assignment::function_stat-returns-in_err-line-clause-reads t c = failed_by (starts function_stat c.args.room.max c.args.cursor.now) c.in_err-line.ensures.reads (search rules)
 
 pub assignment::function_stat-returns-in_err-target-clause-reads : goal.assignment::function_stat-returns-in_err-target-clause-reads
 assignment::function_stat-returns-in_err-target-clause-reads t c =
-    failed_by (found (starts function_stat c.args.room c.args.cursor.now) (c.in_ok-line.ensures.reads.tells)) c.in_err-target.ensures.reads (search rules)
+    failed_by (found (starts function_stat c.args.room.max c.args.cursor.now) (c.in_ok-line.ensures.reads.tells)) c.in_err-target.ensures.reads (search rules)
 
 pub assignment::function_stat-returns-in_err-body-clause-reads : goal.assignment::function_stat-returns-in_err-body-clause-reads
 assignment::function_stat-returns-in_err-body-clause-reads t c =
-    failed_by (found (found (starts function_stat c.args.room c.args.cursor.now) (c.in_ok-line.ensures.reads.tells)) (c.in_ok-target.ensures.reads.tells)) c.in_err-body.ensures.reads (search rules)
+    failed_by (found (found (starts function_stat c.args.room.max c.args.cursor.now) (c.in_ok-line.ensures.reads.tells)) (c.in_ok-target.ensures.reads.tells)) c.in_err-body.ensures.reads (search rules)
 
 pub assignment::function_stat-returns-clause-reads : goal.assignment::function_stat-returns-clause-reads
 assignment::function_stat-returns-clause-reads = statements.assignment::function_stat-returns-clause-reads
 
 pub assignment::local_stat-returns-in_err-line-clause-reads : goal.assignment::local_stat-returns-in_err-line-clause-reads
-assignment::local_stat-returns-in_err-line-clause-reads t c = failed_by (starts local_stat c.args.room c.args.cursor.now) c.in_err-line.ensures.reads (search rules)
+assignment::local_stat-returns-in_err-line-clause-reads t c = failed_by (starts local_stat c.args.room.max c.args.cursor.now) c.in_err-line.ensures.reads (search rules)
 
 pub assignment::local_stat-returns-then-is-clause-reads : goal.assignment::local_stat-returns-then-is-clause-reads
 assignment::local_stat-returns-then-is-clause-reads t c =
-    answered (into (holds _ (picked (found (starts local_stat c.args.room c.args.cursor.now) (c.in_ok-line.ensures.reads.tells)) c.if-is.ensures.more) (sym c.if-is.ensures.is))) c.local_function.result c.local_function.ensures.reads
+    answered (into (holds _ (picked (found (starts local_stat c.args.room.max c.args.cursor.now) (c.in_ok-line.ensures.reads.tells)) c.if-is.ensures.more) (sym c.if-is.ensures.is))) c.local_function.result c.local_function.ensures.reads
 
 pub assignment::local_stat-returns-clause-reads : goal.assignment::local_stat-returns-clause-reads
 assignment::local_stat-returns-clause-reads t c =
-    answered (into (fails _ (picked (found (starts local_stat c.args.room c.args.cursor.now) (c.in_ok-line.ensures.reads.tells)) c.if-is.ensures.more) (sym c.if-is.ensures.is))) c.local_names.result c.local_names.ensures.reads
+    answered (into (fails _ (picked (found (starts local_stat c.args.room.max c.args.cursor.now) (c.in_ok-line.ensures.reads.tells)) c.if-is.ensures.more) (sym c.if-is.ensures.is))) c.local_names.result c.local_names.ensures.reads
 
 pub assignment::local_function-returns-in_err-own_line-clause-reads : goal.assignment::local_function-returns-in_err-own_line-clause-reads
-assignment::local_function-returns-in_err-own_line-clause-reads t c = failed_by (starts (local_function c.args.line) c.args.room c.args.cursor.now) c.in_err-own_line.ensures.reads (search rules)
+assignment::local_function-returns-in_err-own_line-clause-reads t c = failed_by (starts (local_function c.args.line) c.args.room.max c.args.cursor.now) c.in_err-own_line.ensures.reads (search rules)
 
 pub assignment::local_function-returns-in_err-name-clause-reads : goal.assignment::local_function-returns-in_err-name-clause-reads
 assignment::local_function-returns-in_err-name-clause-reads t c =
-    failed_by (found (starts (local_function c.args.line) c.args.room c.args.cursor.now) (c.in_ok-own_line.ensures.reads.tells)) c.in_err-name.ensures.reads (search rules)
+    failed_by (found (starts (local_function c.args.line) c.args.room.max c.args.cursor.now) (c.in_ok-own_line.ensures.reads.tells)) c.in_err-name.ensures.reads (search rules)
 
 pub assignment::local_function-returns-in_err-body-clause-reads : goal.assignment::local_function-returns-in_err-body-clause-reads
 assignment::local_function-returns-in_err-body-clause-reads = statements.assignment::local_function-returns-in_err-body-clause-reads
@@ -494,30 +494,30 @@ pub assignment::local_function-returns-clause-reads : goal.assignment::local_fun
 assignment::local_function-returns-clause-reads = statements.assignment::local_function-returns-clause-reads
 
 pub assignment::local_names-returns-in_err-first-clause-reads : goal.assignment::local_names-returns-in_err-first-clause-reads
-assignment::local_names-returns-in_err-first-clause-reads t c = failed_by (starts (local_names c.args.line) c.args.room c.args.cursor.now) c.in_err-first.ensures.reads (search rules)
+assignment::local_names-returns-in_err-first-clause-reads t c = failed_by (starts (local_names c.args.line) c.args.room.max c.args.cursor.now) c.in_err-first.ensures.reads (search rules)
 
 pub assignment::local_names-returns-in_err-names-clause-reads : goal.assignment::local_names-returns-in_err-names-clause-reads
 assignment::local_names-returns-in_err-names-clause-reads t c =
-    failed_by (found (starts (local_names c.args.line) c.args.room c.args.cursor.now) (c.in_ok-first.ensures.reads.tells)) c.in_err-names.ensures.reads (search rules)
+    failed_by (found (starts (local_names c.args.line) c.args.room.max c.args.cursor.now) (c.in_ok-first.ensures.reads.tells)) c.in_err-names.ensures.reads (search rules)
 
 pub assignment::local_names-returns-in_err-values-clause-reads : goal.assignment::local_names-returns-in_err-values-clause-reads
 assignment::local_names-returns-in_err-values-clause-reads t c =
-    failed_by (found (found (starts (local_names c.args.line) c.args.room c.args.cursor.now) (c.in_ok-first.ensures.reads.tells)) (c.in_ok-names.ensures.reads.tells)) c.in_err-values.ensures.reads (search rules)
+    failed_by (found (found (starts (local_names c.args.line) c.args.room.max c.args.cursor.now) (c.in_ok-first.ensures.reads.tells)) (c.in_ok-names.ensures.reads.tells)) c.in_err-values.ensures.reads (search rules)
 
 pub assignment::local_names-returns-clause-reads : goal.assignment::local_names-returns-clause-reads
 assignment::local_names-returns-clause-reads = statements.assignment::local_names-returns-clause-reads
 
 pub assignment::values-returns-then-not-is-clause-reads : goal.assignment::values-returns-then-not-is-clause-reads
 assignment::values-returns-then-not-is-clause-reads t c =
-    record { tells = ended_as (fails _ (picked (starts values c.args.room c.args.cursor.now) c.if-not-is.ensures.more) (sym c.if-not-is.ensures.is)) (ap some_exps c.no_exps.ensures.node) c.no_exps.ensures.levels }
+    record { tells = ended_as (fails _ (picked (starts values c.args.room.max c.args.cursor.now) c.if-not-is.ensures.more) (sym c.if-not-is.ensures.is)) (ap some_exps c.no_exps.ensures.node) c.no_exps.ensures.levels }
 
 pub assignment::values-returns-clause-reads : goal.assignment::values-returns-clause-reads
 assignment::values-returns-clause-reads t c =
-    answered (into (passed (holds _ (picked (starts values c.args.room c.args.cursor.now) c.if-not-is.ensures.more) (sym c.if-not-is.ensures.is)) c.if-not-is.ensures.more (c.skip.ensures))) c.explist.result c.explist.ensures.reads
+    answered (into (passed (holds _ (picked (starts values c.args.room.max c.args.cursor.now) c.if-not-is.ensures.more) (sym c.if-not-is.ensures.is)) c.if-not-is.ensures.more (c.skip.ensures))) c.explist.result c.explist.ensures.reads
 
 pub assignment::prefix_stat-returns-in_err-first-clause-reads : goal.assignment::prefix_stat-returns-in_err-first-clause-reads
 assignment::prefix_stat-returns-in_err-first-clause-reads t c =
-    failed_by (rw (← c.line-line.ensures.is) at (picked (starts prefix_stat c.args.room c.args.cursor.now) c.line-line.ensures.more)) c.in_err-first.ensures.reads (search rules)
+    failed_by (rw (← c.line-line.ensures.is) at (picked (starts prefix_stat c.args.room.max c.args.cursor.now) c.line-line.ensures.more)) c.in_err-first.ensures.reads (search rules)
 
 pub assignment::prefix_stat-returns-then-is_call-clause-reads : goal.assignment::prefix_stat-returns-then-is_call-clause-reads
 assignment::prefix_stat-returns-then-is_call-clause-reads = statements.assignment::prefix_stat-returns-then-is_call-clause-reads
@@ -530,15 +530,15 @@ assignment::prefix_stat-returns-clause-reads = statements.assignment::prefix_sta
 
 pub assignment::assignment-returns-in_err-targets-clause-reads : goal.assignment::assignment-returns-in_err-targets-clause-reads
 assignment::assignment-returns-in_err-targets-clause-reads t c =
-    failed_by (starts (assignment c.args.line (plain_boxed c.args.first.node) c.args.first.height) c.args.room c.args.cursor.now) c.in_err-targets.ensures.reads (search rules)
+    failed_by (starts (assignment c.args.line (plain_boxed c.args.first.node) c.args.first.height) c.args.room.max c.args.cursor.now) c.in_err-targets.ensures.reads (search rules)
 
 pub assignment::assignment-returns-in_err-expect-clause-reads : goal.assignment::assignment-returns-in_err-expect-clause-reads
 assignment::assignment-returns-in_err-expect-clause-reads t c =
-    failed_by (found (starts (assignment c.args.line (plain_boxed c.args.first.node) c.args.first.height) c.args.room c.args.cursor.now) (c.in_ok-targets.ensures.reads.tells)) c.in_err-expect.ensures.reads (search rules)
+    failed_by (found (starts (assignment c.args.line (plain_boxed c.args.first.node) c.args.first.height) c.args.room.max c.args.cursor.now) (c.in_ok-targets.ensures.reads.tells)) c.in_err-expect.ensures.reads (search rules)
 
 pub assignment::assignment-returns-in_err-values-clause-reads : goal.assignment::assignment-returns-in_err-values-clause-reads
 assignment::assignment-returns-in_err-values-clause-reads t c =
-    failed_by (found (found (starts (assignment c.args.line (plain_boxed c.args.first.node) c.args.first.height) c.args.room c.args.cursor.now) (c.in_ok-targets.ensures.reads.tells)) (c.in_ok-expect.ensures.reads.tells)) c.in_err-values.ensures.reads (search rules)
+    failed_by (found (found (starts (assignment c.args.line (plain_boxed c.args.first.node) c.args.first.height) c.args.room.max c.args.cursor.now) (c.in_ok-targets.ensures.reads.tells)) (c.in_ok-expect.ensures.reads.tells)) c.in_err-values.ensures.reads (search rules)
 
 pub assignment::assignment-returns-clause-reads : goal.assignment::assignment-returns-clause-reads
 assignment::assignment-returns-clause-reads = statements.assignment::assignment-returns-clause-reads
@@ -556,7 +556,7 @@ pub expression::unary-returns-clause-reads : goal.expression::unary-returns-clau
 expression::unary-returns-clause-reads = expressions.expression::unary-returns-clause-reads
 
 pub block::block-returns-in_err-items-clause-reads : goal.block::block-returns-in_err-items-clause-reads
-block::block-returns-in_err-items-clause-reads t c = failed_by (starts block c.args.room c.args.cursor.now) c.in_err-items.ensures.reads (search rules)
+block::block-returns-in_err-items-clause-reads t c = failed_by (starts block c.args.room.max c.args.cursor.now) c.in_err-items.ensures.reads (search rules)
 
 pub block::block-returns-clause-reads : goal.block::block-returns-clause-reads
 block::block-returns-clause-reads = statements.block::block-returns-clause-reads
@@ -577,7 +577,7 @@ pub expression::simple-returns-clause-reads : goal.expression::simple-returns-cl
 expression::simple-returns-clause-reads = expressions.expression::simple-returns-clause-reads
 
 pub expression::explist-returns-in_err-first-clause-reads : goal.expression::explist-returns-in_err-first-clause-reads
-expression::explist-returns-in_err-first-clause-reads t c = failed_by (starts explist c.args.room c.args.cursor.now) c.in_err-first.ensures.reads (search rules)
+expression::explist-returns-in_err-first-clause-reads t c = failed_by (starts explist c.args.room.max c.args.cursor.now) c.in_err-first.ensures.reads (search rules)
 
 pub expression::explist-loop-alloc-init : goal.expression::explist-loop-alloc-init
 expression::explist-loop-alloc-init = expressions.expression::explist-loop-alloc-init
@@ -594,7 +594,7 @@ expression::explist-returns-clause-reads t c =
     record { tells = ended_as (fails _ (picked c.loop-alloc.invariant.leads c.loop-alloc-test.ensures.more) (sym c.loop-alloc-test.ensures.is)) (refl) (refl) }
 
 pub branch::arms-returns-in_err-first-clause-reads : goal.branch::arms-returns-in_err-first-clause-reads
-branch::arms-returns-in_err-first-clause-reads t c = failed_by (starts arms c.args.room c.args.cursor.now) c.in_err-first.ensures.reads (search rules)
+branch::arms-returns-in_err-first-clause-reads t c = failed_by (starts arms c.args.room.max c.args.cursor.now) c.in_err-first.ensures.reads (search rules)
 
 pub branch::arms-loop-alloc-init : goal.branch::arms-loop-alloc-init
 branch::arms-loop-alloc-init = statements.branch::arms-loop-alloc-init
@@ -610,11 +610,11 @@ pub branch::arms-returns-clause-reads : goal.branch::arms-returns-clause-reads
 branch::arms-returns-clause-reads t c = record { tells = ended_as (fails _ (picked c.loop-alloc.invariant.leads c.loop-alloc-test.ensures.more) (sym c.loop-alloc-test.ensures.is)) (refl) (refl) }
 
 pub suffix::prefix-returns-in_err-left-clause-reads : goal.suffix::prefix-returns-in_err-left-clause-reads
-suffix::prefix-returns-in_err-left-clause-reads t c = failed_by (starts prefix c.args.room c.args.cursor.now) c.in_err-left.ensures.reads (search rules)
+suffix::prefix-returns-in_err-left-clause-reads t c = failed_by (starts prefix c.args.room.max c.args.cursor.now) c.in_err-left.ensures.reads (search rules)
 
 pub suffix::prefix-loop-alloc-init : goal.suffix::prefix-loop-alloc-init
 suffix::prefix-loop-alloc-init t c =
-    record { leads = into (found (starts prefix c.args.room c.args.cursor.now) (c.in_ok-left.ensures.reads.tells)); low = c.in_ok-left.ensures.bound.0; taken = c.in_ok-left.ensures.bound.1 }
+    record { leads = into (found (starts prefix c.args.room.max c.args.cursor.now) (c.in_ok-left.ensures.reads.tells)); low = c.in_ok-left.ensures.bound.0; taken = c.in_ok-left.ensures.bound.1 }
 
 pub suffix::prefix-returns-in_err-left-2-clause-reads : goal.suffix::prefix-returns-in_err-left-2-clause-reads
 suffix::prefix-returns-in_err-left-2-clause-reads t c =
@@ -629,7 +629,7 @@ suffix::prefix-returns-clause-reads t c =
 
 pub table::fields-loop-alloc-init : goal.table::fields-loop-alloc-init
 table::fields-loop-alloc-init t c =
-    record { leads = placed c.args.room more_fields (starts (more_fields [] 0) c.args.room c.args.cursor.now) c.no_fields-items.ensures.node c.no_fields-items.ensures.levels; low = omega (arith, c.no_fields-items.ensures.levels); kept = omega arith }
+    record { leads = placed c.args.room.max more_fields (starts (more_fields [] 0) c.args.room.max c.args.cursor.now) c.no_fields-items.ensures.node c.no_fields-items.ensures.levels; low = omega (arith, c.no_fields-items.ensures.levels); kept = omega arith }
 
 pub table::fields-returns-in_err-item-clause-reads : goal.table::fields-returns-in_err-item-clause-reads
 table::fields-returns-in_err-item-clause-reads t c =
@@ -644,7 +644,7 @@ table::fields-returns-clause-reads t c =
 
 pub block::items-loop-cursor-init : goal.block::items-loop-cursor-init
 block::items-loop-cursor-init t c =
-    record { leads = placed c.args.room items (starts (items [] 0) c.args.room c.args.cursor.now) c.no_stats-stats.ensures.node c.no_stats-stats.ensures.levels; low = omega (arith, c.no_stats-stats.ensures.levels); kept = omega arith }
+    record { leads = placed c.args.room.max items (starts (items [] 0) c.args.room.max c.args.cursor.now) c.no_stats-stats.ensures.node c.no_stats-stats.ensures.levels; low = omega (arith, c.no_stats-stats.ensures.levels); kept = omega arith }
 
 pub block::items-returns-in_err-stat-clause-reads : goal.block::items-returns-in_err-stat-clause-reads
 block::items-returns-in_err-stat-clause-reads = statements.block::items-returns-in_err-stat-clause-reads
@@ -681,7 +681,7 @@ assignment::targets-returns-clause-reads t c =
 
 pub expression::operators-loop-infix-init : goal.expression::operators-loop-infix-init
 expression::operators-loop-infix-init t c =
-    record { leads = (starts (behind c.args.level (plain_boxed c.args.first.node) c.args.first.height) c.args.room c.args.cursor.now); low = c.requires.fits; kept = omega arith }
+    record { leads = (starts (behind c.args.level (plain_boxed c.args.first.node) c.args.first.height) c.args.room.max c.args.cursor.now); low = c.requires.fits; kept = omega arith }
 
 pub expression::operators-returns-then-left-room-clause-reads : goal.expression::operators-returns-then-left-room-clause-reads
 expression::operators-returns-then-left-room-clause-reads = expressions.expression::operators-returns-then-left-room-clause-reads
@@ -704,7 +704,7 @@ expression::chain-loop-current-init t c = record { reads = c.in_ok-left.ensures.
 
 pub expression::chain-returns-then-not-may_join-clause-reads : goal.expression::chain-returns-then-not-may_join-clause-reads
 expression::chain-returns-then-not-may_join-clause-reads t c =
-    record { tells = alone_chain c.loop-current.current c.args.level c.args.room c.args.cursor.now c.loop-current.cursor (plain_boxed c.loop-current.left.node) c.loop-current.left.height c.loop-current.invariant.order c.peek.ensures.more (ap may_join (sym c.peek.ensures.is) ∙ sym c.if-not-may_join.ensures) c.loop-current.invariant.reads }
+    record { tells = alone_chain c.loop-current.current c.args.level c.args.room.max c.args.cursor.now c.loop-current.cursor (plain_boxed c.loop-current.left.node) c.loop-current.left.height c.loop-current.invariant.order c.peek.ensures.more (ap may_join (sym c.peek.ensures.is) ∙ sym c.if-not-may_join.ensures) c.loop-current.invariant.reads }
 
 pub expression::chain-returns-in_err-left-2-clause-reads : goal.expression::chain-returns-in_err-left-2-clause-reads
 expression::chain-returns-in_err-left-2-clause-reads = expressions.expression::chain-returns-in_err-left-2-clause-reads

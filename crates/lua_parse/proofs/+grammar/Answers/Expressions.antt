@@ -25,14 +25,14 @@ use Rattle.lua_parse.proofs.+grammar.Goals as goal
 
 pub suffix::paren-returns-clause-reads : goal.suffix::paren-returns-clause-reads
 suffix::paren-returns-clause-reads t c =
-    let l1 = found (starts paren c.args.room c.args.cursor.now) (c.in_ok-line.ensures.reads.tells) in
+    let l1 = found (starts paren c.args.room.max c.args.cursor.now) (c.in_ok-line.ensures.reads.tells) in
     let l2 = found l1 (c.in_ok-inner.ensures.reads.tells) in
     let l3 = found l2 (c.in_ok-expect.ensures.reads.tells) in
     record { tells = ended_as l3 (ap an_exp c.in_ok-paren.ensures.node) c.in_ok-paren.ensures.levels }
 
 pub suffix::suffix-returns-then-is-3-clause-reads : goal.suffix::suffix-returns-then-is-3-clause-reads
 suffix::suffix-returns-then-is-3-clause-reads t c =
-    let l1 = picked (starts (suffix (plain_boxed c.args.left.node) c.args.left.height) c.args.room c.args.cursor.now) c.if-is.ensures.more in
+    let l1 = picked (starts (suffix (plain_boxed c.args.left.node) c.args.left.height) c.args.room.max c.args.cursor.now) c.if-is.ensures.more in
     let l2 = fails _ l1 (sym c.if-is.ensures.is) in
     let l3 = fails _ l2 (sym c.if-is-2.ensures.is) in
     let l4 = holds _ l3 (sym c.if-is-3.ensures.is) in
@@ -40,7 +40,7 @@ suffix::suffix-returns-then-is-3-clause-reads t c =
 
 pub suffix::suffix-returns-clause-reads : goal.suffix::suffix-returns-clause-reads
 suffix::suffix-returns-clause-reads t c =
-    let l1 = picked (starts (suffix (plain_boxed c.args.left.node) c.args.left.height) c.args.room c.args.cursor.now) c.if-is.ensures.more in
+    let l1 = picked (starts (suffix (plain_boxed c.args.left.node) c.args.left.height) c.args.room.max c.args.cursor.now) c.if-is.ensures.more in
     let l2 = fails _ l1 (sym c.if-is.ensures.is) in
     let l3 = fails _ l2 (sym c.if-is-2.ensures.is) in
     let l4 = fails _ l3 (sym c.if-is-3.ensures.is) in
@@ -48,14 +48,14 @@ suffix::suffix-returns-clause-reads t c =
 
 pub suffix::indexed-returns-clause-reads : goal.suffix::indexed-returns-clause-reads
 suffix::indexed-returns-clause-reads t c =
-    let l1 = found (starts (indexed (plain_boxed c.args.left.node) c.args.left.height) c.args.room c.args.cursor.now) (c.in_ok-line.ensures.reads.tells) in
+    let l1 = found (starts (indexed (plain_boxed c.args.left.node) c.args.left.height) c.args.room.max c.args.cursor.now) (c.in_ok-line.ensures.reads.tells) in
     let l2 = found l1 (c.in_ok-key.ensures.reads.tells) in
     let l3 = found l2 (c.in_ok-expect.ensures.reads.tells) in
     record { tells = ended_as l3 (ap an_exp c.in_ok-index.ensures.node) c.in_ok-index.ensures.levels }
 
 pub suffix::method-returns-in_err-arguments-clause-reads : goal.suffix::method-returns-in_err-arguments-clause-reads
 suffix::method-returns-in_err-arguments-clause-reads t c =
-    let l1 = found (starts (method (plain_boxed c.args.left.node) c.args.left.height) c.args.room c.args.cursor.now) (c.in_ok-open.ensures.reads.tells) in
+    let l1 = found (starts (method (plain_boxed c.args.left.node) c.args.left.height) c.args.room.max c.args.cursor.now) (c.in_ok-open.ensures.reads.tells) in
     let l2 = found l1 (c.in_ok-name.ensures.reads.tells) in
     let l3 = picked l2 c.line-line.ensures.more in
     let l4 = rw (← c.line-line.ensures.is) at l3 in
@@ -63,7 +63,7 @@ suffix::method-returns-in_err-arguments-clause-reads t c =
 
 pub suffix::method-returns-clause-reads : goal.suffix::method-returns-clause-reads
 suffix::method-returns-clause-reads t c =
-    let l1 = found (starts (method (plain_boxed c.args.left.node) c.args.left.height) c.args.room c.args.cursor.now) (c.in_ok-open.ensures.reads.tells) in
+    let l1 = found (starts (method (plain_boxed c.args.left.node) c.args.left.height) c.args.room.max c.args.cursor.now) (c.in_ok-open.ensures.reads.tells) in
     let l2 = found l1 (c.in_ok-name.ensures.reads.tells) in
     let l3 = picked l2 c.line-line.ensures.more in
     let l4 = rw (← c.line-line.ensures.is) at l3 in
@@ -72,51 +72,51 @@ suffix::method-returns-clause-reads t c =
 
 pub suffix::call-returns-then-left-room-clause-reads : goal.suffix::call-returns-then-left-room-clause-reads
 suffix::call-returns-then-left-room-clause-reads t c =
-    let l1 = picked (starts (call (plain_boxed c.args.left.node) c.args.left.height) c.args.room c.args.cursor.now) c.line-line.ensures.more in
+    let l1 = picked (starts (call (plain_boxed c.args.left.node) c.args.left.height) c.args.room.max c.args.cursor.now) c.line-line.ensures.more in
     let l2 = rw (← c.line-line.ensures.is) at l1 in
-    let l3 = fails _ l2 (no_room c.args.room c.args.left.height c.if-left-room.true) in
+    let l3 = fails _ l2 (no_room c.args.room.max c.args.left.height c.if-left-room.true) in
     record { tells = refused l3 c.line-line.ensures.more }
 
 pub suffix::call-returns-in_err-arguments-clause-reads : goal.suffix::call-returns-in_err-arguments-clause-reads
 suffix::call-returns-in_err-arguments-clause-reads t c =
-    let l1 = picked (starts (call (plain_boxed c.args.left.node) c.args.left.height) c.args.room c.args.cursor.now) c.line-line.ensures.more in
+    let l1 = picked (starts (call (plain_boxed c.args.left.node) c.args.left.height) c.args.room.max c.args.cursor.now) c.line-line.ensures.more in
     let l2 = rw (← c.line-line.ensures.is) at l1 in
-    let l3 = holds _ l2 (has_room c.args.room c.args.left.height c.if-left-room.false) in
+    let l3 = holds _ l2 (has_room c.args.room.max c.args.left.height c.if-left-room.false) in
     failed_by l3 c.in_err-arguments.ensures.reads (search rules)
 
 pub suffix::call-returns-clause-reads : goal.suffix::call-returns-clause-reads
 suffix::call-returns-clause-reads t c =
-    let l1 = picked (starts (call (plain_boxed c.args.left.node) c.args.left.height) c.args.room c.args.cursor.now) c.line-line.ensures.more in
+    let l1 = picked (starts (call (plain_boxed c.args.left.node) c.args.left.height) c.args.room.max c.args.cursor.now) c.line-line.ensures.more in
     let l2 = rw (← c.line-line.ensures.is) at l1 in
-    let l3 = holds _ l2 (has_room c.args.room c.args.left.height c.if-left-room.false) in
+    let l3 = holds _ l2 (has_room c.args.room.max c.args.left.height c.if-left-room.false) in
     let l4 = found l3 (c.in_ok-arguments.ensures.reads.tells) in
     record { tells = ended_as l4 (ap an_exp c.in_ok-call.ensures.node) c.in_ok-call.ensures.levels }
 
 pub suffix::method_arguments-returns-then-room-eq0-clause-reads : goal.suffix::method_arguments-returns-then-room-eq0-clause-reads
 suffix::method_arguments-returns-then-room-eq0-clause-reads t c =
-    let l1 = picked (starts method_arguments c.args.room c.args.cursor.now) c.peek.ensures.more in
+    let l1 = picked (starts method_arguments c.args.room.max c.args.cursor.now) c.peek.ensures.more in
     let l2 = fails _ l1 (ap is_string (sym c.peek.ensures.is) ∙ sym c.if-is_string.ensures) in
-    let l3 = fails _ l2 (no_room c.args.room 0 (omega (arith, c.if-room-eq0.true))) in
+    let l3 = fails _ l2 (no_room c.args.room.max 0 (omega (arith, c.if-room-eq0.true))) in
     record { tells = refused l3 c.peek.ensures.more }
 
 pub suffix::method_arguments-returns-in_err-inner-clause-reads : goal.suffix::method_arguments-returns-in_err-inner-clause-reads
 suffix::method_arguments-returns-in_err-inner-clause-reads t c =
-    let l1 = picked (starts method_arguments c.args.room c.args.cursor.now) c.peek.ensures.more in
+    let l1 = picked (starts method_arguments c.args.room.max c.args.cursor.now) c.peek.ensures.more in
     let l2 = fails _ l1 (ap is_string (sym c.peek.ensures.is) ∙ sym c.if-is_string.ensures) in
-    let l3 = holds _ l2 (has_room c.args.room 0 (omega (arith, c.if-room-eq0.false))) in
+    let l3 = holds _ l2 (has_room c.args.room.max 0 (omega (arith, c.if-room-eq0.false))) in
     failed_by l3 c.in_err-inner.ensures.reads (search rules)
 
 pub suffix::method_arguments-returns-clause-reads : goal.suffix::method_arguments-returns-clause-reads
 suffix::method_arguments-returns-clause-reads t c =
-    let l1 = picked (starts method_arguments c.args.room c.args.cursor.now) c.peek.ensures.more in
+    let l1 = picked (starts method_arguments c.args.room.max c.args.cursor.now) c.peek.ensures.more in
     let l2 = fails _ l1 (ap is_string (sym c.peek.ensures.is) ∙ sym c.if-is_string.ensures) in
-    let l3 = holds _ l2 (has_room c.args.room 0 (omega (arith, c.if-room-eq0.false))) in
+    let l3 = holds _ l2 (has_room c.args.room.max 0 (omega (arith, c.if-room-eq0.false))) in
     let l4 = found l3 (c.in_ok-inner.ensures.reads.tells) in
     record { tells = ended_as l4 (refl) (refl) }
 
 pub suffix::arguments-returns-in_err-fields-clause-reads : goal.suffix::arguments-returns-in_err-fields-clause-reads
 suffix::arguments-returns-in_err-fields-clause-reads t c =
-    let l1 = picked (starts arguments c.args.room c.args.cursor.now) c.if-is.ensures.more in
+    let l1 = picked (starts arguments c.args.room.max c.args.cursor.now) c.if-is.ensures.more in
     let l2 = fails _ l1 (sym c.if-is.ensures.is) in
     let l3 = holds _ l2 (sym c.if-is-2.ensures.is) in
     let l4 = rw (← c.line-line.ensures.is) at l3 in
@@ -125,7 +125,7 @@ suffix::arguments-returns-in_err-fields-clause-reads t c =
 
 pub suffix::arguments-returns-then-is-2-clause-reads : goal.suffix::arguments-returns-then-is-2-clause-reads
 suffix::arguments-returns-then-is-2-clause-reads t c =
-    let l1 = picked (starts arguments c.args.room c.args.cursor.now) c.if-is.ensures.more in
+    let l1 = picked (starts arguments c.args.room.max c.args.cursor.now) c.if-is.ensures.more in
     let l2 = fails _ l1 (sym c.if-is.ensures.is) in
     let l3 = holds _ l2 (sym c.if-is-2.ensures.is) in
     let l4 = rw (← c.line-line.ensures.is) at l3 in
@@ -135,7 +135,7 @@ suffix::arguments-returns-then-is-2-clause-reads t c =
 
 pub table::separated_field-returns-then-is_separator-clause-reads : goal.table::separated_field-returns-then-is_separator-clause-reads
 table::separated_field-returns-then-is_separator-clause-reads t c =
-    let l1 = found (starts separated_field c.args.room c.args.cursor.now) (c.in_ok-field.ensures.reads.tells) in
+    let l1 = found (starts separated_field c.args.room.max c.args.cursor.now) (c.in_ok-field.ensures.reads.tells) in
     let l2 = picked l1 c.peek.ensures.more in
     let l3 = holds _ l2 (ap is_separator (sym c.peek.ensures.is) ∙ sym c.if-is_separator.ensures) in
     let l4 = passed l3 c.peek.ensures.more (c.skip.ensures) in
@@ -143,7 +143,7 @@ table::separated_field-returns-then-is_separator-clause-reads t c =
 
 pub table::separated_field-returns-then-not-is-clause-reads : goal.table::separated_field-returns-then-not-is-clause-reads
 table::separated_field-returns-then-not-is-clause-reads t c =
-    let l1 = found (starts separated_field c.args.room c.args.cursor.now) (c.in_ok-field.ensures.reads.tells) in
+    let l1 = found (starts separated_field c.args.room.max c.args.cursor.now) (c.in_ok-field.ensures.reads.tells) in
     let l2 = picked l1 c.peek.ensures.more in
     let l3 = fails _ l2 (ap is_separator (sym c.peek.ensures.is) ∙ sym c.if-is_separator.ensures) in
     let l4 = fails _ l3 (sym c.if-not-is.ensures.is) in
@@ -151,7 +151,7 @@ table::separated_field-returns-then-not-is-clause-reads t c =
 
 pub table::separated_field-returns-clause-reads : goal.table::separated_field-returns-clause-reads
 table::separated_field-returns-clause-reads t c =
-    let l1 = found (starts separated_field c.args.room c.args.cursor.now) (c.in_ok-field.ensures.reads.tells) in
+    let l1 = found (starts separated_field c.args.room.max c.args.cursor.now) (c.in_ok-field.ensures.reads.tells) in
     let l2 = picked l1 c.peek.ensures.more in
     let l3 = fails _ l2 (ap is_separator (sym c.peek.ensures.is) ∙ sym c.if-is_separator.ensures) in
     let l4 = holds _ l3 (sym c.if-not-is.ensures.is) in
@@ -159,7 +159,7 @@ table::separated_field-returns-clause-reads t c =
 
 pub table::keyed-returns-in_err-value-clause-reads : goal.table::keyed-returns-in_err-value-clause-reads
 table::keyed-returns-in_err-value-clause-reads t c =
-    let l1 = found (starts keyed c.args.room c.args.cursor.now) (c.in_ok-line.ensures.reads.tells) in
+    let l1 = found (starts keyed c.args.room.max c.args.cursor.now) (c.in_ok-line.ensures.reads.tells) in
     let l2 = found l1 (c.in_ok-key.ensures.reads.tells) in
     let l3 = found l2 (c.in_ok-expect.ensures.reads.tells) in
     let l4 = found l3 (c.in_ok-expect-2.ensures.reads.tells) in
@@ -167,7 +167,7 @@ table::keyed-returns-in_err-value-clause-reads t c =
 
 pub table::keyed-returns-clause-reads : goal.table::keyed-returns-clause-reads
 table::keyed-returns-clause-reads t c =
-    let l1 = found (starts keyed c.args.room c.args.cursor.now) (c.in_ok-line.ensures.reads.tells) in
+    let l1 = found (starts keyed c.args.room.max c.args.cursor.now) (c.in_ok-line.ensures.reads.tells) in
     let l2 = found l1 (c.in_ok-key.ensures.reads.tells) in
     let l3 = found l2 (c.in_ok-expect.ensures.reads.tells) in
     let l4 = found l3 (c.in_ok-expect-2.ensures.reads.tells) in
@@ -176,58 +176,58 @@ table::keyed-returns-clause-reads t c =
 
 pub table::item-returns-in_default-clause-reads : goal.table::item-returns-in_default-clause-reads
 table::item-returns-in_default-clause-reads t c =
-    let l1 = found (starts item c.args.room c.args.cursor.now) (c.in_ok-first.ensures.reads.tells) in
+    let l1 = found (starts item c.args.room.max c.args.cursor.now) (c.in_ok-first.ensures.reads.tells) in
     let l2 = picked l1 c.if-not-is.ensures.more in
     let l3 = holds _ l2 (sym c.if-not-is.ensures.is) in
-    let l4 = turned l3 (ap (item_move c.args.room) (sym c.name_of.ensures ∙ c.in_default.is)) in
+    let l4 = turned l3 (ap (item_move c.args.room.max) (sym c.name_of.ensures ∙ c.in_default.is)) in
     record { tells = refused l4 c.if-not-is.ensures.more }
 
 pub table::item-returns-in_err-value-clause-reads : goal.table::item-returns-in_err-value-clause-reads
 table::item-returns-in_err-value-clause-reads t c =
-    let l1 = found (starts item c.args.room c.args.cursor.now) (c.in_ok-first.ensures.reads.tells) in
+    let l1 = found (starts item c.args.room.max c.args.cursor.now) (c.in_ok-first.ensures.reads.tells) in
     let l2 = picked l1 c.if-not-is.ensures.more in
     let l3 = holds _ l2 (sym c.if-not-is.ensures.is) in
-    let l4 = turned l3 (ap (item_move c.args.room) (sym c.name_of.ensures ∙ c.in-Some.is)) in
+    let l4 = turned l3 (ap (item_move c.args.room.max) (sym c.name_of.ensures ∙ c.in-Some.is)) in
     let l5 = passed l4 c.if-not-is.ensures.more (c.skip.ensures) in
     failed_by l5 c.in_err-value.ensures.reads (search rules)
 
 pub table::item-returns-clause-reads : goal.table::item-returns-clause-reads
 table::item-returns-clause-reads t c =
-    let l1 = found (starts item c.args.room c.args.cursor.now) (c.in_ok-first.ensures.reads.tells) in
+    let l1 = found (starts item c.args.room.max c.args.cursor.now) (c.in_ok-first.ensures.reads.tells) in
     let l2 = picked l1 c.if-not-is.ensures.more in
     let l3 = holds _ l2 (sym c.if-not-is.ensures.is) in
-    let l4 = turned l3 (ap (item_move c.args.room) (sym c.name_of.ensures ∙ c.in-Some.is)) in
+    let l4 = turned l3 (ap (item_move c.args.room.max) (sym c.name_of.ensures ∙ c.in-Some.is)) in
     let l5 = passed l4 c.if-not-is.ensures.more (c.skip.ensures) in
     let l6 = found l5 (c.in_ok-value.ensures.reads.tells) in
     record { tells = ended_as l6 (ap a_field c.named.ensures.node) c.named.ensures.levels }
 
 pub expression::unary-returns-in_default-clause-reads : goal.expression::unary-returns-in_default-clause-reads
 expression::unary-returns-in_default-clause-reads t c =
-    let l1 = picked (starts unary c.args.room c.args.cursor.now) c.peek.ensures.more in
-    let l2 = turned l1 (ap (unary_move c.args.room (first c.args.cursor.now).1) (ap unary_of (sym c.peek.ensures.is) ∙ sym c.unary_operator.ensures ∙ c.in_default.is)) in
+    let l1 = picked (starts unary c.args.room.max c.args.cursor.now) c.peek.ensures.more in
+    let l2 = turned l1 (ap (unary_move c.args.room.max (first c.args.cursor.now).1) (ap unary_of (sym c.peek.ensures.is) ∙ sym c.unary_operator.ensures ∙ c.in_default.is)) in
     answered (into l2) c.simple.result c.simple.ensures.reads
 
 pub expression::unary-returns-then-room-eq0-clause-reads : goal.expression::unary-returns-then-room-eq0-clause-reads
 expression::unary-returns-then-room-eq0-clause-reads t c =
-    let l1 = picked (starts unary c.args.room c.args.cursor.now) c.peek.ensures.more in
-    let l2 = turned l1 (ap (unary_move c.args.room (first c.args.cursor.now).1) (ap unary_of (sym c.peek.ensures.is) ∙ sym c.unary_operator.ensures ∙ c.in-Some.is)) in
-    let l3 = fails _ l2 (no_room c.args.room 0 (omega (arith, c.if-room-eq0.true))) in
+    let l1 = picked (starts unary c.args.room.max c.args.cursor.now) c.peek.ensures.more in
+    let l2 = turned l1 (ap (unary_move c.args.room.max (first c.args.cursor.now).1) (ap unary_of (sym c.peek.ensures.is) ∙ sym c.unary_operator.ensures ∙ c.in-Some.is)) in
+    let l3 = fails _ l2 (no_room c.args.room.max 0 (omega (arith, c.if-room-eq0.true))) in
     record { tells = refused l3 c.peek.ensures.more }
 
 pub expression::unary-returns-in_err-operand-clause-reads : goal.expression::unary-returns-in_err-operand-clause-reads
 expression::unary-returns-in_err-operand-clause-reads t c =
-    let l1 = picked (starts unary c.args.room c.args.cursor.now) c.peek.ensures.more in
-    let l2 = turned l1 (ap (unary_move c.args.room (first c.args.cursor.now).1) (ap unary_of (sym c.peek.ensures.is) ∙ sym c.unary_operator.ensures ∙ c.in-Some.is)) in
-    let l3 = holds _ l2 (has_room c.args.room 0 (omega (arith, c.if-room-eq0.false))) in
+    let l1 = picked (starts unary c.args.room.max c.args.cursor.now) c.peek.ensures.more in
+    let l2 = turned l1 (ap (unary_move c.args.room.max (first c.args.cursor.now).1) (ap unary_of (sym c.peek.ensures.is) ∙ sym c.unary_operator.ensures ∙ c.in-Some.is)) in
+    let l3 = holds _ l2 (has_room c.args.room.max 0 (omega (arith, c.if-room-eq0.false))) in
     let l4 = rw (← c.line-line.ensures.is) at l3 in
     let l5 = passed l4 c.peek.ensures.more (c.skip.ensures) in
     failed_by l5 c.in_err-operand.ensures.reads (search rules)
 
 pub expression::unary-returns-clause-reads : goal.expression::unary-returns-clause-reads
 expression::unary-returns-clause-reads t c =
-    let l1 = picked (starts unary c.args.room c.args.cursor.now) c.peek.ensures.more in
-    let l2 = turned l1 (ap (unary_move c.args.room (first c.args.cursor.now).1) (ap unary_of (sym c.peek.ensures.is) ∙ sym c.unary_operator.ensures ∙ c.in-Some.is)) in
-    let l3 = holds _ l2 (has_room c.args.room 0 (omega (arith, c.if-room-eq0.false))) in
+    let l1 = picked (starts unary c.args.room.max c.args.cursor.now) c.peek.ensures.more in
+    let l2 = turned l1 (ap (unary_move c.args.room.max (first c.args.cursor.now).1) (ap unary_of (sym c.peek.ensures.is) ∙ sym c.unary_operator.ensures ∙ c.in-Some.is)) in
+    let l3 = holds _ l2 (has_room c.args.room.max 0 (omega (arith, c.if-room-eq0.false))) in
     let l4 = rw (← c.line-line.ensures.is) at l3 in
     let l5 = passed l4 c.peek.ensures.more (c.skip.ensures) in
     let l6 = found l5 (c.in_ok-operand.ensures.reads.tells) in
@@ -235,7 +235,7 @@ expression::unary-returns-clause-reads t c =
 
 pub expression::simple-returns-in-Some-clause-reads : goal.expression::simple-returns-in-Some-clause-reads
 expression::simple-returns-in-Some-clause-reads t c =
-    let l1 = picked (starts simple c.args.room c.args.cursor.now) c.peek.ensures.more in
+    let l1 = picked (starts simple c.args.room.max c.args.cursor.now) c.peek.ensures.more in
     let is : constant_of (first c.args.cursor.now) ≡ constant_of (c.peek.result.now, c.line-line.result) = ap₂ (λ a b. constant_of (a, b)) (sym c.peek.ensures.is) (sym c.line-line.ensures.is) in
     let l2 = rw (is ∙ sym c.in_ok-node.ensures ∙ ap (option_map plain_boxed) c.in-Some.is) at l1 in
     let l3 = passed l2 c.peek.ensures.more (c.skip.ensures) in
@@ -243,7 +243,7 @@ expression::simple-returns-in-Some-clause-reads t c =
 
 pub expression::simple-returns-in_err-body-clause-reads : goal.expression::simple-returns-in_err-body-clause-reads
 expression::simple-returns-in_err-body-clause-reads t c =
-    let l1 = picked (starts simple c.args.room c.args.cursor.now) c.peek.ensures.more in
+    let l1 = picked (starts simple c.args.room.max c.args.cursor.now) c.peek.ensures.more in
     let is : constant_of (first c.args.cursor.now) ≡ constant_of (c.peek.result.now, c.line-line.result) = ap₂ (λ a b. constant_of (a, b)) (sym c.peek.ensures.is) (sym c.line-line.ensures.is) in
     let l2 = rw (is ∙ sym c.in_ok-node.ensures ∙ ap (option_map plain_boxed) c.in_default.is) at l1 in
     let l3 = holds _ l2 (sym c.if-is.ensures.is) in
@@ -253,7 +253,7 @@ expression::simple-returns-in_err-body-clause-reads t c =
 
 pub expression::simple-returns-then-is-clause-reads : goal.expression::simple-returns-then-is-clause-reads
 expression::simple-returns-then-is-clause-reads t c =
-    let l1 = picked (starts simple c.args.room c.args.cursor.now) c.peek.ensures.more in
+    let l1 = picked (starts simple c.args.room.max c.args.cursor.now) c.peek.ensures.more in
     let is : constant_of (first c.args.cursor.now) ≡ constant_of (c.peek.result.now, c.line-line.result) = ap₂ (λ a b. constant_of (a, b)) (sym c.peek.ensures.is) (sym c.line-line.ensures.is) in
     let l2 = rw (is ∙ sym c.in_ok-node.ensures ∙ ap (option_map plain_boxed) c.in_default.is) at l1 in
     let l3 = holds _ l2 (sym c.if-is.ensures.is) in
@@ -264,7 +264,7 @@ expression::simple-returns-then-is-clause-reads t c =
 
 pub expression::simple-returns-then-is-2-clause-reads : goal.expression::simple-returns-then-is-2-clause-reads
 expression::simple-returns-then-is-2-clause-reads t c =
-    let l1 = picked (starts simple c.args.room c.args.cursor.now) c.peek.ensures.more in
+    let l1 = picked (starts simple c.args.room.max c.args.cursor.now) c.peek.ensures.more in
     let is : constant_of (first c.args.cursor.now) ≡ constant_of (c.peek.result.now, c.line-line.result) = ap₂ (λ a b. constant_of (a, b)) (sym c.peek.ensures.is) (sym c.line-line.ensures.is) in
     let l2 = rw (is ∙ sym c.in_ok-node.ensures ∙ ap (option_map plain_boxed) c.in_default.is) at l1 in
     let l3 = fails _ l2 (sym c.if-is.ensures.is) in
@@ -273,7 +273,7 @@ expression::simple-returns-then-is-2-clause-reads t c =
 
 pub expression::simple-returns-clause-reads : goal.expression::simple-returns-clause-reads
 expression::simple-returns-clause-reads t c =
-    let l1 = picked (starts simple c.args.room c.args.cursor.now) c.peek.ensures.more in
+    let l1 = picked (starts simple c.args.room.max c.args.cursor.now) c.peek.ensures.more in
     let is : constant_of (first c.args.cursor.now) ≡ constant_of (c.peek.result.now, c.line-line.result) = ap₂ (λ a b. constant_of (a, b)) (sym c.peek.ensures.is) (sym c.line-line.ensures.is) in
     let l2 = rw (is ∙ sym c.in_ok-node.ensures ∙ ap (option_map plain_boxed) c.in_default.is) at l1 in
     let l3 = fails _ l2 (sym c.if-is.ensures.is) in
@@ -282,8 +282,8 @@ expression::simple-returns-clause-reads t c =
 
 pub expression::explist-loop-alloc-init : goal.expression::explist-loop-alloc-init
 expression::explist-loop-alloc-init t c =
-    let l1 = found (starts explist c.args.room c.args.cursor.now) (c.in_ok-first.ensures.reads.tells) in
-    record { leads = placed c.args.room more_exps (into l1) c.in_ok-items.ensures.node c.in_ok-items.ensures.levels; low = omega (arith, c.in_ok-items.ensures.levels, c.in_ok-first.ensures.bound.0); taken = c.in_ok-first.ensures.bound.1 }
+    let l1 = found (starts explist c.args.room.max c.args.cursor.now) (c.in_ok-first.ensures.reads.tells) in
+    record { leads = placed c.args.room.max more_exps (into l1) c.in_ok-items.ensures.node c.in_ok-items.ensures.levels; low = omega (arith, c.in_ok-items.ensures.levels, c.in_ok-first.ensures.bound.0); taken = c.in_ok-first.ensures.bound.1 }
 
 pub expression::explist-loop-alloc-preserved : goal.expression::explist-loop-alloc-preserved
 expression::explist-loop-alloc-preserved t c =
@@ -291,7 +291,7 @@ expression::explist-loop-alloc-preserved t c =
     let l2 = holds _ l1 (sym c.loop-alloc-test.ensures.is) in
     let l3 = passed l2 c.loop-alloc-test.ensures.more (c.skip.ensures) in
     let l4 = found l3 (c.in_ok-item.ensures.reads.tells) in
-    record { leads = placed c.args.room more_exps (into l4) (mapped plain_exp c.loop-alloc.items.node.items c.in_ok-item.item.node.value c.in_ok-items-2.items.node.items c.in_ok-items-2.ensures.items) c.in_ok-items-2.ensures.levels; low = omega (arith, c.in_ok-items-2.ensures.levels, c.in_ok-item.ensures.bound.0, c.loop-alloc.invariant.low); taken = omega (arith, c.loop-alloc.invariant.taken, c.in_ok-item.ensures.bound.1, one_less c.loop-alloc-test.ensures.more c.skip.ensures) }
+    record { leads = placed c.args.room.max more_exps (into l4) (mapped plain_exp c.loop-alloc.items.node.items c.in_ok-item.item.node.value c.in_ok-items-2.items.node.items c.in_ok-items-2.ensures.items) c.in_ok-items-2.ensures.levels; low = omega (arith, c.in_ok-items-2.ensures.levels, c.in_ok-item.ensures.bound.0, c.loop-alloc.invariant.low); taken = omega (arith, c.loop-alloc.invariant.taken, c.in_ok-item.ensures.bound.1, one_less c.loop-alloc-test.ensures.more c.skip.ensures) }
 
 pub suffix::prefix-loop-alloc-preserved : goal.suffix::prefix-loop-alloc-preserved
 suffix::prefix-loop-alloc-preserved t c =
@@ -305,20 +305,20 @@ table::fields-loop-alloc-preserved t c =
     let l1 = picked c.loop-alloc.invariant.leads c.loop-alloc-test.ensures.more in
     let l2 = fails _ l1 (sym c.loop-alloc-test.ensures.is) in
     let l3 = found l2 (c.in_ok-item.ensures.reads.tells) in
-    record { leads = placed c.args.room more_fields (into l3) (mapped plain_field c.loop-alloc.items.node.items c.in_ok-item.item.node c.in_ok-items.items.node.items c.in_ok-items.ensures.items) c.in_ok-items.ensures.levels; low = omega (arith, c.in_ok-items.ensures.levels, c.in_ok-item.ensures.bound.0, c.loop-alloc.invariant.low); kept = omega (arith, c.loop-alloc.invariant.kept, c.in_ok-item.ensures.bound.1) }
+    record { leads = placed c.args.room.max more_fields (into l3) (mapped plain_field c.loop-alloc.items.node.items c.in_ok-item.item.node c.in_ok-items.items.node.items c.in_ok-items.ensures.items) c.in_ok-items.ensures.levels; low = omega (arith, c.in_ok-items.ensures.levels, c.in_ok-item.ensures.bound.0, c.loop-alloc.invariant.low); kept = omega (arith, c.loop-alloc.invariant.kept, c.in_ok-item.ensures.bound.1) }
 
 pub expression::operators-returns-then-left-room-clause-reads : goal.expression::operators-returns-then-left-room-clause-reads
 expression::operators-returns-then-left-room-clause-reads t c =
     let l1 = picked c.loop-infix.invariant.leads c.peek.ensures.more in
-    let l2 = turned l1 (ap (operator_move c.args.room c.args.level (plain_boxed c.loop-infix.left.node) c.loop-infix.left.height (first c.loop-infix.cursor).1) (ap (operator_of c.args.level) (sym c.peek.ensures.is) ∙ sym c.operator.ensures ∙ c.in-Some.is)) in
-    let l3 = fails _ l2 (no_room c.args.room c.loop-infix.left.height c.if-left-room.true) in
+    let l2 = turned l1 (ap (operator_move c.args.room.max c.args.level (plain_boxed c.loop-infix.left.node) c.loop-infix.left.height (first c.loop-infix.cursor).1) (ap (operator_of c.args.level) (sym c.peek.ensures.is) ∙ sym c.operator.ensures ∙ c.in-Some.is)) in
+    let l3 = fails _ l2 (no_room c.args.room.max c.loop-infix.left.height c.if-left-room.true) in
     record { tells = refused l3 c.peek.ensures.more }
 
 pub expression::operators-returns-in_err-right-clause-reads : goal.expression::operators-returns-in_err-right-clause-reads
 expression::operators-returns-in_err-right-clause-reads t c =
     let l1 = picked c.loop-infix.invariant.leads c.peek.ensures.more in
-    let l2 = turned l1 (ap (operator_move c.args.room c.args.level (plain_boxed c.loop-infix.left.node) c.loop-infix.left.height (first c.loop-infix.cursor).1) (ap (operator_of c.args.level) (sym c.peek.ensures.is) ∙ sym c.operator.ensures ∙ c.in-Some.is)) in
-    let l3 = holds _ l2 (has_room c.args.room c.loop-infix.left.height c.if-left-room.false) in
+    let l2 = turned l1 (ap (operator_move c.args.room.max c.args.level (plain_boxed c.loop-infix.left.node) c.loop-infix.left.height (first c.loop-infix.cursor).1) (ap (operator_of c.args.level) (sym c.peek.ensures.is) ∙ sym c.operator.ensures ∙ c.in-Some.is)) in
+    let l3 = holds _ l2 (has_room c.args.room.max c.loop-infix.left.height c.if-left-room.false) in
     let l4 = rw (← c.line-line.ensures.is) at l3 in
     let l5 = passed l4 c.peek.ensures.more (c.skip.ensures) in
     failed_by l5 c.in_err-right.ensures.reads (search rules)
@@ -326,17 +326,17 @@ expression::operators-returns-in_err-right-clause-reads t c =
 pub expression::operators-loop-infix-preserved : goal.expression::operators-loop-infix-preserved
 expression::operators-loop-infix-preserved t c =
     let l1 = picked c.loop-infix.invariant.leads c.peek.ensures.more in
-    let l2 = turned l1 (ap (operator_move c.args.room c.args.level (plain_boxed c.loop-infix.left.node) c.loop-infix.left.height (first c.loop-infix.cursor).1) (ap (operator_of c.args.level) (sym c.peek.ensures.is) ∙ sym c.operator.ensures ∙ c.in-Some.is)) in
-    let l3 = holds _ l2 (has_room c.args.room c.loop-infix.left.height c.if-left-room.false) in
+    let l2 = turned l1 (ap (operator_move c.args.room.max c.args.level (plain_boxed c.loop-infix.left.node) c.loop-infix.left.height (first c.loop-infix.cursor).1) (ap (operator_of c.args.level) (sym c.peek.ensures.is) ∙ sym c.operator.ensures ∙ c.in-Some.is)) in
+    let l3 = holds _ l2 (has_room c.args.room.max c.loop-infix.left.height c.if-left-room.false) in
     let l4 = rw (← c.line-line.ensures.is) at l3 in
     let l5 = passed l4 c.peek.ensures.more (c.skip.ensures) in
     let l6 = found l5 (c.in_ok-right.ensures.reads.tells) in
-    record { leads = placed c.args.room (behind c.args.level) (into l6) c.in_ok-left.ensures.node c.in_ok-left.ensures.levels; low = omega (arith, c.in_ok-left.ensures.levels, c.in_ok-right.ensures.bound.0, c.if-left-room.false); kept = omega (arith, c.loop-infix.invariant.kept, c.in_ok-right.ensures.bound.1, one_less c.peek.ensures.more c.skip.ensures) }
+    record { leads = placed c.args.room.max (behind c.args.level) (into l6) c.in_ok-left.ensures.node c.in_ok-left.ensures.levels; low = omega (arith, c.in_ok-left.ensures.levels, c.in_ok-right.ensures.bound.0, c.if-left-room.false); kept = omega (arith, c.loop-infix.invariant.kept, c.in_ok-right.ensures.bound.1, one_less c.peek.ensures.more c.skip.ensures) }
 
 pub expression::operators-returns-clause-reads : goal.expression::operators-returns-clause-reads
 expression::operators-returns-clause-reads t c =
     let l1 = picked c.loop-infix.invariant.leads c.peek.ensures.more in
-    let l2 = turned l1 (ap (operator_move c.args.room c.args.level (plain_boxed c.loop-infix.left.node) c.loop-infix.left.height (first c.loop-infix.cursor).1) (ap (operator_of c.args.level) (sym c.peek.ensures.is) ∙ sym c.operator.ensures ∙ c.in_default.is)) in
+    let l2 = turned l1 (ap (operator_move c.args.room.max c.args.level (plain_boxed c.loop-infix.left.node) c.loop-infix.left.height (first c.loop-infix.cursor).1) (ap (operator_of c.args.level) (sym c.peek.ensures.is) ∙ sym c.operator.ensures ∙ c.in_default.is)) in
     record { tells = ended_as l2 (refl) (refl) }
 
 pub expression::chain-returns-in_err-left-2-clause-reads : goal.expression::chain-returns-in_err-left-2-clause-reads
@@ -345,10 +345,10 @@ expression::chain-returns-in_err-left-2-clause-reads t c =
 
 pub expression::chain-loop-current-preserved : goal.expression::chain-loop-current-preserved
 expression::chain-loop-current-preserved t c =
-    let more = less (rank c.args.level) (rank c.loop-current.current) c.loop-current-test.ensures in record { reads = next_operand c.loop-current.current c.looser-current.result c.args.room c.args.cursor.now _ c.looser-current.ensures (omega (arith, more)) ((chain_leads c.loop-current.current c.args.room c.args.cursor.now c.loop-current.cursor (plain_boxed c.loop-current.left.node) c.loop-current.left.height c.loop-current.invariant.reads).leads _ c.in_ok-left-2.ensures.reads.tells); order = omega (arith, more, rank_looser c.loop-current.current, ap rank c.looser-current.ensures); low = c.in_ok-left-2.ensures.bound.0; taken = omega (arith, c.loop-current.invariant.taken, c.in_ok-left-2.ensures.bound.1) }
+    let more = less (rank c.args.level) (rank c.loop-current.current) c.loop-current-test.ensures in record { reads = next_operand c.loop-current.current c.looser-current.result c.args.room.max c.args.cursor.now _ c.looser-current.ensures (omega (arith, more)) ((chain_leads c.loop-current.current c.args.room.max c.args.cursor.now c.loop-current.cursor (plain_boxed c.loop-current.left.node) c.loop-current.left.height c.loop-current.invariant.reads).leads _ c.in_ok-left-2.ensures.reads.tells); order = omega (arith, more, rank_looser c.loop-current.current, ap rank c.looser-current.ensures); low = c.in_ok-left-2.ensures.bound.0; taken = omega (arith, c.loop-current.invariant.taken, c.in_ok-left-2.ensures.bound.1) }
 
 pub expression::chain-returns-clause-reads : goal.expression::chain-returns-clause-reads
 expression::chain-returns-clause-reads t c =
     let same : c.loop-current.current ≡ c.args.level = same_rank c.loop-current.current c.args.level (omega (arith, not_less (rank c.args.level) (rank c.loop-current.current) c.loop-current-test.ensures, c.loop-current.invariant.order)) in
-    let reads = subst (λ k. Reads (expects c.args.room (operand k)) c.args.cursor.now (whole (an_exp (plain_boxed c.loop-current.left.node)) c.loop-current.left.height c.loop-current.cursor)) same c.loop-current.invariant.reads in
-    answered (chain_leads c.args.level c.args.room c.args.cursor.now c.loop-current.cursor (plain_boxed c.loop-current.left.node) c.loop-current.left.height reads) c.operators-2.result c.operators-2.ensures.reads
+    let reads = subst (λ k. Reads (expects c.args.room.max (operand k)) c.args.cursor.now (whole (an_exp (plain_boxed c.loop-current.left.node)) c.loop-current.left.height c.loop-current.cursor)) same c.loop-current.invariant.reads in
+    answered (chain_leads c.args.level c.args.room.max c.args.cursor.now c.loop-current.cursor (plain_boxed c.loop-current.left.node) c.loop-current.left.height reads) c.operators-2.result c.operators-2.ensures.reads

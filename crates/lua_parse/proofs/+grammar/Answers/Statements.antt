@@ -25,7 +25,7 @@ use Rattle.lua_parse.proofs.+grammar.Goals as goal
 
 pub function::body-returns-in_err-expect-clause-reads : goal.function::body-returns-in_err-expect-clause-reads
 function::body-returns-in_err-expect-clause-reads t c =
-    let l1 = found (starts (body c.args.line c.args.own.items) c.args.room c.args.cursor.now) (c.in_ok-open.ensures.reads.tells) in
+    let l1 = found (starts (body c.args.line c.args.own.items) c.args.room.max c.args.cursor.now) (c.in_ok-open.ensures.reads.tells) in
     let l2 = found l1 (c.in_ok-params.ensures.reads.tells) in
     let l3 = found l2 (c.in_ok-open-2.ensures.reads.tells) in
     let l4 = found l3 (c.in_ok-inner.ensures.reads.tells) in
@@ -33,7 +33,7 @@ function::body-returns-in_err-expect-clause-reads t c =
 
 pub function::body-returns-clause-reads : goal.function::body-returns-clause-reads
 function::body-returns-clause-reads t c =
-    let l1 = found (starts (body c.args.line c.args.own.items) c.args.room c.args.cursor.now) (c.in_ok-open.ensures.reads.tells) in
+    let l1 = found (starts (body c.args.line c.args.own.items) c.args.room.max c.args.cursor.now) (c.in_ok-open.ensures.reads.tells) in
     let l2 = found l1 (c.in_ok-params.ensures.reads.tells) in
     let l3 = found l2 (c.in_ok-open-2.ensures.reads.tells) in
     let l4 = found l3 (c.in_ok-inner.ensures.reads.tells) in
@@ -42,7 +42,7 @@ function::body-returns-clause-reads t c =
 
 pub block::returned-returns-then-is-clause-reads : goal.block::returned-returns-then-is-clause-reads
 block::returned-returns-then-is-clause-reads t c =
-    let l1 = picked (starts returned c.args.room c.args.cursor.now) c.peek.ensures.more in
+    let l1 = picked (starts returned c.args.room.max c.args.cursor.now) c.peek.ensures.more in
     let l2 = fails _ l1 (ap ends_block (sym c.peek.ensures.is) ∙ sym c.if-ends_block.ensures) in
     let l3 = holds _ l2 (sym c.if-is.ensures.is) in
     let l4 = passed l3 c.if-is.ensures.more (c.skip.ensures) in
@@ -50,7 +50,7 @@ block::returned-returns-then-is-clause-reads t c =
 
 pub block::returned-returns-then-not-is-clause-reads : goal.block::returned-returns-then-not-is-clause-reads
 block::returned-returns-then-not-is-clause-reads t c =
-    let l1 = picked (starts returned c.args.room c.args.cursor.now) c.peek.ensures.more in
+    let l1 = picked (starts returned c.args.room.max c.args.cursor.now) c.peek.ensures.more in
     let l2 = fails _ l1 (ap ends_block (sym c.peek.ensures.is) ∙ sym c.if-ends_block.ensures) in
     let l3 = fails _ l2 (sym c.if-is.ensures.is) in
     let l4 = found l3 (c.in_ok-values.ensures.reads.tells) in
@@ -60,7 +60,7 @@ block::returned-returns-then-not-is-clause-reads t c =
 
 pub block::returned-returns-clause-reads : goal.block::returned-returns-clause-reads
 block::returned-returns-clause-reads t c =
-    let l1 = picked (starts returned c.args.room c.args.cursor.now) c.peek.ensures.more in
+    let l1 = picked (starts returned c.args.room.max c.args.cursor.now) c.peek.ensures.more in
     let l2 = fails _ l1 (ap ends_block (sym c.peek.ensures.is) ∙ sym c.if-ends_block.ensures) in
     let l3 = fails _ l2 (sym c.if-is.ensures.is) in
     let l4 = found l3 (c.in_ok-values.ensures.reads.tells) in
@@ -71,14 +71,14 @@ block::returned-returns-clause-reads t c =
 
 pub statement::while_stat-returns-clause-reads : goal.statement::while_stat-returns-clause-reads
 statement::while_stat-returns-clause-reads t c =
-    let l1 = found (starts while_stat c.args.room c.args.cursor.now) (c.in_ok-line.ensures.reads.tells) in
+    let l1 = found (starts while_stat c.args.room.max c.args.cursor.now) (c.in_ok-line.ensures.reads.tells) in
     let l2 = found l1 (c.in_ok-test.ensures.reads.tells) in
     let l3 = found l2 (c.in_ok-inner.ensures.reads.tells) in
     record { tells = ended_as l3 (ap a_stat c.in_ok-while_stat.ensures.node) c.in_ok-while_stat.ensures.levels }
 
 pub statement::repeat_stat-returns-clause-reads : goal.statement::repeat_stat-returns-clause-reads
 statement::repeat_stat-returns-clause-reads t c =
-    let l1 = found (starts repeat_stat c.args.room c.args.cursor.now) (c.in_ok-line.ensures.reads.tells) in
+    let l1 = found (starts repeat_stat c.args.room.max c.args.cursor.now) (c.in_ok-line.ensures.reads.tells) in
     let l2 = found l1 (c.in_ok-inner.ensures.reads.tells) in
     let l3 = found l2 (c.in_ok-expect.ensures.reads.tells) in
     let l4 = found l3 (c.in_ok-test.ensures.reads.tells) in
@@ -86,83 +86,83 @@ statement::repeat_stat-returns-clause-reads t c =
 
 pub statement::statement-returns-in-Label-clause-reads : goal.statement::statement-returns-in-Label-clause-reads
 statement::statement-returns-in-Label-clause-reads t c =
-    let l1 = picked (starts stat c.args.room c.args.cursor.now) c.line-line.ensures.more in
-    let l2 = turned l1 (ap (stat_move c.args.room (first c.args.cursor.now).1) (ap start_of (sym c.peek.ensures.is) ∙ sym c.start.ensures ∙ c.in-Label.is)) in
+    let l1 = picked (starts stat c.args.room.max c.args.cursor.now) c.line-line.ensures.more in
+    let l2 = turned l1 (ap (stat_move c.args.room.max (first c.args.cursor.now).1) (ap start_of (sym c.peek.ensures.is) ∙ sym c.start.ensures ∙ c.in-Label.is)) in
     answered (into l2) c.label_stat.result c.label_stat.ensures.reads
 
 pub statement::statement-returns-in-Goto-clause-reads : goal.statement::statement-returns-in-Goto-clause-reads
 statement::statement-returns-in-Goto-clause-reads t c =
-    let l1 = picked (starts stat c.args.room c.args.cursor.now) c.line-line.ensures.more in
-    let l2 = turned l1 (ap (stat_move c.args.room (first c.args.cursor.now).1) (ap start_of (sym c.peek.ensures.is) ∙ sym c.start.ensures ∙ c.in-Goto.is)) in
+    let l1 = picked (starts stat c.args.room.max c.args.cursor.now) c.line-line.ensures.more in
+    let l2 = turned l1 (ap (stat_move c.args.room.max (first c.args.cursor.now).1) (ap start_of (sym c.peek.ensures.is) ∙ sym c.start.ensures ∙ c.in-Goto.is)) in
     answered (into l2) c.goto_stat.result c.goto_stat.ensures.reads
 
 pub statement::statement-returns-in-Do-clause-reads : goal.statement::statement-returns-in-Do-clause-reads
 statement::statement-returns-in-Do-clause-reads t c =
-    let l1 = picked (starts stat c.args.room c.args.cursor.now) c.line-line.ensures.more in
-    let l2 = turned l1 (ap (stat_move c.args.room (first c.args.cursor.now).1) (ap start_of (sym c.peek.ensures.is) ∙ sym c.start.ensures ∙ c.in-Do.is)) in
+    let l1 = picked (starts stat c.args.room.max c.args.cursor.now) c.line-line.ensures.more in
+    let l2 = turned l1 (ap (stat_move c.args.room.max (first c.args.cursor.now).1) (ap start_of (sym c.peek.ensures.is) ∙ sym c.start.ensures ∙ c.in-Do.is)) in
     answered (into l2) c.do_stat.result c.do_stat.ensures.reads
 
 pub statement::statement-returns-in-While-clause-reads : goal.statement::statement-returns-in-While-clause-reads
 statement::statement-returns-in-While-clause-reads t c =
-    let l1 = picked (starts stat c.args.room c.args.cursor.now) c.line-line.ensures.more in
-    let l2 = turned l1 (ap (stat_move c.args.room (first c.args.cursor.now).1) (ap start_of (sym c.peek.ensures.is) ∙ sym c.start.ensures ∙ c.in-While.is)) in
+    let l1 = picked (starts stat c.args.room.max c.args.cursor.now) c.line-line.ensures.more in
+    let l2 = turned l1 (ap (stat_move c.args.room.max (first c.args.cursor.now).1) (ap start_of (sym c.peek.ensures.is) ∙ sym c.start.ensures ∙ c.in-While.is)) in
     answered (into l2) c.while_stat.result c.while_stat.ensures.reads
 
 pub statement::statement-returns-in-Repeat-clause-reads : goal.statement::statement-returns-in-Repeat-clause-reads
 statement::statement-returns-in-Repeat-clause-reads t c =
-    let l1 = picked (starts stat c.args.room c.args.cursor.now) c.line-line.ensures.more in
-    let l2 = turned l1 (ap (stat_move c.args.room (first c.args.cursor.now).1) (ap start_of (sym c.peek.ensures.is) ∙ sym c.start.ensures ∙ c.in-Repeat.is)) in
+    let l1 = picked (starts stat c.args.room.max c.args.cursor.now) c.line-line.ensures.more in
+    let l2 = turned l1 (ap (stat_move c.args.room.max (first c.args.cursor.now).1) (ap start_of (sym c.peek.ensures.is) ∙ sym c.start.ensures ∙ c.in-Repeat.is)) in
     answered (into l2) c.repeat_stat.result c.repeat_stat.ensures.reads
 
 pub statement::statement-returns-in-If-clause-reads : goal.statement::statement-returns-in-If-clause-reads
 statement::statement-returns-in-If-clause-reads t c =
-    let l1 = picked (starts stat c.args.room c.args.cursor.now) c.line-line.ensures.more in
-    let l2 = turned l1 (ap (stat_move c.args.room (first c.args.cursor.now).1) (ap start_of (sym c.peek.ensures.is) ∙ sym c.start.ensures ∙ c.in-If.is)) in
+    let l1 = picked (starts stat c.args.room.max c.args.cursor.now) c.line-line.ensures.more in
+    let l2 = turned l1 (ap (stat_move c.args.room.max (first c.args.cursor.now).1) (ap start_of (sym c.peek.ensures.is) ∙ sym c.start.ensures ∙ c.in-If.is)) in
     answered (into l2) c.if_stat.result c.if_stat.ensures.reads
 
 pub statement::statement-returns-in-For-clause-reads : goal.statement::statement-returns-in-For-clause-reads
 statement::statement-returns-in-For-clause-reads t c =
-    let l1 = picked (starts stat c.args.room c.args.cursor.now) c.line-line.ensures.more in
-    let l2 = turned l1 (ap (stat_move c.args.room (first c.args.cursor.now).1) (ap start_of (sym c.peek.ensures.is) ∙ sym c.start.ensures ∙ c.in-For.is)) in
+    let l1 = picked (starts stat c.args.room.max c.args.cursor.now) c.line-line.ensures.more in
+    let l2 = turned l1 (ap (stat_move c.args.room.max (first c.args.cursor.now).1) (ap start_of (sym c.peek.ensures.is) ∙ sym c.start.ensures ∙ c.in-For.is)) in
     answered (into l2) c.for_stat.result c.for_stat.ensures.reads
 
 pub statement::statement-returns-in-Function-clause-reads : goal.statement::statement-returns-in-Function-clause-reads
 statement::statement-returns-in-Function-clause-reads t c =
-    let l1 = picked (starts stat c.args.room c.args.cursor.now) c.line-line.ensures.more in
-    let l2 = turned l1 (ap (stat_move c.args.room (first c.args.cursor.now).1) (ap start_of (sym c.peek.ensures.is) ∙ sym c.start.ensures ∙ c.in-Function.is)) in
+    let l1 = picked (starts stat c.args.room.max c.args.cursor.now) c.line-line.ensures.more in
+    let l2 = turned l1 (ap (stat_move c.args.room.max (first c.args.cursor.now).1) (ap start_of (sym c.peek.ensures.is) ∙ sym c.start.ensures ∙ c.in-Function.is)) in
     answered (into l2) c.function_stat.result c.function_stat.ensures.reads
 
 pub statement::statement-returns-in-Local-clause-reads : goal.statement::statement-returns-in-Local-clause-reads
 statement::statement-returns-in-Local-clause-reads t c =
-    let l1 = picked (starts stat c.args.room c.args.cursor.now) c.line-line.ensures.more in
-    let l2 = turned l1 (ap (stat_move c.args.room (first c.args.cursor.now).1) (ap start_of (sym c.peek.ensures.is) ∙ sym c.start.ensures ∙ c.in-Local.is)) in
+    let l1 = picked (starts stat c.args.room.max c.args.cursor.now) c.line-line.ensures.more in
+    let l2 = turned l1 (ap (stat_move c.args.room.max (first c.args.cursor.now).1) (ap start_of (sym c.peek.ensures.is) ∙ sym c.start.ensures ∙ c.in-Local.is)) in
     answered (into l2) c.local_stat.result c.local_stat.ensures.reads
 
 pub statement::statement-returns-in-Prefix-clause-reads : goal.statement::statement-returns-in-Prefix-clause-reads
 statement::statement-returns-in-Prefix-clause-reads t c =
-    let l1 = picked (starts stat c.args.room c.args.cursor.now) c.line-line.ensures.more in
-    let l2 = turned l1 (ap (stat_move c.args.room (first c.args.cursor.now).1) (ap start_of (sym c.peek.ensures.is) ∙ sym c.start.ensures ∙ c.in-Prefix.is)) in
+    let l1 = picked (starts stat c.args.room.max c.args.cursor.now) c.line-line.ensures.more in
+    let l2 = turned l1 (ap (stat_move c.args.room.max (first c.args.cursor.now).1) (ap start_of (sym c.peek.ensures.is) ∙ sym c.start.ensures ∙ c.in-Prefix.is)) in
     answered (into l2) c.prefix_stat.result c.prefix_stat.ensures.reads
 
 pub statement::statement-returns-in-Empty-clause-reads : goal.statement::statement-returns-in-Empty-clause-reads
 statement::statement-returns-in-Empty-clause-reads t c =
-    let l1 = picked (starts stat c.args.room c.args.cursor.now) c.line-line.ensures.more in
-    let l2 = turned l1 (ap (stat_move c.args.room (first c.args.cursor.now).1) (ap start_of (sym c.peek.ensures.is) ∙ sym c.start.ensures ∙ c.in-Empty.is)) in
+    let l1 = picked (starts stat c.args.room.max c.args.cursor.now) c.line-line.ensures.more in
+    let l2 = turned l1 (ap (stat_move c.args.room.max (first c.args.cursor.now).1) (ap start_of (sym c.peek.ensures.is) ∙ sym c.start.ensures ∙ c.in-Empty.is)) in
     let l3 = rw (← c.line-line.ensures.is) at l2 in
     let l4 = passed l3 c.line-line.ensures.more (c.skip.ensures) in
     record { tells = ended_as l4 (ap a_stat c.bare_stat.ensures.node) c.bare_stat.ensures.levels }
 
 pub statement::statement-returns-in-Break-clause-reads : goal.statement::statement-returns-in-Break-clause-reads
 statement::statement-returns-in-Break-clause-reads t c =
-    let l1 = picked (starts stat c.args.room c.args.cursor.now) c.line-line.ensures.more in
-    let l2 = turned l1 (ap (stat_move c.args.room (first c.args.cursor.now).1) (ap start_of (sym c.peek.ensures.is) ∙ sym c.start.ensures ∙ c.in-Break.is)) in
+    let l1 = picked (starts stat c.args.room.max c.args.cursor.now) c.line-line.ensures.more in
+    let l2 = turned l1 (ap (stat_move c.args.room.max (first c.args.cursor.now).1) (ap start_of (sym c.peek.ensures.is) ∙ sym c.start.ensures ∙ c.in-Break.is)) in
     let l3 = rw (← c.line-line.ensures.is) at l2 in
     let l4 = passed l3 c.line-line.ensures.more (c.skip-in-Break.ensures) in
     record { tells = ended_as l4 (ap a_stat c.bare_stat-in-Break.ensures.node) c.bare_stat-in-Break.ensures.levels }
 
 pub branch::if_stat-returns-clause-reads : goal.branch::if_stat-returns-clause-reads
 branch::if_stat-returns-clause-reads t c =
-    let l1 = found (starts if_stat c.args.room c.args.cursor.now) (c.in_ok-line.ensures.reads.tells) in
+    let l1 = found (starts if_stat c.args.room.max c.args.cursor.now) (c.in_ok-line.ensures.reads.tells) in
     let l2 = found l1 (c.in_ok-arms.ensures.reads.tells) in
     let l3 = found l2 (c.in_ok-other.ensures.reads.tells) in
     let l4 = found l3 (c.in_ok-expect.ensures.reads.tells) in
@@ -170,14 +170,14 @@ branch::if_stat-returns-clause-reads t c =
 
 pub branch::arm-returns-clause-reads : goal.branch::arm-returns-clause-reads
 branch::arm-returns-clause-reads t c =
-    let l1 = found (starts arm c.args.room c.args.cursor.now) (c.in_ok-test.ensures.reads.tells) in
+    let l1 = found (starts arm c.args.room.max c.args.cursor.now) (c.in_ok-test.ensures.reads.tells) in
     let l2 = found l1 (c.in_ok-open.ensures.reads.tells) in
     let l3 = found l2 (c.in_ok-inner.ensures.reads.tells) in
     record { tells = ended_as l3 (ap (λ (p : tree.Exp × tree.Block). an_arm p.0 p.1) c.arm.ensures.node) c.arm.ensures.levels }
 
 pub repetition::numeric-returns-in_err-step-clause-reads : goal.repetition::numeric-returns-in_err-step-clause-reads
 repetition::numeric-returns-in_err-step-clause-reads t c =
-    let l1 = found (starts (numeric c.args.line c.args.name) c.args.room c.args.cursor.now) (c.in_ok-expect.ensures.reads.tells) in
+    let l1 = found (starts (numeric c.args.line c.args.name) c.args.room.max c.args.cursor.now) (c.in_ok-expect.ensures.reads.tells) in
     let l2 = found l1 (c.in_ok-first.ensures.reads.tells) in
     let l3 = found l2 (c.in_ok-expect-2.ensures.reads.tells) in
     let l4 = found l3 (c.in_ok-limit.ensures.reads.tells) in
@@ -185,7 +185,7 @@ repetition::numeric-returns-in_err-step-clause-reads t c =
 
 pub repetition::numeric-returns-in_err-inner-clause-reads : goal.repetition::numeric-returns-in_err-inner-clause-reads
 repetition::numeric-returns-in_err-inner-clause-reads t c =
-    let l1 = found (starts (numeric c.args.line c.args.name) c.args.room c.args.cursor.now) (c.in_ok-expect.ensures.reads.tells) in
+    let l1 = found (starts (numeric c.args.line c.args.name) c.args.room.max c.args.cursor.now) (c.in_ok-expect.ensures.reads.tells) in
     let l2 = found l1 (c.in_ok-first.ensures.reads.tells) in
     let l3 = found l2 (c.in_ok-expect-2.ensures.reads.tells) in
     let l4 = found l3 (c.in_ok-limit.ensures.reads.tells) in
@@ -194,7 +194,7 @@ repetition::numeric-returns-in_err-inner-clause-reads t c =
 
 pub repetition::numeric-returns-clause-reads : goal.repetition::numeric-returns-clause-reads
 repetition::numeric-returns-clause-reads t c =
-    let l1 = found (starts (numeric c.args.line c.args.name) c.args.room c.args.cursor.now) (c.in_ok-expect.ensures.reads.tells) in
+    let l1 = found (starts (numeric c.args.line c.args.name) c.args.room.max c.args.cursor.now) (c.in_ok-expect.ensures.reads.tells) in
     let l2 = found l1 (c.in_ok-first.ensures.reads.tells) in
     let l3 = found l2 (c.in_ok-expect-2.ensures.reads.tells) in
     let l4 = found l3 (c.in_ok-limit.ensures.reads.tells) in
@@ -204,7 +204,7 @@ repetition::numeric-returns-clause-reads t c =
 
 pub repetition::generic-returns-clause-reads : goal.repetition::generic-returns-clause-reads
 repetition::generic-returns-clause-reads t c =
-    let l1 = found (starts (generic c.args.line c.args.first) c.args.room c.args.cursor.now) (c.in_ok-names.ensures.reads.tells) in
+    let l1 = found (starts (generic c.args.line c.args.first) c.args.room.max c.args.cursor.now) (c.in_ok-names.ensures.reads.tells) in
     let l2 = found l1 (c.in_ok-expect.ensures.reads.tells) in
     let l3 = found l2 (c.in_ok-values.ensures.reads.tells) in
     let l4 = found l3 (c.in_ok-inner.ensures.reads.tells) in
@@ -212,34 +212,34 @@ repetition::generic-returns-clause-reads t c =
 
 pub assignment::function_stat-returns-clause-reads : goal.assignment::function_stat-returns-clause-reads
 assignment::function_stat-returns-clause-reads t c =
-    let l1 = found (starts function_stat c.args.room c.args.cursor.now) (c.in_ok-line.ensures.reads.tells) in
+    let l1 = found (starts function_stat c.args.room.max c.args.cursor.now) (c.in_ok-line.ensures.reads.tells) in
     let l2 = found l1 (c.in_ok-target.ensures.reads.tells) in
     let l3 = found l2 (c.in_ok-body.ensures.reads.tells) in
     record { tells = ended_as l3 (ap a_stat c.in_ok-function_stat.ensures.node) c.in_ok-function_stat.ensures.levels }
 
 pub assignment::local_function-returns-in_err-body-clause-reads : goal.assignment::local_function-returns-in_err-body-clause-reads
 assignment::local_function-returns-in_err-body-clause-reads t c =
-    let l1 = found (starts (local_function c.args.line) c.args.room c.args.cursor.now) (c.in_ok-own_line.ensures.reads.tells) in
+    let l1 = found (starts (local_function c.args.line) c.args.room.max c.args.cursor.now) (c.in_ok-own_line.ensures.reads.tells) in
     let l2 = found l1 (c.in_ok-name.ensures.reads.tells) in
     let r : c.from_residual-in_err-body.result ≡ Err c.in_err-body.field-0.0 = search rules in rw r (failed l2 _ (rw c.new.ensures.items at c.in_err-body.ensures.reads))
 
 pub assignment::local_function-returns-clause-reads : goal.assignment::local_function-returns-clause-reads
 assignment::local_function-returns-clause-reads t c =
-    let l1 = found (starts (local_function c.args.line) c.args.room c.args.cursor.now) (c.in_ok-own_line.ensures.reads.tells) in
+    let l1 = found (starts (local_function c.args.line) c.args.room.max c.args.cursor.now) (c.in_ok-own_line.ensures.reads.tells) in
     let l2 = found l1 (c.in_ok-name.ensures.reads.tells) in
     let l3 = found l2 ((rw c.new.ensures.items at c.in_ok-body.ensures.reads).tells) in
     record { tells = ended_as l3 (ap a_stat c.in_ok-local_function.ensures.node) c.in_ok-local_function.ensures.levels }
 
 pub assignment::local_names-returns-clause-reads : goal.assignment::local_names-returns-clause-reads
 assignment::local_names-returns-clause-reads t c =
-    let l1 = found (starts (local_names c.args.line) c.args.room c.args.cursor.now) (c.in_ok-first.ensures.reads.tells) in
+    let l1 = found (starts (local_names c.args.line) c.args.room.max c.args.cursor.now) (c.in_ok-first.ensures.reads.tells) in
     let l2 = found l1 (c.in_ok-names.ensures.reads.tells) in
     let l3 = found l2 (c.in_ok-values.ensures.reads.tells) in
     record { tells = ended_as l3 (ap a_stat c.local.ensures.node) c.local.ensures.levels }
 
 pub assignment::prefix_stat-returns-then-is_call-clause-reads : goal.assignment::prefix_stat-returns-then-is_call-clause-reads
 assignment::prefix_stat-returns-then-is_call-clause-reads t c =
-    let l1 = picked (starts prefix_stat c.args.room c.args.cursor.now) c.line-line.ensures.more in
+    let l1 = picked (starts prefix_stat c.args.room.max c.args.cursor.now) c.line-line.ensures.more in
     let l2 = rw (← c.line-line.ensures.is) at l1 in
     let l3 = found l2 (c.in_ok-first.ensures.reads.tells) in
     let l4 = holds _ l3 (sym c.if-is_call.ensures) in
@@ -247,7 +247,7 @@ assignment::prefix_stat-returns-then-is_call-clause-reads t c =
 
 pub assignment::prefix_stat-returns-then-not-is_target-clause-reads : goal.assignment::prefix_stat-returns-then-not-is_target-clause-reads
 assignment::prefix_stat-returns-then-not-is_target-clause-reads t c =
-    let l1 = picked (starts prefix_stat c.args.room c.args.cursor.now) c.line-line.ensures.more in
+    let l1 = picked (starts prefix_stat c.args.room.max c.args.cursor.now) c.line-line.ensures.more in
     let l2 = rw (← c.line-line.ensures.is) at l1 in
     let l3 = found l2 (c.in_ok-first.ensures.reads.tells) in
     let l4 = fails _ l3 (sym c.if-is_call.ensures) in
@@ -256,7 +256,7 @@ assignment::prefix_stat-returns-then-not-is_target-clause-reads t c =
 
 pub assignment::prefix_stat-returns-clause-reads : goal.assignment::prefix_stat-returns-clause-reads
 assignment::prefix_stat-returns-clause-reads t c =
-    let l1 = picked (starts prefix_stat c.args.room c.args.cursor.now) c.line-line.ensures.more in
+    let l1 = picked (starts prefix_stat c.args.room.max c.args.cursor.now) c.line-line.ensures.more in
     let l2 = rw (← c.line-line.ensures.is) at l1 in
     let l3 = found l2 (c.in_ok-first.ensures.reads.tells) in
     let l4 = fails _ l3 (sym c.if-is_call.ensures) in
@@ -265,22 +265,22 @@ assignment::prefix_stat-returns-clause-reads t c =
 
 pub assignment::assignment-returns-clause-reads : goal.assignment::assignment-returns-clause-reads
 assignment::assignment-returns-clause-reads t c =
-    let l1 = found (starts (assignment c.args.line (plain_boxed c.args.first.node) c.args.first.height) c.args.room c.args.cursor.now) (c.in_ok-targets.ensures.reads.tells) in
+    let l1 = found (starts (assignment c.args.line (plain_boxed c.args.first.node) c.args.first.height) c.args.room.max c.args.cursor.now) (c.in_ok-targets.ensures.reads.tells) in
     let l2 = found l1 (c.in_ok-expect.ensures.reads.tells) in
     let l3 = found l2 (c.in_ok-values.ensures.reads.tells) in
     record { tells = ended_as l3 (ap a_stat c.assign.ensures.node) c.assign.ensures.levels }
 
 pub block::block-returns-clause-reads : goal.block::block-returns-clause-reads
 block::block-returns-clause-reads t c =
-    let l1 = found (starts block c.args.room c.args.cursor.now) (c.in_ok-items.ensures.reads.tells) in
+    let l1 = found (starts block c.args.room.max c.args.cursor.now) (c.in_ok-items.ensures.reads.tells) in
     let counts : c.left-before.result - c.left.result ≡ length c.args.cursor.now - length c.items.new.cursor = rw (c.left-before.ensures, c.left.ensures) refl in
     let l2 = rw (← counts) at l1 in
     record { tells = ended_as l2 (ap a_block c.block.ensures.node) c.block.ensures.levels }
 
 pub branch::arms-loop-alloc-init : goal.branch::arms-loop-alloc-init
 branch::arms-loop-alloc-init t c =
-    let l1 = found (starts arms c.args.room c.args.cursor.now) (c.in_ok-first.ensures.reads.tells) in
-    record { leads = placed c.args.room more_arms (into l1) c.in_ok-items.ensures.node c.in_ok-items.ensures.levels; low = omega (arith, c.in_ok-items.ensures.levels, c.in_ok-first.ensures.bound.0); taken = c.in_ok-first.ensures.bound.1 }
+    let l1 = found (starts arms c.args.room.max c.args.cursor.now) (c.in_ok-first.ensures.reads.tells) in
+    record { leads = placed c.args.room.max more_arms (into l1) c.in_ok-items.ensures.node c.in_ok-items.ensures.levels; low = omega (arith, c.in_ok-items.ensures.levels, c.in_ok-first.ensures.bound.0); taken = c.in_ok-first.ensures.bound.1 }
 
 pub branch::arms-loop-alloc-preserved : goal.branch::arms-loop-alloc-preserved
 branch::arms-loop-alloc-preserved t c =
@@ -288,7 +288,7 @@ branch::arms-loop-alloc-preserved t c =
     let l2 = holds _ l1 (sym c.loop-alloc-test.ensures.is) in
     let l3 = passed l2 c.loop-alloc-test.ensures.more (c.skip.ensures) in
     let l4 = found l3 (c.in_ok-item.ensures.reads.tells) in
-    record { leads = placed c.args.room more_arms (into l4) (mapped plain_arm c.loop-alloc.items.node.items c.in_ok-item.item.node c.in_ok-items-2.items.node.items c.in_ok-items-2.ensures.items) c.in_ok-items-2.ensures.levels; low = omega (arith, c.in_ok-items-2.ensures.levels, c.in_ok-item.ensures.bound.0, c.loop-alloc.invariant.low); taken = omega (arith, c.loop-alloc.invariant.taken, c.in_ok-item.ensures.bound.1, one_less c.loop-alloc-test.ensures.more c.skip.ensures) }
+    record { leads = placed c.args.room.max more_arms (into l4) (mapped plain_arm c.loop-alloc.items.node.items c.in_ok-item.item.node c.in_ok-items-2.items.node.items c.in_ok-items-2.ensures.items) c.in_ok-items-2.ensures.levels; low = omega (arith, c.in_ok-items-2.ensures.levels, c.in_ok-item.ensures.bound.0, c.loop-alloc.invariant.low); taken = omega (arith, c.loop-alloc.invariant.taken, c.in_ok-item.ensures.bound.1, one_less c.loop-alloc-test.ensures.more c.skip.ensures) }
 
 pub block::items-returns-in_err-stat-clause-reads : goal.block::items-returns-in_err-stat-clause-reads
 block::items-returns-in_err-stat-clause-reads t c =
@@ -303,7 +303,7 @@ block::items-loop-cursor-preserved t c =
     let l2 = fails _ l1 (neither_first (is_word RETURN (first c.loop-cursor.cursor).0) (ends_block (first c.loop-cursor.cursor).0) (ap (λ t. is_word RETURN t || ends_block t) (sym c.peek.ensures.is) ∙ sym c.loop-cursor-test.ensures)) in
     let l3 = fails _ l2 (neither_second (is_word RETURN (first c.loop-cursor.cursor).0) (ends_block (first c.loop-cursor.cursor).0) (ap (λ t. is_word RETURN t || ends_block t) (sym c.peek.ensures.is) ∙ sym c.loop-cursor-test.ensures)) in
     let l4 = found l3 (c.in_ok-stat.ensures.reads.tells) in
-    record { leads = placed c.args.room items (into l4) (mapped plain_stat c.loop-cursor.stats.node.items c.in_ok-stat.stat.node c.in_ok-stats.stats.node.items c.in_ok-stats.ensures.items) c.in_ok-stats.ensures.levels; low = omega (arith, c.in_ok-stats.ensures.levels, c.in_ok-stat.ensures.bound.0, c.loop-cursor.invariant.low); kept = omega (arith, c.loop-cursor.invariant.kept, c.in_ok-stat.ensures.bound.1) }
+    record { leads = placed c.args.room.max items (into l4) (mapped plain_stat c.loop-cursor.stats.node.items c.in_ok-stat.stat.node c.in_ok-stats.stats.node.items c.in_ok-stats.ensures.items) c.in_ok-stats.ensures.levels; low = omega (arith, c.in_ok-stats.ensures.levels, c.in_ok-stat.ensures.bound.0, c.loop-cursor.invariant.low); kept = omega (arith, c.loop-cursor.invariant.kept, c.in_ok-stat.ensures.bound.1) }
 
 pub block::items-returns-then-not-is-clause-reads : goal.block::items-returns-then-not-is-clause-reads
 block::items-returns-then-not-is-clause-reads t c =
@@ -324,7 +324,7 @@ block::items-returns-clause-reads t c =
 
 pub assignment::targets-loop-alloc-init : goal.assignment::targets-loop-alloc-init
 assignment::targets-loop-alloc-init t c =
-    record { leads = placed c.args.room more_targets (starts (more_targets (plain_boxed c.args.first.node ∷ []) c.args.first.height) c.args.room c.args.cursor.now) c.in_ok-items.ensures.node c.in_ok-items.ensures.levels; low = omega (arith, c.in_ok-items.ensures.levels, c.requires.fits); kept = omega arith }
+    record { leads = placed c.args.room.max more_targets (starts (more_targets (plain_boxed c.args.first.node ∷ []) c.args.first.height) c.args.room.max c.args.cursor.now) c.in_ok-items.ensures.node c.in_ok-items.ensures.levels; low = omega (arith, c.in_ok-items.ensures.levels, c.requires.fits); kept = omega arith }
 
 pub assignment::targets-returns-then-not-is_target-clause-reads : goal.assignment::targets-returns-then-not-is_target-clause-reads
 assignment::targets-returns-then-not-is_target-clause-reads t c =
@@ -342,4 +342,4 @@ assignment::targets-loop-alloc-preserved t c =
     let l3 = passed l2 c.loop-alloc-test.ensures.more (c.skip.ensures) in
     let l4 = found l3 (c.in_ok-item.ensures.reads.tells) in
     let l5 = holds _ l4 (sym c.if-not-is_target.ensures) in
-    record { leads = placed c.args.room more_targets (into l5) (mapped plain_exp c.loop-alloc.items.node.items c.in_ok-item.item.node.value c.in_ok-items-2.items.node.items c.in_ok-items-2.ensures.items) c.in_ok-items-2.ensures.levels; low = omega (arith, c.in_ok-items-2.ensures.levels, c.in_ok-item.ensures.bound.0, c.loop-alloc.invariant.low); kept = omega (arith, c.loop-alloc.invariant.kept, c.in_ok-item.ensures.bound.1, one_less c.loop-alloc-test.ensures.more c.skip.ensures) }
+    record { leads = placed c.args.room.max more_targets (into l5) (mapped plain_exp c.loop-alloc.items.node.items c.in_ok-item.item.node.value c.in_ok-items-2.items.node.items c.in_ok-items-2.ensures.items) c.in_ok-items-2.ensures.levels; low = omega (arith, c.in_ok-items-2.ensures.levels, c.in_ok-item.ensures.bound.0, c.loop-alloc.invariant.low); kept = omega (arith, c.loop-alloc.invariant.kept, c.in_ok-item.ensures.bound.1, one_less c.loop-alloc-test.ensures.more c.skip.ensures) }

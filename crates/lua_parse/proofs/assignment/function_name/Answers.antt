@@ -23,16 +23,16 @@ use Rattle.lua_parse.proofs.Steps.{Comes, Leads, starts, picked, passed, turned,
 use Rattle.lua_parse.proofs.assignment.function_name.Goals as goal
 
 pub returns-in_err-first-clause-reads : goal.returns-in_err-first-clause-reads
-returns-in_err-first-clause-reads c = failed_by (starts function_name c.args.room c.args.cursor.now) c.in_err-first.ensures.reads (search rules)
+returns-in_err-first-clause-reads c = failed_by (starts function_name c.args.room.max c.args.cursor.now) c.in_err-first.ensures.reads (search rules)
 
 pub returns-in_err-exp-clause-reads : goal.returns-in_err-exp-clause-reads
 returns-in_err-exp-clause-reads c =
-    let l1 = found (starts function_name c.args.room c.args.cursor.now) (c.in_ok-first.ensures.reads.tells) in
+    let l1 = found (starts function_name c.args.room.max c.args.cursor.now) (c.in_ok-first.ensures.reads.tells) in
     failed_by l1 (rw (c.in_ok-first-2.ensures.node, c.in_ok-first-2.ensures.levels) at c.in_err-exp.ensures.reads) (search rules)
 
 pub returns-then-not-is-clause-reads : goal.returns-then-not-is-clause-reads
 returns-then-not-is-clause-reads c =
-    let l1 = found (starts function_name c.args.room c.args.cursor.now) (c.in_ok-first.ensures.reads.tells) in
+    let l1 = found (starts function_name c.args.room.max c.args.cursor.now) (c.in_ok-first.ensures.reads.tells) in
     let l2 = found l1 ((rw (c.in_ok-first-2.ensures.node, c.in_ok-first-2.ensures.levels) at c.in_ok-exp.ensures.reads).tells) in
     let l3 = picked l2 c.if-not-is.ensures.more in
     let l4 = fails _ l3 (sym c.if-not-is.ensures.is) in
@@ -40,7 +40,7 @@ returns-then-not-is-clause-reads c =
 
 pub returns-in_err-exp-2-clause-reads : goal.returns-in_err-exp-2-clause-reads
 returns-in_err-exp-2-clause-reads c =
-    let l1 = found (starts function_name c.args.room c.args.cursor.now) (c.in_ok-first.ensures.reads.tells) in
+    let l1 = found (starts function_name c.args.room.max c.args.cursor.now) (c.in_ok-first.ensures.reads.tells) in
     let l2 = found l1 ((rw (c.in_ok-first-2.ensures.node, c.in_ok-first-2.ensures.levels) at c.in_ok-exp.ensures.reads).tells) in
     let l3 = picked l2 c.if-not-is.ensures.more in
     let l4 = holds _ l3 (sym c.if-not-is.ensures.is) in
@@ -48,7 +48,7 @@ returns-in_err-exp-2-clause-reads c =
 
 pub returns-clause-reads : goal.returns-clause-reads
 returns-clause-reads c =
-    let l1 = found (starts function_name c.args.room c.args.cursor.now) (c.in_ok-first.ensures.reads.tells) in
+    let l1 = found (starts function_name c.args.room.max c.args.cursor.now) (c.in_ok-first.ensures.reads.tells) in
     let l2 = found l1 ((rw (c.in_ok-first-2.ensures.node, c.in_ok-first-2.ensures.levels) at c.in_ok-exp.ensures.reads).tells) in
     let l3 = picked l2 c.if-not-is.ensures.more in
     let l4 = holds _ l3 (sym c.if-not-is.ensures.is) in

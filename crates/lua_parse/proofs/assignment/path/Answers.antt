@@ -24,7 +24,7 @@ use Rattle.lua_parse.proofs.assignment.path.Goals as goal
 
 pub loop-alloc-init : goal.loop-alloc-init
 loop-alloc-init c =
-    record { leads = (starts (path (plain_boxed c.args.first.node) c.args.first.height) c.args.room c.args.cursor.now); low = c.requires.fits; kept = omega arith }
+    record { leads = (starts (path (plain_boxed c.args.first.node) c.args.first.height) c.args.room.max c.args.cursor.now); low = c.requires.fits; kept = omega arith }
 
 pub returns-in_err-left-clause-reads : goal.returns-in_err-left-clause-reads
 returns-in_err-left-clause-reads c =

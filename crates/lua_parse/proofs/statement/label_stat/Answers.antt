@@ -22,16 +22,16 @@ use Rattle.lua_parse.proofs.Steps.{Comes, Leads, starts, picked, passed, turned,
 use Rattle.lua_parse.proofs.statement.label_stat.Goals as goal
 
 pub returns-in_err-line-clause-reads : goal.returns-in_err-line-clause-reads
-returns-in_err-line-clause-reads c = failed_by (starts label_stat c.args.room c.args.cursor.now) c.in_err-line.ensures.reads (search rules)
+returns-in_err-line-clause-reads c = failed_by (starts label_stat c.args.room.max c.args.cursor.now) c.in_err-line.ensures.reads (search rules)
 
 pub returns-in_err-name-clause-reads : goal.returns-in_err-name-clause-reads
-returns-in_err-name-clause-reads c = failed_by (found (starts label_stat c.args.room c.args.cursor.now) (c.in_ok-line.ensures.reads.tells)) c.in_err-name.ensures.reads (search rules)
+returns-in_err-name-clause-reads c = failed_by (found (starts label_stat c.args.room.max c.args.cursor.now) (c.in_ok-line.ensures.reads.tells)) c.in_err-name.ensures.reads (search rules)
 
 pub returns-in_err-expect-clause-reads : goal.returns-in_err-expect-clause-reads
 returns-in_err-expect-clause-reads c =
-    failed_by (found (found (starts label_stat c.args.room c.args.cursor.now) (c.in_ok-line.ensures.reads.tells)) (c.in_ok-name.ensures.reads.tells)) c.in_err-expect.ensures.reads (search rules)
+    failed_by (found (found (starts label_stat c.args.room.max c.args.cursor.now) (c.in_ok-line.ensures.reads.tells)) (c.in_ok-name.ensures.reads.tells)) c.in_err-expect.ensures.reads (search rules)
 
 pub returns-clause-reads : goal.returns-clause-reads
 returns-clause-reads c =
-    let l1 = found (found (starts label_stat c.args.room c.args.cursor.now) (c.in_ok-line.ensures.reads.tells)) (c.in_ok-name.ensures.reads.tells) in
+    let l1 = found (found (starts label_stat c.args.room.max c.args.cursor.now) (c.in_ok-line.ensures.reads.tells)) (c.in_ok-name.ensures.reads.tells) in
     record { tells = ended_as (found l1 (c.in_ok-expect.ensures.reads.tells)) (ap a_stat c.bare_stat.ensures.node) c.bare_stat.ensures.levels }
