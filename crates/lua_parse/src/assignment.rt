@@ -7,7 +7,7 @@ ghost use Rattle.lua_parse.specs.Moves.{function_stat, function_name, path, loca
 ghost use Rattle.lua_parse.specs.Answers.{Answers, given_stat, given_target, given_exp, given_exps, given_declared, given_all_declared};
 
 use crate::expression::explist;
-use crate::fault::{Fault, Parsed, Target};
+use crate::fault::{Fault, FoundExp, Parsed, Target};
 use crate::function::body;
 use crate::room::Room;
 use crate::suffix::{dotted, prefix};
@@ -73,7 +73,7 @@ fn this(alloc: Global, line: u32) -> Result<Vec<Name>, AllocError>
 }
 
 /// {`.` Name}.
-fn path(alloc: Global, cursor: &mut Cursor, first: Found<Box<Exp>>, room: Room) -> Parsed<Box<Exp>>
+fn path(alloc: Global, cursor: &mut Cursor, first: FoundExp, room: Room) -> Parsed<Box<Exp>>
     requires fits { first.height ≤ room.max }
     ensures reads { Answers given_exp (path (plain_boxed first.node) first.height) room.max cursor.old result cursor.new }
     ensures bound { IfOk result (λ found. (found.height ≤ room.max) × (length cursor.new ≤ length cursor.old)) }
@@ -215,7 +215,7 @@ fn assignment(
     alloc: Global,
     cursor: &mut Cursor,
     line: u32,
-    first: Found<Box<Exp>>,
+    first: FoundExp,
     room: Room,
 ) -> Parsed<Stat>
     requires fits { first.height ≤ room.max }
@@ -230,12 +230,7 @@ fn assignment(
 
 /// The targets of an assignment, from the first one on.
 #[cycle(grammar)]
-fn targets(
-    alloc: Global,
-    cursor: &mut Cursor,
-    first: Found<Box<Exp>>,
-    room: Room,
-) -> Parsed<Vec<Exp>>
+fn targets(alloc: Global, cursor: &mut Cursor, first: FoundExp, room: Room) -> Parsed<Vec<Exp>>
     requires fits { first.height ≤ room.max }
     ensures reads { Answers given_exps (more_targets (plain_boxed first.node ∷ []) first.height) room.max cursor.old result cursor.new }
     ensures bound { IfOk result (λ found. (found.height ≤ room.max) × (length cursor.new ≤ length cursor.old)) }

@@ -9,7 +9,7 @@ ghost use Rattle.lua_parse.specs.Grammar.{exp, right_operand};
 ghost use Rattle.lua_parse.specs.Answers.{Answers, given_exp, given_exps};
 ghost use Rattle.token_cursor.specs.Words.{first};
 
-use crate::fault::{Fault, Parsed};
+use crate::fault::{Fault, FoundExp, Parsed};
 use crate::function::body;
 use crate::room::Room;
 use crate::suffix::prefix;
@@ -74,7 +74,7 @@ fn operators(
     alloc: Global,
     cursor: &mut Cursor,
     level: Level,
-    first: Found<Box<Exp>>,
+    first: FoundExp,
     room: Room,
 ) -> Parsed<Box<Exp>>
     requires fits { first.height ≤ room.max }

@@ -18,8 +18,11 @@ pub struct Target {
 /// What reading a part answers.
 pub type Parsed<T> = Result<Found<T>, Fault>;
 
+/// An expression that was read.
+pub type FoundExp = Found<Box<Exp>>;
+
 /// Why a part wasn't read.
-#[derive(Debug, Clone, Copy)]
+#[derive(Clone, Copy)]
 pub enum Fault {
     /// The next token can't stand there.
     Refused,

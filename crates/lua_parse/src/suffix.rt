@@ -6,7 +6,7 @@ ghost use Rattle.lua_parse.specs.Answers.{Answers, given_exp, given_exps};
 ghost use Rattle.token_cursor.specs.Words.{first};
 
 use crate::expression::{explist, expression};
-use crate::fault::{Fault, Parsed};
+use crate::fault::{Fault, FoundExp, Parsed};
 use crate::room::Room;
 use crate::table::fields;
 use crate::terminal::{copy, expect, name, open};
@@ -61,7 +61,7 @@ fn paren(alloc: Global, cursor: &mut Cursor, room: Room) -> Parsed<Box<Exp>>
 
 /// A suffix of the expression before it.
 #[cycle(grammar)]
-fn suffix(alloc: Global, cursor: &mut Cursor, left: Found<Box<Exp>>, room: Room) -> Parsed<Box<Exp>>
+fn suffix(alloc: Global, cursor: &mut Cursor, left: FoundExp, room: Room) -> Parsed<Box<Exp>>
     ensures reads { Answers given_exp (suffix (plain_boxed left.node) left.height) room.max cursor.old result cursor.new }
     ensures bound { IfOk result (λ found. (found.height ≤ room.max) × (length cursor.new < length cursor.old)) }
 {
@@ -82,7 +82,7 @@ pub fn dotted(
     alloc: Global,
     cursor: &mut Cursor,
     wanted: Word,
-    left: Found<Box<Exp>>,
+    left: FoundExp,
     room: Room,
 ) -> Parsed<Box<Exp>>
     ensures reads { Answers given_exp (dotted wanted (plain_boxed left.node) left.height) room.max cursor.old result cursor.new }
@@ -95,12 +95,7 @@ pub fn dotted(
 
 /// `[` exp `]`.
 #[cycle(grammar)]
-fn indexed(
-    alloc: Global,
-    cursor: &mut Cursor,
-    left: Found<Box<Exp>>,
-    room: Room,
-) -> Parsed<Box<Exp>>
+fn indexed(alloc: Global, cursor: &mut Cursor, left: FoundExp, room: Room) -> Parsed<Box<Exp>>
     ensures reads { Answers given_exp (indexed (plain_boxed left.node) left.height) room.max cursor.old result cursor.new }
     ensures bound { IfOk result (λ found. (found.height ≤ room.max) × (length cursor.new < length cursor.old)) }
 {
@@ -112,7 +107,7 @@ fn indexed(
 
 /// `:` Name and arguments.
 #[cycle(grammar)]
-fn method(alloc: Global, cursor: &mut Cursor, left: Found<Box<Exp>>, room: Room) -> Parsed<Box<Exp>>
+fn method(alloc: Global, cursor: &mut Cursor, left: FoundExp, room: Room) -> Parsed<Box<Exp>>
     ensures reads { Answers given_exp (method (plain_boxed left.node) left.height) room.max cursor.old result cursor.new }
     ensures bound { IfOk result (λ found. (found.height ≤ room.max) × (length cursor.new < length cursor.old)) }
 {
@@ -125,7 +120,7 @@ fn method(alloc: Global, cursor: &mut Cursor, left: Found<Box<Exp>>, room: Room)
 
 /// Arguments.
 #[cycle(grammar)]
-fn call(alloc: Global, cursor: &mut Cursor, left: Found<Box<Exp>>, room: Room) -> Parsed<Box<Exp>>
+fn call(alloc: Global, cursor: &mut Cursor, left: FoundExp, room: Room) -> Parsed<Box<Exp>>
     ensures reads { Answers given_exp (call (plain_boxed left.node) left.height) room.max cursor.old result cursor.new }
     ensures bound { IfOk result (λ found. (found.height ≤ room.max) × (length cursor.new < length cursor.old)) }
 {
