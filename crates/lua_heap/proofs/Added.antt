@@ -28,7 +28,7 @@ use Rattle.lua_heap.specs.Reading.{value}
 use Rattle.lua_heap.specs.Codes.{preorder, numbers, functions_in, functions, AreFirsts, IsCode, AreCodes, code_or_none, prototype_at}
 use Rattle.lua_heap.specs.Adding.{Begins, IsOwnCode, AreCodesFrom, AddsFunctions, AddsCode, KeepsCode}
 use Rattle.lua_heap.specs.Plain.{function, plain}
-use Rattle.lua_heap.proofs.Growing.{each_stays, plain_stays, constants_stay, constants_fit, code_stays}
+use Rattle.lua_heap.proofs.Growing.{each_stays, plain_stays, constants_stay, code_stays}
 use Rattle.lua_heap.proofs.Numbered.{length_preorder, get_behind, checked_there}
 
 -- lists that begin with others
@@ -152,21 +152,17 @@ pub record IsUnderway (texts : List (List ℕ)) (old now : List Code) (p : Proto
 pub begun : (texts : List (List ℕ)) (old now : List Code) (p : Prototype) (own : Code) → now ≡ old ++ own ∷ [] → IsOwnCode texts p own → IsUnderway texts old now p [] []
 begun texts old now p own e h = record { own = own; added = []; list = e; is_own = h; codes = tt; numbered = refl }
 
-own_kept : (old new : List (List ℕ)) (p : Prototype) (own : Code) → IsChecked p → Begins (List ℕ) old new → IsOwnCode old p own → IsOwnCode new p own
-own_kept old new p own c b h = record {
-  words = h.words;
-  constants = values_kept old new own.constants.items p.own.constants (constants_fit p c) b h.constants;
-  stack = h.stack;
-  params = h.params;
-  vararg = h.vararg;
-  upvalues = h.upvalues;
-}
+code_kept : (old new : List (List ℕ)) (n : ℕ) (p : Prototype) (code : Code) → Begins (List ℕ) old new → IsCode old n p code → IsCode new n p code
+code_kept old new n p code b h = kept_on (λ texts. IsCode texts n p code) (λ texts s k. code_stays texts s n p code k) old new b h
+
+own_kept : (old new : List (List ℕ)) (p : Prototype) (own : Code) → Begins (List ℕ) old new → IsOwnCode old p own → IsOwnCode new p own
+own_kept old new p own b h = record { numbered = λ n whole same is. code_kept old new n p whole b (h.numbered n whole same is) }
 
 -- one more of them
 pub gone_on : (texts grown_texts : List (List ℕ)) (old now new : List Code) (p : Prototype) (inner : List Prototype) (q : Prototype) (ids : List ProtoId) (id : ProtoId)
-    → IsChecked p → IsUnderway texts old now p inner ids → Begins (List ℕ) texts grown_texts → id.0 ≡ length now → AddsFunctions grown_texts now new (q ∷ preorder q.inner)
+    → IsUnderway texts old now p inner ids → Begins (List ℕ) texts grown_texts → id.0 ≡ length now → AddsFunctions grown_texts now new (q ∷ preorder q.inner)
     → IsUnderway grown_texts old new p (inner ++ q ∷ []) (ids ++ id ∷ [])
-gone_on texts grown_texts old now new p inner q ids id checked u b e a =
+gone_on texts grown_texts old now new p inner q ids id u b e a =
     let n : ℕ = suc (length old) in
     let kept : AreCodesFrom grown_texts n (preorder (prototypes inner)) u.added = kept_on (λ t. AreCodesFrom t n (preorder (prototypes inner)) u.added) (λ t s h. codes_kept t s n (preorder (prototypes inner)) u.added h) texts grown_texts b u.codes in
     let l = ap length u.list in
@@ -179,7 +175,7 @@ gone_on texts grown_texts old now new p inner q ids id checked u b e a =
       own = u.own;
       added = u.added ++ a.added;
       list = a.list ∙ ap (λ l. l ++ a.added) u.list ∙ append_assoc old (u.own ∷ u.added) a.added;
-      is_own = own_kept texts grown_texts p u.own checked b u.is_own;
+      is_own = own_kept texts grown_texts p u.own b u.is_own;
       codes = subst (λ ps. AreCodesFrom grown_texts n ps (u.added ++ a.added)) (sym (preorder_push inner q))
           (joined grown_texts n (preorder (prototypes inner)) (q ∷ preorder q.inner) u.added a.added kept (subst (λ k. AreCodesFrom grown_texts k (q ∷ preorder q.inner) a.added) at a.codes));
       numbered = map_push (λ (i : ProtoId). i.0) ids id ∙ ap (λ l. l ++ id.0 ∷ []) u.numbered ∙ ap (λ k. numbers n (prototypes inner) ++ k ∷ []) number ∙ sym (numbers_push n inner q);
@@ -187,27 +183,19 @@ gone_on texts grown_texts old now new p inner q ids id checked u b e a =
 
 -- all of them, with their numbers
 pub ended : (texts : List (List ℕ)) (old now new : List Code) (p : Prototype) (inner : List Prototype) (ids : List ProtoId) (place : ℕ) (own made : Code)
-    → IsChecked p → IsUnderway texts old now p inner ids → p.inner ≡ prototypes inner → place ≡ length old → own ≡ get_or now place own
+    → IsUnderway texts old now p inner ids → p.inner ≡ prototypes inner → place ≡ length old → own ≡ get_or now place own
     → made ≡ record own { inner = made.inner } → made.inner.items ≡ ids → new ≡ set now place made
     → AddsFunctions texts old new (p ∷ preorder p.inner)
-ended texts old now new p inner ids place own made checked u all e read same is_ids written =
+ended texts old now new p inner ids place own made u all e read same is_ids written =
     let is_own : own ≡ u.own = read ∙ ap (λ xs. get_or xs place own) u.list ∙ get_or_at old u.own u.added own place (sym e) in
-    let h : IsOwnCode texts p made = subst (IsOwnCode texts p) (sym (same ∙ ap (λ (c : Code). record c { inner = made.inner }) is_own)) (record {
-      words = u.is_own.words;
-      constants = u.is_own.constants;
-      stack = u.is_own.stack;
-      params = u.is_own.params;
-      vararg = u.is_own.vararg;
-      upvalues = u.is_own.upvalues;
-    }) in
+    let h : IsCode texts (length old) p made =
+    u.is_own.numbered (length old) made (same ∙ ap (λ (c : Code). record c { inner = made.inner }) is_own)
+    (ap (map (λ (id : ProtoId). id.0)) is_ids ∙ u.numbered ∙ ap (numbers (suc (length old))) (sym all)) in
     let rest : AreCodesFrom texts (suc (length old)) (preorder p.inner) u.added = subst (λ t. AreCodesFrom texts (suc (length old)) (preorder t) u.added) (sym all) u.codes in
     record {
       added = made ∷ u.added;
       list = written ∙ ap (λ xs. set xs place made) u.list ∙ set_at old u.own u.added made place (sym e);
-      codes = (
-        record { checked = checked; words = h.words; constants = h.constants; stack = h.stack; params = h.params; vararg = h.vararg; upvalues = h.upvalues; inner = ap (map (λ (id : ProtoId). id.0)) is_ids ∙ u.numbered ∙ ap (numbers (suc (length old))) (sym all) },
-        rest,
-      );
+      codes = (h, rest);
     }
 
 -- the functions of a world
@@ -254,7 +242,7 @@ codes_more before after old new t h b trees first a =
       firsts = subst AreFirsts (sym trees) (firsts_more old.trees.items t h.firsts (first ∙ h.count));
       each = λ n p code e f.
           each_more after fs ps old.list.items a.added h.count
-          (λ n p c e f. kept_on (λ texts. IsCode texts n p c) (λ texts s k. code_stays texts s n p c k) before after b (h.each n p c e f)) a.codes
+          (λ n p c e f. code_kept before after n p c b (h.each n p c e f)) a.codes
           n p code (ap (λ l. slice_get l n) (sym functions_now) ∙ e) (ap (λ l. slice_get l n) (sym a.list) ∙ f);
     }
 

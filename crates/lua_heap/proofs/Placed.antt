@@ -53,7 +53,7 @@ frame_line W f = bind (kept_place (Some f)) (place_in W)
 
 -- one frame
 
-pub place_read : (W : Memory) (frames : List KeptFrame) (n : ℕ) (f : KeptFrame) (o : Option (FuncId × ℕ)) → slice_get frames n ≡ Some f → o ≡ kept_place (slice_get frames n) → bind (kept_place (Some f)) (place_in W) ≡ bind o (place_in W)
+place_read : (W : Memory) (frames : List KeptFrame) (n : ℕ) (f : KeptFrame) (o : Option (FuncId × ℕ)) → slice_get frames n ≡ Some f → o ≡ kept_place (slice_get frames n) → bind (kept_place (Some f)) (place_in W) ≡ bind o (place_in W)
 place_read W frames n f o there is = ap (λ (o : Option KeptFrame). bind (kept_place o) (place_in W)) (sym there) ∙ ap (λ (o : Option (FuncId × ℕ)). bind o (place_in W)) (sym is)
 
 line_case : (name : List ℕ) (o : Option ℕ) → bind o (λ line. Some (position name line)) ≡ option_map text_of_line (bind o (λ line. Some (name, line)))
@@ -203,42 +203,40 @@ line_is p pc line n e f =
 pub line_is_not : (p : Prototype) (pc : ℕ) → slice_get (lines_from p.own.abs_lines 0 (Some (pos p.own.line_defined)) p.own.line_info) pc ≡ None → None ≡ line_of p pc
 line_is_not p pc e = sym (ap (λ (o : Option (Option ℤ)). bind (bind o (λ line. line)) (λ line. elim line [ pos n ↦ Some n | negsuc _ ↦ None ])) e)
 
--- places in a stack, from the top down
+-- places in a stack, from the top down, one frame less
 
-pub top_first : {A : Type 0} (n : ℕ) (xs : List A) (x : A) → slice_get xs n ≡ Some x → reverse (take (n + 1) xs) ≡ x ∷ reverse (take n xs)
+top_first : {A : Type 0} (n : ℕ) (xs : List A) (x : A) → slice_get xs n ≡ Some x → reverse (take (n + 1) xs) ≡ x ∷ reverse (take n xs)
 top_first n xs x e =
     let on : n + 1 ≡ suc n = omega arith in
     let l = slice_get_within xs n x e in
     let item : get_or xs n x ≡ x = some_same _ _ (sym (slice_get-get_or xs n x l) ∙ e) in
     ap (λ k. reverse (take k xs)) on ∙ ap reverse (take-suc xs n x l ∙ ap (λ y. take n xs ++ y ∷ []) item) ∙ reverse-append (take n xs) (x ∷ [])
 
-module _ (W : Memory) (frames : List KeptFrame) (n : ℕ) (f : KeptFrame) (here : slice_get frames n ≡ Some f) where
-  abbrev lines_in : List KeptFrame → List Line
-  lines_in fs = filter_map (frame_line W) fs
+module _ (W : Memory) (frames : List KeptFrame) where
+  -- the lines of the first frames
+  abbrev lines_in : ℕ → List Line
+  lines_in count = filter_map (frame_line W) (reverse (take count frames))
 
-  from_top : lines_in (reverse (take (n + 1) frames)) ≡ cons_option (frame_line W f) (lines_in (reverse (take n frames)))
-  from_top = ap lines_in (top_first n frames f here)
+  module _ (count left : ℕ) (nth : Option Line) (o : Option (FuncId × ℕ)) (some : 0 < count) (within : count ≤ length frames) (place : o ≡ kept_place (slice_get frames (count - 1)))
+      (same : slice_get (lines_in count) left ≡ nth) where
+    from_top : lines_in count ≡ cons_option (bind o (place_in W)) (lines_in (count - 1))
+    from_top =
+        let n : ℕ = count - 1 in
+        let f = get_there frames n (omega (arith, some, within)) in
+        let all : count ≡ n + 1 = omega (arith, some) in
+        ap lines_in all ∙ ap (filter_map (frame_line W)) (top_first n frames f.0 f.1) ∙ ap (λ (l : Option Line). cons_option l (lines_in n)) (place_read W frames n f.0 o f.1 place)
 
-  pub no_line : frame_line W f ≡ None → lines_in (reverse (take (n + 1) frames)) ≡ lines_in (reverse (take n frames))
-  no_line e = from_top ∙ ap (λ (o : Option Line). cons_option o (lines_in (reverse (take n frames)))) e
+    one_less : (l : Option Line) → l ≡ bind o (place_in W) → slice_get (cons_option l (lines_in (count - 1))) left ≡ nth
+    one_less l is = ap (λ (k : Option Line). slice_get (cons_option k (lines_in (count - 1))) left) is ∙ ap (λ ls. slice_get ls left) (sym from_top) ∙ same
 
-  pub one_line : (l : Line) → frame_line W f ≡ Some l → lines_in (reverse (take (n + 1) frames)) ≡ l ∷ lines_in (reverse (take n frames))
-  one_line l e = from_top ∙ ap (λ (o : Option Line). cons_option o (lines_in (reverse (take n frames)))) e
+    pub found_line : (l : Line) → Some l ≡ bind o (place_in W) → left ≡ 0 → Some l ≡ nth
+    found_line l is none = ap (slice_get (l ∷ lines_in (count - 1))) (sym none) ∙ one_less (Some l) is
 
-  abbrev in_first : ℕ → ℕ → Option Line
-  in_first count left = slice_get (lines_in (reverse (take count frames))) left
+    pub later_line : (l : Line) → Some l ≡ bind o (place_in W) → left ≢ 0 → slice_get (lines_in (count - 1)) (left - 1) ≡ nth
+    later_line l is more = let on : suc (left - 1) ≡ left = omega (arith, more) in ap (slice_get (l ∷ lines_in (count - 1))) on ∙ one_less (Some l) is
 
-  pub found_line : (count left : ℕ) (l : Line) (nth : Option Line) → count ≡ n + 1 → left ≡ 0 → frame_line W f ≡ Some l → in_first count left ≡ nth → Some l ≡ nth
-  found_line count left l nth c z e h =
-      ap (slice_get (l ∷ lines_in (reverse (take n frames)))) (sym z) ∙ ap (λ ls. slice_get ls left) (sym (one_line l e)) ∙ ap (λ k. in_first k left) (sym c) ∙ h
-
-  pub later_line : (count left : ℕ) (l : Line) (nth : Option Line) → count ≡ n + 1 → left ≢ 0 → frame_line W f ≡ Some l → in_first count left ≡ nth → in_first n (left - 1) ≡ nth
-  later_line count left l nth c z e h =
-      let more : suc (left - 1) ≡ left = omega (arith, z) in
-      ap (slice_get (l ∷ lines_in (reverse (take n frames)))) more ∙ ap (λ ls. slice_get ls left) (sym (one_line l e)) ∙ ap (λ k. in_first k left) (sym c) ∙ h
-
-  pub other_line : (count left : ℕ) (nth : Option Line) → count ≡ n + 1 → frame_line W f ≡ None → in_first count left ≡ nth → in_first n left ≡ nth
-  other_line count left nth c e h = ap (λ ls. slice_get ls left) (sym (no_line e)) ∙ ap (λ k. in_first k left) (sym c) ∙ h
+    pub other_line : None ≡ bind o (place_in W) → slice_get (lines_in (count - 1)) left ≡ nth
+    other_line is = one_less None is
 
 -- a function without code that is there has no line
 

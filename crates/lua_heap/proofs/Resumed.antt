@@ -5,17 +5,20 @@ use Rattle.std.specs.Option.{option_map}
 use Rattle.std.proofs.lemmas.List.{length-map, map-set, map_push}
 use Rattle.int_core.specs.Value.{bind, last, without_last}
 use Rattle.list_laws.proofs.Items.{get_set_other, some_same}
-use Rattle.machine_core.specs.World.{Frame, Coroutine, in_progress, normal, suspended, Stack, stack_of, running_frames, World}
-use Rattle.machine_core.specs.Moves.{awake, back_to_resumer, go_into, put_coroutine, suspend_running, wait_for_another}
+use Rattle.machine_core.specs.World.{Frame, Coroutine, in_progress, suspended, Stack, stack_of, running_frames, World}
+use Rattle.machine_core.specs.Moves.{awake, back_to_resumer, go_into, put_coroutine, suspend_running}
 use Rattle.machine_sound.proofs.Lists.{bind_some, get_map, get_within, map_get, some_is}
 use Rattle.lua_stack.specs.Frames.{KeptStack, frames, cell_at}
 use Rattle.lua_stack.specs.declared.frame.OpenCell.{OpenCell}
 use Rattle.table_core.specs.declared.value.CoroId.{CoroId}
 use Rattle.lua_heap.specs.declared.world.Cell.{Cell as KeptCell}
 use Rattle.lua_heap.specs.declared.world.Coro.{Coro}
-use Rattle.lua_heap.specs.declared.world.Coro.TheVariants.{Suspended, Running, Normal}
+use Rattle.lua_heap.specs.declared.coroutines.Pause.{Pause}
+use Rattle.lua_heap.specs.declared.coroutines.Pause.TheVariants.{ForAnother, ToBeResumed}
+use Rattle.lua_heap.specs.declared.world.Coro.TheVariants.{Running}
 use Rattle.lua_heap.specs.declared.world.World.{World as Memory}
 use Rattle.lua_heap.specs.Reading.{value}
+use Rattle.lua_heap.specs.Pausing.{paused, waiting}
 use Rattle.lua_heap.specs.Plain.{coroutine, plain}
 use Rattle.lua_heap.specs.Cells.{IsOnce, AreListed, list_or_empty, open_cells_in}
 use Rattle.lua_stack.proofs.Told.{last_map}
@@ -114,6 +117,10 @@ is_running W fuel s e =
       is = ap (λ n. stack_with n (frames (value W.strings) k.0)) co.2 ∙ ap (stack_with a.0) k.2 ∙ some_same _ _ b.2;
     }
 
+paused_means : (texts : List (List ℕ)) (pause : Pause) (stack : KeptStack) → coroutine texts (paused pause stack) ≡ waiting pause (frames (value texts) stack)
+paused_means texts ForAnother stack = refl
+paused_means texts ToBeResumed stack = refl
+
 -- worlds after a change
 
 pub put_is : (W new : Memory) (fuel n : ℕ) (c : Coro) → new ≡ record W { coros = new.coros } → new.coros.objects ≡ slice_set W.coros.objects n c
@@ -147,14 +154,10 @@ module _ (W : Memory) (fuel : ℕ) (s : Stack) (e : stack_of (plain W fuel) ≡ 
       abbrev changed : Memory
       changed = record W { coros = record W.coros { objects = slice_set W.coros.objects co.0 d } }
 
-      pub waits_is : ((stack : KeptStack) → c ≡ Running stack → d ≡ Normal stack) → plain changed fuel ≡ wait_for_another (plain W fuel) s
-      unfolding wait_for_another
-      waits_is f =
-          put_is W changed fuel r.number.0 (Normal r.stack) refl (set_there (λ stack. Normal stack) f) ∙ ap (λ (s : Stack). put_coroutine (plain W fuel) s.coroutine (normal s.frames)) r.is
-
-      pub suspends_is : ((stack : KeptStack) → c ≡ Running stack → d ≡ Suspended stack) → plain changed fuel ≡ put_coroutine (plain W fuel) s.coroutine (suspended s.frames)
-      suspends_is f =
-          put_is W changed fuel r.number.0 (Suspended r.stack) refl (set_there (λ stack. Suspended stack) f) ∙ ap (λ (s : Stack). put_coroutine (plain W fuel) s.coroutine (suspended s.frames)) r.is
+      pub pauses_is : (pause : Pause) → ((stack : KeptStack) → c ≡ Running stack → d ≡ paused pause stack) → plain changed fuel ≡ put_coroutine (plain W fuel) s.coroutine (waiting pause s.frames)
+      pauses_is pause f =
+          put_is W changed fuel r.number.0 (paused pause r.stack) refl (set_there (paused pause) f) ∙ ap (put_coroutine (plain W fuel) r.number.0) (paused_means W.strings pause r.stack)
+          ∙ ap (λ (s : Stack). put_coroutine (plain W fuel) s.coroutine (waiting pause s.frames)) r.is
 
 pub back_after : (W middle new : Memory) (fuel : ℕ) (s : Stack) → plain middle fuel ≡ put_coroutine (plain W fuel) s.coroutine (suspended s.frames) → plain new fuel ≡ back_to_resumer (plain middle fuel)
     → plain new fuel ≡ suspend_running (plain W fuel) s

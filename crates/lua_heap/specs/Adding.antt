@@ -1,14 +1,11 @@
 -- Code that is added: strings go behind those that are there, and functions behind functions.
 use Rattle.std.specs.Prelude.{◌≡◌, ℕ, suc, List, [], ◌∷◌, ◌++◌, length, map}
-use Rattle.int_core.specs.Value.{known}
 use Rattle.code_core.specs.Prototype.{Prototype}
-use Rattle.machine_core.specs.Text.{constant}
 use Rattle.machine_sound.specs.Sound.{Sound}
 use Rattle.lua_heap.specs.declared.codes.Code.{Code}
 use Rattle.lua_heap.specs.declared.codes.Tree.{Tree}
 use Rattle.lua_heap.specs.declared.world.World.{World as Memory}
-use Rattle.lua_heap.specs.Reading.{value}
-use Rattle.lua_heap.specs.Codes.{preorder, functions, IsCode, AreCodes}
+use Rattle.lua_heap.specs.Codes.{numbers, preorder, functions, IsCode, AreCodes}
 use Rattle.lua_heap.specs.Plain.{plain}
 
 -- a list that begins with another
@@ -16,14 +13,9 @@ pub record Begins (A : Type 0) (old new : List A) : Type 0 where
   pub more : List A
   pub is : new ≡ old ++ more
 
--- what is kept of a function, but for the numbers of those that are defined in it
+-- what is kept of a function, but for the numbers of those that are defined in it: once it has them, it says what its prototype says
 pub record IsOwnCode (texts : List (List ℕ)) (p : Prototype) (code : Code) : Type 0 where
-  pub words : code.words.items ≡ p.own.code
-  pub constants : map (value texts) code.constants.items ≡ map (λ c. known (constant c)) p.own.constants
-  pub stack : code.stack ≡ p.own.stack
-  pub params : code.params ≡ p.own.params
-  pub vararg : code.vararg ≡ p.own.vararg
-  pub upvalues : code.upvalues.items ≡ p.own.upvalues
+  pub numbered : (n : ℕ) (whole : Code) → whole ≡ record code { inner = whole.inner } → map (λ id. id.0) whole.inner.items ≡ numbers (suc n) p.inner → IsCode texts n p whole
 
 -- what is kept of functions says what their prototypes say, where the first has number n
 abbrev pub AreCodesFrom : List (List ℕ) → (n : ℕ) → List Prototype → List Code → Type 0

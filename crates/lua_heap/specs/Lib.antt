@@ -5,6 +5,7 @@ pub mod Plain
 pub mod Changes
 pub mod Adding
 pub mod Cells
+pub mod Pausing
 pub mod Lending
 pub mod Captures
 pub mod Closing

@@ -2,11 +2,12 @@
 ghost use Rattle.std.specs.Prelude.{◌≡◌, ℕ, ◌<◌, List, Some, length, OnOk, OnErr, slice_get, slice_set};
 ghost use Rattle.std.specs.Borrow.{sem};
 ghost use Rattle.machine_core.specs.Moves.{awake, back_to_resumer, go_into, put_coroutine, suspend_running, wait_for_another};
-ghost use Rattle.machine_core.specs.World.{in_progress, suspended, stack_of, Stack as RunningStack};
+ghost use Rattle.machine_core.specs.World.{in_progress, stack_of, Stack as RunningStack};
 ghost use Rattle.int_core.specs.Value.{last};
 ghost use Rattle.lua_stack.specs.Frames.{KeptStack};
-ghost use Rattle.lua_heap.specs.declared.world.Coro.TheVariants.{Running, Suspended, Normal};
+ghost use Rattle.lua_heap.specs.declared.world.Coro.TheVariants.{Running};
 ghost use Rattle.lua_heap.specs.Cells.{CellsAreListed, list_or_empty, open_cells_in};
+ghost use Rattle.lua_heap.specs.Pausing.{paused, waiting};
 ghost use Rattle.lua_heap.specs.Plain.{coroutine, plain};
 
 use crate::world::{Coro, World};
@@ -15,6 +16,15 @@ use lua_stack::Stack;
 use std::alloc::Global;
 use std::mem;
 use table_core::CoroId;
+
+/// What a coroutine that ran waits for.
+#[derive(Debug, Clone, Copy, PartialEq, Eq)]
+pub(crate) enum Pause {
+    /// One that it resumes.
+    ForAnother,
+    /// To be resumed.
+    ToBeResumed,
+}
 
 impl World {
     /// Puts a coroutine in the place of another.
@@ -33,11 +43,7 @@ impl World {
         ensures listed { CellsAreListed self.old → CellsAreListed self.new }
         ensures rest { self.new ≡ record self.old { coros = self.new.coros } }
     {
-        if let Some(co) = self.top_of_chain() {
-            if co.0 < self.coros.len() {
-                wait(self.coros.get_mut(co.0));
-            }
-        }
+        self.pause_running(Pause::ForAnother);
     }
 
     /// The running coroutine waits to be resumed, and the one that resumed it goes on.
@@ -46,7 +52,7 @@ impl World {
         ensures listed { CellsAreListed self.old → CellsAreListed self.new }
         ensures rest { self.new ≡ record self.old { coros = self.new.coros; chain = self.new.chain } }
     {
-        self.suspend_top();
+        self.pause_running(Pause::ToBeResumed);
         self.back_to_resumer();
     }
 
@@ -77,15 +83,15 @@ impl World {
         Ok(())
     }
 
-    /// The running coroutine waits to be resumed, and nobody runs.
-    fn suspend_top(&mut self)
-        ensures plain { (fuel : ℕ) (s : RunningStack) → stack_of (plain self.old fuel) ≡ Some s → plain self.new fuel ≡ put_coroutine (plain self.old fuel) s.coroutine (suspended s.frames) }
+    /// The running coroutine waits, and nobody runs.
+    fn pause_running(&mut self, pause: Pause)
+        ensures plain { (fuel : ℕ) (s : RunningStack) → stack_of (plain self.old fuel) ≡ Some s → plain self.new fuel ≡ put_coroutine (plain self.old fuel) s.coroutine (waiting pause s.frames) }
         ensures listed { CellsAreListed self.old → CellsAreListed self.new }
         ensures rest { self.new ≡ record self.old { coros = self.new.coros } }
     {
         if let Some(co) = self.top_of_chain() {
             if co.0 < self.coros.len() {
-                suspend(self.coros.get_mut(co.0));
+                set_aside(self.coros.get_mut(co.0), pause);
             }
         }
     }
@@ -114,24 +120,16 @@ impl Coro {
     }
 }
 
-/// A coroutine that runs waits for another.
-fn wait(coro: &mut Coro)
-    ensures waits { (stack : KeptStack) → coro.old ≡ Running stack → coro.new ≡ Normal stack }
+/// A coroutine that runs waits.
+fn set_aside(coro: &mut Coro, pause: Pause)
+    ensures waits { (stack : KeptStack) → coro.old ≡ Running stack → coro.new ≡ paused pause stack }
     ensures cells { open_cells_in coro.new ≡ open_cells_in coro.old }
 {
     match mem::replace(coro, Coro::Dead) {
-        Coro::Running(stack) => *coro = Coro::Normal(stack),
-        other => *coro = other,
-    }
-}
-
-/// A coroutine that runs waits to be resumed.
-fn suspend(coro: &mut Coro)
-    ensures waits { (stack : KeptStack) → coro.old ≡ Running stack → coro.new ≡ Suspended stack }
-    ensures cells { open_cells_in coro.new ≡ open_cells_in coro.old }
-{
-    match mem::replace(coro, Coro::Dead) {
-        Coro::Running(stack) => *coro = Coro::Suspended(stack),
+        Coro::Running(stack) => match pause {
+            Pause::ForAnother => *coro = Coro::Normal(stack),
+            Pause::ToBeResumed => *coro = Coro::Suspended(stack),
+        },
         other => *coro = other,
     }
 }

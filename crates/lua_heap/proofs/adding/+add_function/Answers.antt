@@ -46,7 +46,7 @@ loop-function-preserved t c =
       place = c.loop-function.invariant.place;
       underway = subst (λ inner. IsUnderway texts c.args.list.now.items new c.args.proto.now inner c.push-in-loop-function.new.self.items) (sym taken)
           (subst (λ ids. IsUnderway texts c.args.list.now.items new c.args.proto.now (take i items ++ q ∷ []) ids) (sym c.in_ok-push-2.ensures.items)
-          (gone_on c.loop-function.strings texts c.args.list.now.items c.loop-function.list.items new c.args.proto.now (take i items) q c.loop-function.inner.items _ c.requires
+          (gone_on c.loop-function.strings texts c.args.list.now.items c.loop-function.list.items new c.args.proto.now (take i items) q c.loop-function.inner.items _
           c.loop-function.invariant.underway e.strings number e.added));
     }
 
@@ -58,7 +58,7 @@ returns-clause-added t c =
     let u : IsUnderway c.loop-function.strings c.args.list.now.items c.loop-function.list.items c.args.proto.now items c.loop-function.inner.items =
     subst (λ inner. IsUnderway c.loop-function.strings c.args.list.now.items c.loop-function.list.items c.args.proto.now inner c.loop-function.inner.items) whole c.loop-function.invariant.underway in
     ended c.loop-function.strings c.args.list.now.items c.loop-function.list.items _ c.args.proto.now items c.loop-function.inner.items c.len-place.result c.index_mut.result.now
-    (record c.index_mut.result.now { inner = c.loop-function.inner }) c.requires u all c.loop-function.invariant.place c.index_mut.ensures.value refl refl refl
+    (record c.index_mut.result.now { inner = c.loop-function.inner }) u all c.loop-function.invariant.place c.index_mut.ensures.value refl refl refl
 
 pub returns-clause-begins : goal.returns-clause-begins
 returns-clause-begins t c = let a = returns-clause-added t c in record { more = a.added; is = a.list }

@@ -1,6 +1,7 @@
-use Rattle.std.proofs.Common.{◌≡◌, sym, subst, ◌∙◌}
+use Rattle.std.proofs.Common.{◌≡◌, refl, sym, subst, ◌∙◌}
 use Rattle.list_laws.proofs.Items.{get_set_same, some_same}
 use Rattle.machine_sound.proofs.Lists.{get_within}
+use Rattle.lua_heap.specs.declared.world.Coro.{Coro}
 use Rattle.lua_heap.specs.declared.world.Coro.TheVariants.{Running}
 use Rattle.lua_heap.specs.declared.world.World.{World as Memory}
 use Rattle.lua_heap.specs.Cells.{CellsAreListed}
@@ -35,33 +36,21 @@ get_mut-requires-2 c =
     let o = running_takes W c.args.co c.args.register c.in-Some.cell c.in-Some.value h.stack _ c.take_on_top.new.coro c.get_mut.ensures.value h.there c.in-Some.ensures.taken in
     get_within W.cells.objects c.in-Some.cell.0 _ (cell_open W c.args.co c.args.register c.in-Some.cell c.in-Some.value h.stack c.take_on_top.new.coro c.requires.listed h.there o)
 
-pub returns-clause-closes : goal.returns-clause-closes
-returns-clause-closes c fuel =
+pub returns : goal.returns
+returns c =
     let W : Memory = c.args.self.now in
     let h = c.requires.there in
-    let o = running_takes W c.args.co c.args.register c.in-Some.cell c.in-Some.value h.stack _ c.take_on_top.new.coro c.get_mut.ensures.value h.there c.in-Some.ensures.taken in
-    taken_closes W c.args.co c.args.register c.in-Some.cell c.in-Some.value h.stack c.take_on_top.new.coro c.requires.listed h.there o fuel
-
-pub returns-clause-fewer : goal.returns-clause-fewer
-returns-clause-fewer c ends =
-    let W : Memory = c.args.self.now in
-    let h = c.requires.there in
-    let o = running_takes W c.args.co c.args.register c.in-Some.cell c.in-Some.value h.stack _ c.take_on_top.new.coro c.get_mut.ensures.value h.there c.in-Some.ensures.taken in
-    taken_fewer W c.args.co c.args.register c.in-Some.cell c.in-Some.value h.stack c.take_on_top.new.coro c.requires.listed h.there o
-
-pub returns-clause-listed : goal.returns-clause-listed
-returns-clause-listed c =
-    let W : Memory = c.args.self.now in
-    let h = c.requires.there in
-    let o = running_takes W c.args.co c.args.register c.in-Some.cell c.in-Some.value h.stack _ c.take_on_top.new.coro c.get_mut.ensures.value h.there c.in-Some.ensures.taken in
-    taken_listed W c.args.co c.args.register c.in-Some.cell c.in-Some.value h.stack c.take_on_top.new.coro c.requires.listed h.there o
-
-pub returns-clause-there : goal.returns-clause-there
-returns-clause-there c =
-    let W : Memory = c.args.self.now in
-    let h = c.requires.there in
-    let o = running_takes W c.args.co c.args.register c.in-Some.cell c.in-Some.value h.stack _ c.take_on_top.new.coro c.get_mut.ensures.value h.there c.in-Some.ensures.taken in
-    record { stack = o.after; there = taken_runs W c.args.co c.args.register c.in-Some.cell c.in-Some.value h.stack c.take_on_top.new.coro c.requires.listed h.there o }
+    let d : Coro = c.take_on_top.new.coro in
+    let o = running_takes W c.args.co c.args.register c.in-Some.cell c.in-Some.value h.stack _ d c.get_mut.ensures.value h.there c.in-Some.ensures.taken in
+    record {
+      closes = taken_closes W c.args.co c.args.register c.in-Some.cell c.in-Some.value h.stack d c.requires.listed h.there o;
+      none = λ ends. absurd (cc);
+      gone = λ ends. absurd (cc);
+      fewer = λ more. taken_fewer W c.args.co c.args.register c.in-Some.cell c.in-Some.value h.stack d c.requires.listed h.there o;
+      listed = taken_listed W c.args.co c.args.register c.in-Some.cell c.in-Some.value h.stack d c.requires.listed h.there o;
+      there = record { stack = o.after; there = taken_runs W c.args.co c.args.register c.in-Some.cell c.in-Some.value h.stack d c.requires.listed h.there o };
+      rest = refl;
+    }
 
 pub returns-in_default-clause-gone : goal.returns-in_default-clause-gone
 returns-in_default-clause-gone c ends stack there =
