@@ -11,8 +11,8 @@ use Rattle.lua_stack.specs.declared.frame.Record.{Record}
 use Rattle.lua_stack.specs.declared.frame.Kind.{Kind}
 use Rattle.lua_stack.specs.declared.frame.Kind.TheVariants.{Missing, Lua, Pcall, Xpcall, Handler, Closing}
 use Rattle.lua_stack.specs.declared.stack.Stack.TheInside.{Inside}
-use Rattle.lua_stack.specs.Frames.{AllBelow, KeptFrame, KeptStack, NoneFrom, OnTop, frame_of, lua_of, kept_lua, kept_closing, kept_place}
-use Rattle.lua_stack.specs.View.{AreOpen, part, blank, put_all, frame_at, frame_in, lua_at, registers_at, tops, tops_of, IsStack, IsFrame, IsUnder, AllUnder, IsWithin, AreStacked, NoneUnder, record_behind, is_missing, is_plain, plain_frame, place_by, place_in, whole_record}
+use Rattle.lua_stack.specs.Frames.{AllBelow, KeptFrame, KeptStack, NoneFrom, OnTop, frame_of, lua_of, kept_lua, kept_closing}
+use Rattle.lua_stack.specs.View.{AreOpen, part, blank, put_all, frame_at, frame_in, lua_at, registers_at, tops, tops_of, IsStack, IsFrame, IsUnder, AllUnder, IsWithin, AreStacked, NoneUnder, record_behind, is_missing, is_plain, plain_frame, whole_record}
 use Rattle.lua_stack.proofs.Parts.{part_kept, part_put_in, put_tail, take_put_all, take_take, length_blank, length_part, length_put_all, no_blank}
 use Rattle.lua_stack.proofs.Stacked.{IsLastOf, stacked_more, stacked_less, stacked_longer, under_next, under_more, below_kept}
 use Rattle.lua_stack.proofs.Ends.{map_more, shown, stands, lua_frames}
@@ -236,19 +236,6 @@ pub get_map : {A B : Type 0} (f : A → B) (xs : List A) (n : ℕ) → slice_get
 get_map f [] n = refl
 get_map f (x ∷ xs) zero = refl
 get_map f (x ∷ xs) (suc n) = get_map f xs n
-
-place_seen : (values : List Kept) (pending : List ℕ) (r : Option Record) → kept_place (option_map (frame_at values pending) r) ≡ place_in r
-place_seen values pending None = refl
-place_seen values pending (Some r) = by r.kind
-  where
-    by : (k : Kind) → kept_place (Some (frame_in values pending k r.running r.window)) ≡ place_by k r.running
-    by Missing = refl
-    by _ = refl
-
-pub place_found : (a : Inside) (s : KeptStack) (n : ℕ) (r : Option Record) → shown a ≡ s → r ≡ slice_get (a.below.items ++ tops a.top) n → place_in r ≡ kept_place (slice_get s.frames n)
-place_found a s n r v e =
-    sym (place_seen a.values.items a.pending.items r) ∙ ap (λ r. kept_place (option_map (frame_at a.values.items a.pending.items) r)) e
-    ∙ ap kept_place (sym (get_map (frame_at a.values.items a.pending.items) (a.below.items ++ tops a.top) n)) ∙ ap (λ (s : KeptStack). kept_place (slice_get s.frames n)) v
 
 pub get_past : {A : Type 0} (xs : List A) (n : ℕ) → length xs ≤ n → slice_get xs n ≡ None
 get_past [] n l = refl

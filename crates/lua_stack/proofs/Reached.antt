@@ -44,6 +44,17 @@ module _ (a : Inside) (s : KeptStack) (frame register : ℕ) (v : shown a ≡ s)
       let l = reach_end (length a.values.items) (length a.pending.items) a.below.items a.top.kind a.top.window i.stacked i.within frame register reaches in
       omega (arith, b, l)
 
+  -- of the frames below as a list of its own
+  module _ (below : List Record) (b : below ≡ a.below.items) where
+    pub frame_listed : frame ≤ length below
+    frame_listed = let l = frame_there in let e = ap length b in omega (arith, l, e)
+
+    pub window_listed : (w : Window) → w ≡ window_at below a.top.window frame → w ≡ window_at a.below.items a.top.window frame
+    window_listed w e = e ∙ ap (λ xs. window_at xs a.top.window frame) b
+
+    pub place_listed : (w : Window) → w ≡ window_at below a.top.window frame → (n : ℕ) → n ≡ length a.values.items → w.base + register < n
+    place_listed w e n q = let l = place_there w (window_listed w e) in omega (arith, l, q)
+
 -- what is read there
 
 module _ (f : Kept → Value) (xs : List Kept) (ps : List ℕ) (register : ℕ) (v : Kept) where

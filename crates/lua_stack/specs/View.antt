@@ -233,19 +233,6 @@ plain_frame (Xpcall h) = kept_xpcall h
 plain_frame Handler = kept_handler
 plain_frame (Closing error) = kept_pcall
 
--- where a frame is in its code
-abbrev pub place_by : Kind → Running → Option (FuncId × ℕ)
-place_by Lua r = Some (r.function, r.pc)
-place_by Missing r = None
-place_by Pcall r = None
-place_by (Xpcall h) r = None
-place_by Handler r = None
-place_by (Closing error) r = None
-
-abbrev pub place_in : Option Record → Option (FuncId × ℕ)
-place_in None = None
-place_in (Some r) = place_by r.kind r.running
-
 -- what is told of a Lua frame
 abbrev pub state_by : Kind → Running → Window → Option LuaState
 state_by Lua r w = Some (record { function = r.function; wait = r.wait; pc = r.pc; size = w.size })

@@ -81,7 +81,7 @@ impl Stack {
         ensures frames { OnOk result (Calls self.old self.new register given wait stack function shape) }
         ensures err { OnErr result (self.new ≡ self.old) }
     {
-        let place = place_of(self.top.window, register, self.values.len()) + 1;
+        let place = place_of(self.top.window.base, register, self.values.len()) + 1;
         let end = end_of(end_of(place, given)?, shape.stack)?;
         self.below.reserve(1)?;
         grow(&mut self.values, end)?;
@@ -119,8 +119,8 @@ impl Stack {
         ensures err { OnErr result (self.new ≡ self.old) }
     {
         let top = self.top;
-        let from = place_of(top.window, register, self.values.len());
-        let place = place_of(top.window, top.window.size, self.values.len());
+        let from = place_of(top.window.base, register, self.values.len());
+        let place = place_of(top.window.base, top.window.size, self.values.len());
         let end = end_of(end_of(place, given)?, shape.stack)?;
         self.below.reserve(1)?;
         grow(&mut self.values, end)?;
@@ -161,8 +161,8 @@ impl Stack {
     {
         let top = self.top;
         let room = self.values.len();
-        let from = place_of(top.window, register, room);
-        let place = place_of(top.window, keeps, room);
+        let from = place_of(top.window.base, register, room);
+        let place = place_of(top.window.base, keeps, room);
         let end = end_of(end_of(place, given)?, shape.stack)?;
         self.below.reserve(1)?;
         grow(&mut self.values, end)?;
@@ -195,7 +195,7 @@ impl Stack {
         ensures err { OnErr result (self.new ≡ self.old) }
     {
         let window = self.top.window;
-        let from = place_of(window, register, self.values.len()) + 1;
+        let from = place_of(window.base, register, self.values.len()) + 1;
         let end = end_of(end_of(window.start, given)?, shape.stack)?;
         grow(&mut self.values, end)?;
         copy(&mut self.values, from, window.start, given);

@@ -1,11 +1,11 @@
 // The cells that are open in a stack, and the registers in which their variables stand.
-ghost use Rattle.std.specs.Prelude.{◌≡◌, ◌+◌, ◌<◌, ◌≤◌, false, None, Some, drop, slice_get, insert, length, take, IfNone, IfSome, OnErr, OnOk};
+ghost use Rattle.std.specs.Prelude.{◌≡◌, ◌+◌, ◌≤◌, false, None, drop, length, take, IfNone, IfSome, OnErr, OnOk};
 ghost use Rattle.lua_stack.specs.Frames.{Adds, AllBelow, HasOpen, HasRegisters, NoneFrom, RegisterBecomes, RegisterIs, TakesLast, cell_at, opened_at, top_number};
 ghost use Rattle.lua_stack.specs.View.{AreInOrder, FirstFrom, IsTaken, is_at, stands_below, window_at};
 
 use crate::frame::{OpenCell, Record, Window};
 use crate::stack::Stack;
-use crate::values::{place_of, put_one, value_at};
+use crate::values::{item_at, place_of, put_one};
 use std::alloc::AllocError;
 use table_core::{CellId, Value};
 
@@ -34,7 +34,12 @@ impl Stack {
     {
         let frame = self.below.len();
         let at = count_below(&self.open_cells, frame, register);
-        insert_in(&mut self.open_cells, at, opened(cell, frame, register))?;
+        let opened = OpenCell {
+            cell,
+            frame,
+            register,
+        };
+        self.open_cells.insert(at, opened)?;
         Ok(())
     }
 
@@ -54,8 +59,8 @@ impl Stack {
         ensures { RegisterIs self.now frame register result }
     {
         let window = window_at(&self.below, self.top.window, frame);
-        let at = place_of(window, register, self.values.len());
-        value_at(&self.values, at)
+        let at = place_of(window.base, register, self.values.len());
+        item_at(&self.values, at)
     }
 
     /// Writes a register at which a cell is open, in any frame.
@@ -64,20 +69,8 @@ impl Stack {
         ensures { RegisterBecomes self.old self.new frame register value }
     {
         let window = window_at(&self.below, self.top.window, frame);
-        let at = place_of(window, register, self.values.len());
+        let at = place_of(window.base, register, self.values.len());
         put_one(&mut self.values, at, value);
-    }
-}
-
-/// A cell that is open at a register of a frame.
-#[inline(always)]
-fn opened(cell: CellId, frame: usize, register: usize) -> OpenCell
-    ensures { result ≡ opened_at cell frame register }
-{
-    OpenCell {
-        cell,
-        frame,
-        register,
     }
 }
 
@@ -97,15 +90,6 @@ fn stands_below(cell: OpenCell, frame: usize, register: usize) -> bool
     cell.frame < frame || (cell.frame == frame && cell.register < register)
 }
 
-/// The cell at a place of the list.
-#[inline(always)]
-fn cell_of(cells: &[OpenCell], at: usize) -> OpenCell
-    requires { at < length cells.now }
-    ensures { slice_get cells.now at ≡ Some result }
-{
-    cells[at]
-}
-
 /// How many cells stand in front of a register of a frame. Those of the frame on top are the last ones.
 fn count_below(cells: &[OpenCell], frame: usize, register: usize) -> usize
     requires { AreInOrder cells.now }
@@ -115,7 +99,7 @@ fn count_below(cells: &[OpenCell], frame: usize, register: usize) -> usize
 {
     let mut count = cells.len();
     'back: while count > 0 {
-        if stands_below(cell_of(cells, count - 1), frame, register) {
+        if stands_below(item_at(cells, count - 1), frame, register) {
             return count;
         }
         count -= 1;
@@ -132,21 +116,11 @@ fn found_in(cells: &[OpenCell], frame: usize, register: usize) -> Option<CellId>
     if at == cells.len() {
         return None;
     }
-    let found = cell_of(cells, at);
+    let found = item_at(cells, at);
     if is_at(found, frame, register) {
         return Some(found.cell);
     }
     None
-}
-
-/// Puts a cell in its place.
-fn insert_in(cells: &mut Vec<OpenCell>, at: usize, cell: OpenCell) -> Result<(), AllocError>
-    requires { at ≤ length cells.old.items }
-    ensures ok { OnOk result (cells.new.items ≡ insert cells.old.items at cell) }
-    ensures err { OnErr result (cells.new.items ≡ cells.old.items) }
-{
-    cells.insert(at, cell)?;
-    Ok(())
 }
 
 /// Takes the last cell away, where it does not stand in front of a register of a frame.
@@ -160,7 +134,7 @@ fn take_from(cells: &mut Vec<OpenCell>, frame: usize, register: usize) -> Option
     if count == 0 {
         return None;
     }
-    let last = cell_of(cells, count - 1);
+    let last = item_at(cells, count - 1);
     if stands_below(last, frame, register) {
         return None;
     }
@@ -190,5 +164,5 @@ pub(crate) fn is_open_from(cells: &[OpenCell], frame: usize, register: usize) ->
     if count == 0 {
         return false;
     }
-    !stands_below(cell_of(cells, count - 1), frame, register)
+    !stands_below(item_at(cells, count - 1), frame, register)
 }

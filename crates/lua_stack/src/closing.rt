@@ -1,5 +1,5 @@
 // The frames of `coroutine.close`, and the frame that an error reaches.
-ghost use Rattle.std.specs.Prelude.{◌≡◌, ◌<◌, [], ◌∷◌, ◌++◌, Some, length, reverse, slice_get, OnErr, OnOk};
+ghost use Rattle.std.specs.Prelude.{◌≡◌, [], ◌∷◌, ◌++◌, Some, reverse, OnErr, OnOk};
 ghost use Rattle.int_core.specs.Value.{last, without_last};
 ghost use Rattle.machine_core.specs.Moves.{catcher};
 ghost use Rattle.lua_stack.specs.Frames.{HasClosingTop, OnClosing, Tells, frames, kept_catcher, kept_closing, top_is};
@@ -8,7 +8,7 @@ ghost use Rattle.lua_stack.specs.View.{catcher_of, error_in, is_lua, with_values
 use crate::frame::{Kind, Record, Top, Window};
 use crate::frames::{behind, push_top};
 use crate::stack::{Stack, top_of};
-use crate::values::{end_of, grow, place_of, put, value_at};
+use crate::values::{end_of, grow, item_at, place_of, put};
 use std::alloc::AllocError;
 use table_core::Value;
 
@@ -43,8 +43,8 @@ impl Stack {
         if window.size == 0 {
             return None;
         }
-        let at = place_of(window, window.size - 1, self.values.len());
-        let value = value_at(&self.values, at);
+        let at = place_of(window.base, window.size - 1, self.values.len());
+        let value = item_at(&self.values, at);
         self.top = with_values(self.top, window.size - 1);
         Some(value)
     }
@@ -121,20 +121,11 @@ fn catcher_in(below: &[Record]) -> Top
 {
     let mut count = below.len();
     'back: while count > 0 {
-        let kind = frame_in(below, count - 1).kind;
+        let kind = item_at(below, count - 1).kind;
         if !is_lua(kind) {
             return top_of(kind);
         }
         count -= 1;
     }
     Top::Missing
-}
-
-/// A frame below.
-#[inline(always)]
-pub(crate) fn frame_in(below: &[Record], at: usize) -> Record
-    requires { at < length below.now }
-    ensures { slice_get below.now at ≡ Some result }
-{
-    below[at]
 }

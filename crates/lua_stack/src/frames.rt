@@ -1,13 +1,13 @@
 // Frames that are pushed and popped, and those that are found by their numbers.
-ghost use Rattle.std.specs.Prelude.{◌≡◌, ◌+◌, ◌-◌, ◌<◌, ◌≤◌, [], ◌∷◌, ◌++◌, true, Some, length, slice_get, OnOk, OnErr};
+ghost use Rattle.std.specs.Prelude.{◌≡◌, ◌+◌, ◌<◌, ◌≤◌, [], ◌∷◌, ◌++◌, true, length, slice_get, OnOk, OnErr};
 ghost use Rattle.int_core.specs.Value.{last, without_last};
 ghost use Rattle.lua_stack.specs.Frames.{OnTop, NoneFrom, kept_pcall, kept_xpcall, kept_handler, kept_place, kept_state};
-ghost use Rattle.lua_stack.specs.View.{tops, is_missing, is_plain, plain_frame, place_in, record_behind, state_by, whole_record};
+ghost use Rattle.lua_stack.specs.View.{tops, is_missing, is_plain, plain_frame, record_behind, state_by};
 
-use crate::closing::frame_in;
 use crate::frame::{Kind, LuaState, Record, Running, Window};
 use crate::stack::Stack;
-use crate::values::{clear, place_of};
+use crate::values::{clear, item_at, place_of};
+use crate::views::FrameView;
 use std::alloc::AllocError;
 use table_core::{FuncId, Value};
 
@@ -64,9 +64,10 @@ impl Stack {
             return;
         };
         // First, so that the record is copied from where it stood.
-        self.top = whole(record);
+        self.top = record;
         let window = record.window;
-        let from = place_of(window, window.kept, self.values.len());
+        self.top.window.kept = window.size;
+        let from = place_of(window.base, window.kept, self.values.len());
         clear(&mut self.values, from, window.size - window.kept);
     }
 
@@ -74,7 +75,10 @@ impl Stack {
     pub fn place_at(&self, frame: usize) -> Option<(FuncId, usize)>
         ensures { result ≡ kept_place (slice_get self.now.frames frame) }
     {
-        place(record_at(&self.below, self.top, frame))
+        match self.frame_at(frame)? {
+            FrameView::Lua(lua) => Some((lua.function, lua.pc)),
+            _ => None,
+        }
     }
 
     /// The frame below the one on top, if it is a Lua frame.
@@ -86,7 +90,7 @@ impl Stack {
         if count == 0 {
             return None;
         }
-        let record = frame_in(&self.below, count - 1);
+        let record = item_at(&self.below, count - 1);
         state(record.kind, record.running, record.window)
     }
 }
@@ -136,20 +140,6 @@ pub(crate) fn behind(top: Record, kind: Kind, values: usize, marks: usize) -> Re
     }
 }
 
-/// A frame with all its registers.
-#[inline]
-fn whole(frame: Record) -> Record
-    ensures { result ≡ whole_record frame }
-{
-    Record {
-        window: Window {
-            kept: frame.window.size,
-            ..frame.window
-        },
-        ..frame
-    }
-}
-
 /// The frame with a number.
 pub(crate) fn record_at(below: &[Record], top: Record, frame: usize) -> Option<Record>
     ensures { result ≡ slice_get (below.now ++ tops top) frame }
@@ -178,21 +168,6 @@ fn state(kind: Kind, running: Running, window: Window) -> Option<LuaState>
             pc: running.pc,
             size: window.size,
         }),
-        Kind::Missing => None,
-        Kind::Pcall => None,
-        Kind::Xpcall(_) => None,
-        Kind::Handler => None,
-        Kind::Closing(_) => None,
-    }
-}
-
-/// Where a frame is in its code.
-fn place(frame: Option<Record>) -> Option<(FuncId, usize)>
-    ensures { result ≡ place_in frame }
-{
-    let frame = frame?;
-    match frame.kind {
-        Kind::Lua => Some((frame.running.function, frame.running.pc)),
         Kind::Missing => None,
         Kind::Pcall => None,
         Kind::Xpcall(_) => None,

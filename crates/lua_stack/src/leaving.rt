@@ -4,7 +4,6 @@ ghost use Rattle.machine_core.specs.Text.{behind, blanked, is_pending};
 ghost use Rattle.lua_stack.specs.Frames.{HasRegisters, NoneFrom, TopBecomes, with_opened, with_registers};
 ghost use Rattle.lua_stack.specs.View.{part, put_all, wiped_but};
 
-use crate::pending::marks_end;
 use crate::stack::Stack;
 use crate::values::place_of;
 use table_core::Value;
@@ -36,8 +35,8 @@ impl Stack {
         ensures { TopBecomes self.old self.new (λ f t. with_opened 0 (with_registers (blanked (λ i. is_pending t.own.pending i || (nat_le from i && nat_lt i end)) 0 size t.own.registers) t)) }
     {
         let window = self.top.window;
-        let base = place_of(window, 0, self.values.len());
-        let last = marks_end(window, self.pending.len());
+        let base = place_of(window.base, 0, self.values.len());
+        let last = place_of(window.marks, window.marked, self.pending.len());
         wipe(
             &mut self.values,
             base,

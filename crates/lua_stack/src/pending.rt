@@ -1,14 +1,14 @@
 // The pending registers of the Lua frame on top: those of its variables that are still to be closed.
-ghost use Rattle.std.specs.Prelude.{◌≡◌, ◌+◌, ◌<◌, ◌≤◌, [], ◌∷◌, ◌++◌, None, Some, drop, filter, length, nat_lt, slice_get, suc, take, true, flat_map, IfNone, IfOk, IfSome, OnErr, OnOk};
+ghost use Rattle.std.specs.Prelude.{◌≡◌, ◌+◌, ◌≤◌, [], ◌∷◌, ◌++◌, None, filter, length, nat_lt, take, true, flat_map, IfNone, IfOk, IfSome, OnErr, OnOk};
 ghost use Rattle.machine_core.specs.Text.{last_pending, without_pending};
 ghost use Rattle.lua_stack.specs.Frames.{ArePending, HasLuaTop, HasRegisters, NoneFrom, OnTop, TopBecomes, with_pending};
 ghost use Rattle.lua_stack.specs.View.{AreStacked, IsLastFrom, kept_at, marked_values, part, registers_at};
 
 use crate::cells::is_open_from;
-use crate::closing::{frame_in, is_lua};
+use crate::closing::is_lua;
 use crate::frame::{Record, Window};
 use crate::stack::Stack;
-use crate::values::{place_of, value_at};
+use crate::values::{item_at, place_of};
 use std::alloc::{AllocError, Global};
 use table_core::Value;
 
@@ -19,7 +19,8 @@ impl Stack {
         ensures ok { OnOk result (TopBecomes self.old self.new (λ f t. with_pending (t.own.pending ++ register ∷ []) t)) }
         ensures err { OnErr result (self.new ≡ self.old) }
     {
-        let end = marks_end(self.top.window, self.pending.len());
+        let window = self.top.window;
+        let end = place_of(window.marks, window.marked, self.pending.len());
         put_mark(&mut self.pending, end, register)?;
         self.top.window.marked += 1;
         Ok(())
@@ -45,8 +46,9 @@ impl Stack {
         requires { HasLuaTop self.now }
         ensures { OnTop self.now (λ f t. result ≡ last_pending register t.own.pending) }
     {
-        let end = marks_end(self.top.window, self.pending.len());
-        last_in(&self.pending[self.top.window.marks..end], register)
+        let window = self.top.window;
+        let end = place_of(window.marks, window.marked, self.pending.len());
+        last_in(&self.pending[window.marks..end], register)
     }
 
     /// Takes the last pending register from one on away.
@@ -55,11 +57,11 @@ impl Stack {
         ensures { TopBecomes self.old self.new (λ f t. with_pending (without_pending register t.own.pending) t) }
     {
         let window = self.top.window;
-        let end = marks_end(window, self.pending.len());
+        let end = place_of(window.marks, window.marked, self.pending.len());
         let Some(at) = last_from(&self.pending[window.marks..end], register) else {
             return;
         };
-        take_mark(&mut self.pending, window.marks + at);
+        self.pending.remove(window.marks + at);
         self.top.window.marked = window.marked - 1;
     }
 
@@ -88,16 +90,6 @@ impl Stack {
     }
 }
 
-/// Where the pending registers of a frame end, which is no further than `room`.
-#[inline(always)]
-pub(crate) fn marks_end(window: Window, room: usize) -> usize
-    requires { window.marks + window.marked ≤ room }
-    ensures { result ≡ window.marks + window.marked }
-{
-    let _room = room;
-    window.marks + window.marked
-}
-
 /// Puts a register at a place, and drops what was behind.
 fn put_mark(pending: &mut Vec<usize>, at: usize, register: usize) -> Result<(), AllocError>
     requires { at ≤ length pending.old.items }
@@ -110,22 +102,6 @@ fn put_mark(pending: &mut Vec<usize>, at: usize, register: usize) -> Result<(), 
     Ok(())
 }
 
-/// Takes the register at a place away.
-fn take_mark(pending: &mut Vec<usize>, at: usize)
-    requires { at < length pending.old.items }
-    ensures { pending.new.items ≡ take at pending.old.items ++ drop (suc at) pending.old.items }
-{
-    pending.remove(at);
-}
-
-#[inline(always)]
-fn mark_of(marks: &[usize], at: usize) -> usize
-    requires { at < length marks.now }
-    ensures { slice_get marks.now at ≡ Some result }
-{
-    marks[at]
-}
-
 /// The place of the last register from one on.
 fn last_from(marks: &[usize], register: usize) -> Option<usize>
     ensures there { IfSome result (λ at. IsLastFrom register marks.now at) }
@@ -133,7 +109,7 @@ fn last_from(marks: &[usize], register: usize) -> Option<usize>
 {
     let mut count = marks.len();
     'back: while count > 0 {
-        if register <= mark_of(marks, count - 1) {
+        if register <= item_at(marks, count - 1) {
             return Some(count - 1);
         }
         count -= 1;
@@ -146,7 +122,7 @@ fn last_in(marks: &[usize], register: usize) -> Option<usize>
     ensures { result ≡ last_pending register marks.now }
 {
     let at = last_from(marks, register)?;
-    Some(mark_of(marks, at))
+    Some(item_at(marks, at))
 }
 
 /// Leaves of so many registers those below one, in their order, and says how many they are.
@@ -165,7 +141,7 @@ pub(crate) fn keep_below(
     let _size = pending.len();
     let mut kept = 0;
     for k in 0..count {
-        let mark = mark_of(pending, from + k);
+        let mark = item_at(pending, from + k);
         if mark >= register {
             continue;
         }
@@ -183,8 +159,8 @@ fn register_of(values: &[Value], window: Window, register: usize) -> Value
     if register >= window.kept {
         return Value::Nil;
     }
-    let at = place_of(window, register, values.len());
-    value_at(values, at)
+    let at = place_of(window.base, register, values.len());
+    item_at(values, at)
 }
 
 /// Adds the values of a frame's pending registers, if it is a Lua frame.
@@ -203,7 +179,7 @@ fn add_pending(
     }
     let _size = pending.len();
     for k in 0..frame.window.marked {
-        let mark = mark_of(pending, frame.window.marks + k);
+        let mark = item_at(pending, frame.window.marks + k);
         found.push(register_of(values, frame.window, mark))?;
     }
     Ok(())
@@ -220,7 +196,7 @@ fn add_all_pending(
     ensures { OnOk result (found.new.items ≡ found.old.items ++ flat_map (marked_values values.now pending.now) frames.now) }
 {
     for k in 0..frames.len() {
-        add_pending(found, frame_in(frames, k), values, pending)?;
+        add_pending(found, item_at(frames, k), values, pending)?;
     }
     Ok(())
 }

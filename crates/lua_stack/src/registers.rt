@@ -1,13 +1,12 @@
 // The registers of the Lua frame on top.
-ghost use Rattle.std.specs.Prelude.{◌≡◌, ◌+◌, ◌-◌, ◌≤◌, Some, length, map, slice_get, take, OnErr, OnOk};
+ghost use Rattle.std.specs.Prelude.{◌≡◌, ◌+◌, ◌≤◌, Some, length, map, slice_get, take, OnErr, OnOk};
 ghost use Rattle.std.specs.Borrow.{sem};
 ghost use Rattle.int_core.specs.Value.{write, write_all};
 ghost use Rattle.machine_core.specs.Text.{nils};
 ghost use Rattle.lua_stack.specs.Frames.{HasLuaTop, HasRegisters, NoneFrom, OnTop, TopBecomes, cut_at, with_registers, with_opened};
 
-use crate::frame::Window;
 use crate::stack::Stack;
-use crate::values::{clear, copy, end_of, grow, place_of, put, put_one, value_at};
+use crate::values::{clear, copy, end_of, grow, item_at, place_of, put, put_one};
 use std::alloc::AllocError;
 use table_core::Value;
 
@@ -20,8 +19,8 @@ impl Stack {
         requires { HasRegisters self.now (register + 1) }
         ensures { OnTop self.now (λ f t. slice_get t.own.registers register ≡ Some (f result)) }
     {
-        let at = place_of(self.top.window, register, self.values.len());
-        value_at(&self.values, at)
+        let at = place_of(self.top.window.base, register, self.values.len());
+        item_at(&self.values, at)
     }
 
     /// Writes a register.
@@ -30,7 +29,7 @@ impl Stack {
         requires { HasRegisters self.old (register + 1) }
         ensures { TopBecomes self.old self.new (λ f t. with_registers (write register (f value) t.own.registers) t) }
     {
-        let at = place_of(self.top.window, register, self.values.len());
+        let at = place_of(self.top.window.base, register, self.values.len());
         put_one(&mut self.values, at, value);
     }
 
@@ -39,7 +38,7 @@ impl Stack {
         requires { HasRegisters self.old (at + length values.now) }
         ensures { TopBecomes self.old self.new (λ f t. with_registers (write_all at (map f values.now) t.own.registers) t) }
     {
-        let to = place_of(self.top.window, at, self.values.len());
+        let to = place_of(self.top.window.base, at, self.values.len());
         put(&mut self.values, to, values);
     }
 
@@ -49,7 +48,7 @@ impl Stack {
         ensures ok { OnOk result (TopBecomes self.old self.new (λ f t. with_opened (length values.now) (with_registers (write_all at (map f values.now) t.own.registers) t))) }
         ensures err { OnErr result (self.new ≡ self.old) }
     {
-        let to = place_of(self.top.window, at, self.values.len());
+        let to = place_of(self.top.window.base, at, self.values.len());
         let end = end_of(to, values.len())?;
         grow(&mut self.values, end)?;
         put(&mut self.values, to, values);
@@ -67,8 +66,8 @@ impl Stack {
         ensures err { OnErr result (self.new ≡ self.old) }
     {
         let window = self.top.window;
-        let to = place_of(window, at, self.values.len());
-        let count = extra_in(window);
+        let to = place_of(window.base, at, self.values.len());
+        let count = window.base - window.start;
         let end = end_of(to, count)?;
         grow(&mut self.values, end)?;
         copy(&mut self.values, window.start, to, count);
@@ -84,7 +83,7 @@ impl Stack {
         requires { HasRegisters self.old (at + count) }
         ensures { TopBecomes self.old self.new (λ f t. with_registers (write_all at (nils count) t.own.registers) t) }
     {
-        let to = place_of(self.top.window, at, self.values.len());
+        let to = place_of(self.top.window.base, at, self.values.len());
         clear(&mut self.values, to, count);
     }
 
@@ -95,7 +94,7 @@ impl Stack {
         requires closed { NoneFrom self.old stack }
         ensures { TopBecomes self.old self.new (λ f t. cut_at register stack t) }
     {
-        let from = place_of(self.top.window, register, self.values.len());
+        let from = place_of(self.top.window.base, register, self.values.len());
         clear(&mut self.values, from, stack - register);
         self.top.window.kept = stack;
         self.top.window.size = stack;
@@ -119,7 +118,7 @@ impl Stack {
         ensures { OnTop self.now (λ f t. map f result.now ≡ t.own.varargs) }
     {
         let window = self.top.window;
-        let base = place_of(window, 0, self.values.len());
+        let base = place_of(window.base, 0, self.values.len());
         &self.values[window.start..base]
     }
 
@@ -128,8 +127,9 @@ impl Stack {
         requires { HasLuaTop self.now }
         ensures { OnTop self.now (λ f t. map f result.now ≡ t.own.registers) }
     {
-        let end = place_of(self.top.window, self.top.window.size, self.values.len());
-        &self.values[self.top.window.base..end]
+        let window = self.top.window;
+        let end = place_of(window.base, window.size, self.values.len());
+        &self.values[window.base..end]
     }
 
     /// The registers, for writing.
@@ -138,17 +138,8 @@ impl Stack {
         ensures* writes_back { sem 𝓛 (lends_registers self.entry result) }
         ensures registers { OnTop self.old (λ f t. map f result.now ≡ t.own.registers) }
     {
-        let base = self.top.window.base;
-        let end = place_of(self.top.window, self.top.window.size, self.values.len());
-        self.values.slice_mut(base..end)
+        let window = self.top.window;
+        let end = place_of(window.base, window.size, self.values.len());
+        self.values.slice_mut(window.base..end)
     }
-}
-
-/// How many arguments a frame has beyond the parameters.
-#[inline(always)]
-fn extra_in(window: Window) -> usize
-    requires { window.start ≤ window.base }
-    ensures { result ≡ window.base - window.start }
-{
-    window.base - window.start
 }

@@ -2,27 +2,26 @@
 ghost use Rattle.std.specs.Prelude.{◌≡◌, ◌+◌, ◌<◌, ◌≤◌, [], ◌∷◌, Some, length, slice_get, take, IfOk, OnErr, OnOk};
 ghost use Rattle.lua_stack.specs.View.{blank, part, put_all};
 
-use crate::frame::Window;
 use std::alloc::AllocError;
 use table_core::Value;
 
-/// Where a register stands, which is no further than `room`.
+/// The place so far behind another, which is no further than `room`.
 #[inline(always)]
-pub(crate) fn place_of(window: Window, register: usize, room: usize) -> usize
-    requires { window.base + register ≤ room }
-    ensures { result ≡ window.base + register }
+pub(crate) fn place_of(start: usize, count: usize, room: usize) -> usize
+    requires { start + count ≤ room }
+    ensures { result ≡ start + count }
 {
     let _room = room;
-    window.base + register
+    start + count
 }
 
-/// The value at a place.
+/// The item at a place.
 #[inline(always)]
-pub(crate) fn value_at(values: &[Value], at: usize) -> Value
-    requires { at < length values.now }
-    ensures { slice_get values.now at ≡ Some result }
+pub(crate) fn item_at<T: Copy>(items: &[T], at: usize) -> T
+    requires { at < length items.now }
+    ensures { slice_get items.now at ≡ Some result }
 {
-    values[at]
+    items[at]
 }
 
 /// Writes one value.
@@ -42,7 +41,7 @@ pub(crate) fn put(values: &mut Vec<Value>, at: usize, from: &[Value])
     ensures { values.new.items ≡ put_all at from.now values.old.items }
 {
     for k in 0..from.len() {
-        values[at + k] = value_at(from, k);
+        values[at + k] = item_at(from, k);
     }
 }
 

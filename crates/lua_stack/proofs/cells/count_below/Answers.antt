@@ -7,11 +7,11 @@ pub returns-then-stands_below-clause-below : goal.returns-then-stands_below-clau
 returns-then-stands_below-clause-below c =
     let more : 0 < c.back.count = search rules in
     let e : suc (c.back.count - 1) ≡ c.back.count = omega (arith, more) in
-    let t : true ≡ stands_below c.args.frame c.args.register c.cell_of.result = search rules in
-    stop_before c.args.frame c.args.register (c.back.count - 1) c.back.count c.args.cells.now c.cell_of.result c.requires e c.cell_of.ensures t
+    let t : true ≡ stands_below c.args.frame c.args.register c.item_at.result = search rules in
+    stop_before c.args.frame c.args.register (c.back.count - 1) c.back.count c.args.cells.now c.item_at.result c.requires e c.item_at.ensures t
 
 pub back-preserved : goal.back-preserved
 back-preserved c =
     let most : c.back.count ≤ length c.args.cells.now = c.back.invariant.0 in
-    let f : false ≡ stands_below c.args.frame c.args.register c.cell_of.result = search rules in
-    (omega (arith, most), first_before c.args.frame c.args.register (c.back.count - 1) c.args.cells.now c.cell_of.result c.cell_of.ensures f)
+    let f : false ≡ stands_below c.args.frame c.args.register c.item_at.result = search rules in
+    (omega (arith, most), first_before c.args.frame c.args.register (c.back.count - 1) c.args.cells.now c.item_at.result c.item_at.ensures f)

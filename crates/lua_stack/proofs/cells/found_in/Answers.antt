@@ -10,10 +10,10 @@ returns-then-at-cells c =
 
 pub returns-then-is_at : goal.returns-then-is_at
 returns-then-is_at c =
-    let t : true ≡ is_at c.args.frame c.args.register c.cell_of-found.result = search rules in
-    found_there c.args.frame c.args.register c.count_below-at.result c.args.cells.now c.cell_of-found.result c.requires c.count_below-at.ensures.below c.count_below-at.ensures.first c.cell_of-found.ensures t
+    let t : true ≡ is_at c.args.frame c.args.register c.item_at-found.result = search rules in
+    found_there c.args.frame c.args.register c.count_below-at.result c.args.cells.now c.item_at-found.result c.requires c.count_below-at.ensures.below c.count_below-at.ensures.first c.item_at-found.ensures t
 
 pub returns : goal.returns
 returns c =
-    let f : false ≡ is_at c.args.frame c.args.register c.cell_of-found.result = search rules in
-    found_not c.args.frame c.args.register c.count_below-at.result c.args.cells.now c.cell_of-found.result c.requires c.count_below-at.ensures.below c.count_below-at.ensures.first c.cell_of-found.ensures f
+    let f : false ≡ is_at c.args.frame c.args.register c.item_at-found.result = search rules in
+    found_not c.args.frame c.args.register c.count_below-at.result c.args.cells.now c.item_at-found.result c.requires c.count_below-at.ensures.below c.count_below-at.ensures.first c.item_at-found.ensures f

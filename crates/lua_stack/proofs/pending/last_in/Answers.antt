@@ -6,4 +6,4 @@ use Rattle.lua_stack.proofs.pending.last_in.Goals as goal
 pub returns : goal.returns
 returns c =
     let h : IsLastFrom c.args.register c.args.marks.now c.in_ok-at.at = search rules in
-    last_is c.args.register c.in_ok-at.at c.mark_of.result c.args.marks.now h c.mark_of.ensures
+    last_is c.args.register c.in_ok-at.at c.item_at.result c.args.marks.now h c.item_at.ensures

@@ -11,5 +11,5 @@ returns-then-register-window c =
 pub returns : goal.returns
 returns c =
     let l : c.args.register < c.args.window.kept = search (arith, rules) in
-    let g : slice_get c.args.values.now (c.args.window.base + c.args.register) ≡ Some c.value_at.result = search rules in
-    register_kept c.args.values.now c.args.window c.args.register c.value_at.result l g
+    let g : slice_get c.args.values.now (c.args.window.base + c.args.register) ≡ Some c.item_at.result = search rules in
+    register_kept c.args.values.now c.args.window c.args.register c.item_at.result l g

@@ -12,7 +12,7 @@ invariant_of-self-2 c =
     let n : c.len-frame.result ≡ length c.self.inside.below.items = search rules in
     let x = added_in c.self.inside c.args.self.now c.args.register c.len-frame.result c.count_below-at.result c.args.cell c.deref.result.now _ c.self.view_is c.self.invariant.0 c.self.invariant.1 n c.deref.ensures.value
     c.count_below-at.ensures.below c.count_below-at.ensures.first c.requires.free
-    (c.in_ok-insert_in.ensures.ok ∙ ap (λ o. take c.count_below-at.result c.self.inside.open_cells.items ++ o ∷ drop c.count_below-at.result c.self.inside.open_cells.items) c.opened.ensures) in (
+    c.in_ok-insert.ensures.items in (
       c.self.invariant.0,
       added_stands c.self.inside c.args.self.now c.args.register c.len-frame.result c.args.cell _ c.self.view_is c.self.invariant.0 c.self.invariant.1 n x c.requires.room,
     )
@@ -22,5 +22,5 @@ returns-clause-cells c =
     let n : c.len-frame.result ≡ length c.self.inside.below.items = search rules in
     let x = added_in c.self.inside c.args.self.now c.args.register c.len-frame.result c.count_below-at.result c.args.cell c.deref.result.now _ c.self.view_is c.self.invariant.0 c.self.invariant.1 n c.deref.ensures.value
     c.count_below-at.ensures.below c.count_below-at.ensures.first c.requires.free
-    (c.in_ok-insert_in.ensures.ok ∙ ap (λ o. take c.count_below-at.result c.self.inside.open_cells.items ++ o ∷ drop c.count_below-at.result c.self.inside.open_cells.items) c.opened.ensures) in
+    c.in_ok-insert.ensures.items in
     added_to c.self.inside c.args.self.now c.args.register c.len-frame.result c.args.cell _ c.self.view_is c.self.invariant.0 n x

@@ -11,6 +11,6 @@ returns-then-count-eq0 c =
 
 pub returns : goal.returns
 returns c =
-    let r : Record = c.frame_in-record.result in
+    let r : Record = c.item_at-record.result in
     let e : slice_get c.self.inside.below.items (length c.self.inside.below.items - 1) ≡ Some r = search rules in
     c.state.ensures ∙ one_below c.self.inside c.args.self.now r c.self.view_is c.self.invariant.0 e

@@ -18,7 +18,7 @@ invariant_of-self c =
     let i = c.self.invariant.0 in
     let l = room_in a c.args.self.now c.args.size c.self.view_is i c.requires.there in
     let b = c.place_of-base.ensures in
-    let e = slice_is a c.marks_end-last.result c.deref.result.now c.marks_end-last.ensures c.deref.ensures.value in (
+    let e = slice_is a c.place_of-last.result c.deref.result.now c.place_of-last.ensures c.deref.ensures.value in (
       resized_stands a c.wipe.new.values.items c.args.size i (wiped_values_length a i (λ ps i. is_pending ps i || (nat_le c.args.from i && nat_lt i c.args.end)) c.args.size c.place_of-base.result c.wipe.new.values.items _ l (omega (arith, b)) e c.wipe.ensures) l,
       cut_open a c.args.self.now c.args.size c.self.view_is i c.self.invariant.1 c.requires.there c.requires.closed,
     )
@@ -29,5 +29,5 @@ returns c =
     let i = c.self.invariant.0 in
     let l = room_in a c.args.self.now c.args.size c.self.view_is i c.requires.there in
     let b = c.place_of-base.ensures in
-    let e = slice_is a c.marks_end-last.result c.deref.result.now c.marks_end-last.ensures c.deref.ensures.value in
+    let e = slice_is a c.place_of-last.result c.deref.result.now c.place_of-last.ensures c.deref.ensures.value in
     top_wiped a i (λ ps i. is_pending ps i || (nat_le c.args.from i && nat_lt i c.args.end)) c.args.size c.place_of-base.result c.wipe.new.values.items _ l (omega (arith, b)) e c.wipe.ensures c.args.self.now _ c.self.view_is c.requires.there refl

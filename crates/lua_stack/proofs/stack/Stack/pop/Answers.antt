@@ -1,4 +1,5 @@
 use Rattle.std.proofs.Common.{rules, ◌≡◌, refl, length, arith}
+use Rattle.lua_stack.specs.View.{whole_record}
 use Rattle.lua_stack.proofs.Pushed.{cells_emptied, cells_popped, emptied_stands, empty_is, last_of, popped_stands, popped_frames}
 use Rattle.lua_stack.proofs.stack.Stack.pop.Goals as goal
 
@@ -32,12 +33,12 @@ invariant_of-self c =
 pub invariant_of-self-2 : goal.invariant_of-self-2
 invariant_of-self-2 c = (
   popped_stands c.self.inside c.pop.new.self.items c.in-Some.record c.self.invariant.0 c.in-Some.ensures.items
-      c.clear.new.values.items c.place_of-from.result _ c.whole-self-inside.result c.place_of-from.ensures refl c.clear.ensures c.whole-self-inside.ensures,
-  cells_popped c.self.inside c.pop.new.self.items c.in-Some.record c.self.invariant.0 c.in-Some.ensures.items c.args.self.now c.whole-self-inside.result
-      c.self.view_is c.self.invariant.1 c.requires.closed c.whole-self-inside.ensures,
+      c.clear.new.values.items c.place_of-from.result _ (whole_record c.in-Some.record) c.place_of-from.ensures refl c.clear.ensures refl,
+  cells_popped c.self.inside c.pop.new.self.items c.in-Some.record c.self.invariant.0 c.in-Some.ensures.items c.args.self.now (whole_record c.in-Some.record)
+      c.self.view_is c.self.invariant.1 c.requires.closed refl,
 )
 
 pub returns-clause-frames : goal.returns-clause-frames
 returns-clause-frames c =
     popped_frames c.self.inside c.pop.new.self.items c.in-Some.record c.self.invariant.0 c.in-Some.ensures.items c.args.self.now
-    c.clear.new.values.items c.place_of-from.result _ c.whole-self-inside.result c.self.view_is c.place_of-from.ensures refl c.clear.ensures c.whole-self-inside.ensures
+    c.clear.new.values.items c.place_of-from.result _ (whole_record c.in-Some.record) c.self.view_is c.place_of-from.ensures refl c.clear.ensures refl

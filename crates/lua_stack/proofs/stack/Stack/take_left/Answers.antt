@@ -13,6 +13,6 @@ invariant_of-self c =
 pub returns-clause-taken : goal.returns-clause-taken
 returns-clause-taken c =
     let more : 0 < c.self.inside.top.window.size = search (arith, rules) in
-    let g : slice_get c.self.inside.values.items c.place_of-at.result ≡ Some c.value_at-value.result = search rules in
-    one_taken c.self.inside c.args.self.now c.self.view_is c.self.invariant.0 c.requires (c.self.inside.top.window.size - 1) c.place_of-at.result c.value_at-value.result c.with_values-self-inside.result _ (omega (arith, more))
+    let g : slice_get c.self.inside.values.items c.place_of-at.result ≡ Some c.item_at-value.result = search rules in
+    one_taken c.self.inside c.args.self.now c.self.view_is c.self.invariant.0 c.requires (c.self.inside.top.window.size - 1) c.place_of-at.result c.item_at-value.result c.with_values-self-inside.result _ (omega (arith, more))
     c.place_of-at.ensures g c.with_values-self-inside.ensures refl
