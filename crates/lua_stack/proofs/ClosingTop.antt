@@ -230,9 +230,5 @@ catcher_under a s rs v i l e =
     ∙ ap (λ fs. top_is (kept_catcher (reverse fs))) (ap (λ k. map (frame_at a.values.items a.pending.items) (a.below.items ++ tops_of k (record a.top { kind = k }))) (sym k) ∙ ap (λ (s : KeptStack). s.frames) v)
   where
     lua_is : (k : Kind) → is_lua k ≡ true → k ≡ Lua
-    lua_is Missing e = absurd (cc)
     lua_is Lua e = refl
-    lua_is Pcall e = absurd (cc)
-    lua_is (Xpcall h) e = absurd (cc)
-    lua_is Handler e = absurd (cc)
-    lua_is (Closing x) e = absurd (cc)
+    lua_is _ e = absurd (cc)

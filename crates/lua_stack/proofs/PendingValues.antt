@@ -66,24 +66,16 @@ pub none_pushed : (values : List Kept) (pending : List ℕ) (r : Record) (old : 
 none_pushed values pending r old e = sym (ap (λ l. old ++ l) (by r.kind e) ∙ append_nil old)
   where
     by : (k : Kind) → is_lua k ≡ false → marked_by values pending k r.window ≡ []
-    by Missing e = refl
     by Lua e = absurd (cc)
-    by Pcall e = refl
-    by (Xpcall h) e = refl
-    by Handler e = refl
-    by (Closing x) e = refl
+    by _ e = refl
 
 pub all_pushed : (values : List Kept) (pending : List ℕ) (r : Record) (old new : List Kept) → is_lua r.kind ≡ true → new ≡ old ++ map (kept_at (registers_at values r.window)) (part r.window.marks r.window.marked pending)
     → new ≡ old ++ marked_values values pending r
 all_pushed values pending r old new e q = q ∙ ap (λ l. old ++ l) (sym (by r.kind e))
   where
     by : (k : Kind) → is_lua k ≡ true → marked_by values pending k r.window ≡ map (kept_at (registers_at values r.window)) (part r.window.marks r.window.marked pending)
-    by Missing e = absurd (cc)
     by Lua e = refl
-    by Pcall e = absurd (cc)
-    by (Xpcall h) e = absurd (cc)
-    by Handler e = absurd (cc)
-    by (Closing x) e = absurd (cc)
+    by _ e = absurd (cc)
 
 -- frame by frame
 

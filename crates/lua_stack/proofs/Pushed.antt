@@ -1,5 +1,5 @@
 -- Frames that are pushed and popped.
-use Rattle.std.proofs.Common.{◌≡◌, ℕ, zero, suc, ◌+◌, ◌-◌, ◌<◌, ◌≤◌, true, false, List, [], ◌∷◌, ◌++◌, length, map, take, drop, Option, Some, None, refl, ap, sym, ◌∙◌, subst, arith, le_refl}
+use Rattle.std.proofs.Common.{◌≡◌, ℕ, zero, suc, ◌+◌, ◌-◌, ◌<◌, ◌≤◌, true, false, List, [], ◌∷◌, ◌++◌, length, map, take, drop, Some, None, refl, ap, sym, ◌∙◌, subst, arith, le_refl}
 use Rattle.std.specs.Prelude.{slice_get, option_map}
 use Rattle.int_core.specs.Value.{known, nil, without_last}
 use Rattle.list_laws.proofs.Ends.{without_last_is}

@@ -2,3 +2,4 @@ pub mod Frames
 pub mod View
 pub mod Reading
 pub mod Lending
+pub mod Handing

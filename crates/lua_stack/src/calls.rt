@@ -1,11 +1,12 @@
 // Frames of functions that are called. The arguments become their first registers where they stand, and those beyond the parameters stay in
 // front of the registers.
-ghost use Rattle.std.specs.Prelude.{◌≡◌, ◌+◌, ◌-◌, ◌≤◌, false, cond, length, OnOk, OnErr};
+ghost use Rattle.std.specs.Prelude.{◌≡◌, ◌+◌, ◌-◌, ◌<◌, ◌≤◌, cond, length, vec_len, vec_capacity, OnOk, OnErr};
 ghost use Rattle.lua_stack.specs.Frames.{Calls, CallsBehind, Enters, HasRegisters, NoneFrom, Replaces};
-ghost use Rattle.lua_stack.specs.View.{IsLaidOut, begun_at, waiting_at};
+ghost use Rattle.lua_stack.specs.View.{IsLaidOut, begun_at};
+ghost use Rattle.lua_stack.specs.Handing.{IsHandedOver};
 
 use crate::cells::is_open_from;
-use crate::frame::{Kind, Layout, Record, Running, Shape, Wait, Window};
+use crate::frame::{Callee, Kind, Layout, Pause, Record, Running, Shape, Wait, Window};
 use crate::frames::{behind, push_top};
 use crate::pending::keep_below;
 use crate::stack::Stack;
@@ -85,18 +86,26 @@ impl Stack {
         let end = end_of(end_of(place, given)?, shape.stack)?;
         self.below.reserve(1)?;
         grow(&mut self.values, end)?;
-        // Here, so that nothing of it is kept over the calls before.
-        let top = self.top;
-        let marked = keep_below(
+        let pause = Pause {
+            wait,
+            keeps: register,
+            kept: register,
+            size: stack,
+        };
+        let callee = Callee {
+            function,
+            shape,
+            place,
+            given,
+        };
+        self.top = hand_over(
+            &mut self.values,
             &mut self.pending,
-            top.window.marks,
-            top.window.marked,
-            register,
+            &mut self.below,
+            self.top,
+            pause,
+            callee,
         );
-        self.below
-            .push_reserved(waiting(top, wait, register, stack, marked));
-        let layout = lay_out(&mut self.values, place, given, shape);
-        self.top = begun(function, shape.stack, layout, top.window.marks + marked);
         Ok(())
     }
 
@@ -118,24 +127,34 @@ impl Stack {
         ensures frames { OnOk result (Calls self.old self.new register given wait stack function shape) }
         ensures err { OnErr result (self.new ≡ self.old) }
     {
-        let top = self.top;
-        let from = place_of(top.window.base, register, self.values.len());
-        let place = place_of(top.window.base, top.window.size, self.values.len());
+        let window = self.top.window;
+        let from = place_of(window.base, register, self.values.len());
+        let place = place_of(window.base, window.size, self.values.len());
         let end = end_of(end_of(place, given)?, shape.stack)?;
         self.below.reserve(1)?;
         grow(&mut self.values, end)?;
         copy(&mut self.values, from + 1, place, given);
         clear(&mut self.values, from, stack - register);
-        let marked = keep_below(
+        let pause = Pause {
+            wait,
+            keeps: register,
+            kept: stack,
+            size: stack,
+        };
+        let callee = Callee {
+            function,
+            shape,
+            place,
+            given,
+        };
+        self.top = hand_over(
+            &mut self.values,
             &mut self.pending,
-            top.window.marks,
-            top.window.marked,
-            register,
+            &mut self.below,
+            self.top,
+            pause,
+            callee,
         );
-        self.below
-            .push_reserved(waiting(top, wait, stack, stack, marked));
-        let layout = lay_out(&mut self.values, place, given, shape);
-        self.top = begun(function, shape.stack, layout, top.window.marks + marked);
         Ok(())
     }
 
@@ -159,24 +178,34 @@ impl Stack {
         ensures frames { OnOk result (CallsBehind self.old self.new register given keeps wait stack function shape) }
         ensures err { OnErr result (self.new ≡ self.old) }
     {
-        let top = self.top;
+        let window = self.top.window;
         let room = self.values.len();
-        let from = place_of(top.window.base, register, room);
-        let place = place_of(top.window.base, keeps, room);
+        let from = place_of(window.base, register, room);
+        let place = place_of(window.base, keeps, room);
         let end = end_of(end_of(place, given)?, shape.stack)?;
         self.below.reserve(1)?;
         grow(&mut self.values, end)?;
         copy(&mut self.values, from + 1, place, given);
-        let marked = keep_below(
-            &mut self.pending,
-            top.window.marks,
-            top.window.marked,
+        let pause = Pause {
+            wait,
             keeps,
+            kept: keeps,
+            size: stack,
+        };
+        let callee = Callee {
+            function,
+            shape,
+            place,
+            given,
+        };
+        self.top = hand_over(
+            &mut self.values,
+            &mut self.pending,
+            &mut self.below,
+            self.top,
+            pause,
+            callee,
         );
-        self.below
-            .push_reserved(waiting(top, wait, keeps, stack, marked));
-        let layout = lay_out(&mut self.values, place, given, shape);
-        self.top = begun(function, shape.stack, layout, top.window.marks + marked);
         Ok(())
     }
 
@@ -203,6 +232,48 @@ impl Stack {
         self.top = begun(function, shape.stack, layout, window.marks);
         Ok(())
     }
+}
+
+/// Lets the frame on top wait, and gives the frame of the called function over its arguments. There is room for both.
+#[inline(always)]
+fn hand_over(
+    values: &mut Vec<Value>,
+    pending: &mut Vec<usize>,
+    below: &mut Vec<Record>,
+    top: Record,
+    pause: Pause,
+    callee: Callee,
+) -> Record
+    requires marks { top.window.marks + top.window.marked ≤ length pending.old.items }
+    requires reserved { vec_len below.old < vec_capacity below.old }
+    requires params { callee.shape.params ≤ callee.shape.stack }
+    requires room { callee.place + callee.given + callee.shape.stack ≤ length values.old.items }
+    ensures { IsHandedOver pause callee top values.old.items pending.old.items below.old.items values.new.items pending.new.items below.new.items result }
+{
+    let _size = pending.len();
+    let window = top.window;
+    let marked = keep_below(pending, window.marks, window.marked, pause.keeps);
+    below.push_reserved(Record {
+        kind: Kind::Lua,
+        running: Running {
+            wait: pause.wait,
+            opened: 0,
+            ..top.running
+        },
+        window: Window {
+            kept: pause.kept,
+            size: pause.size,
+            marked,
+            ..window
+        },
+    });
+    let layout = lay_out(values, callee.place, callee.given, callee.shape);
+    begun(
+        callee.function,
+        callee.shape.stack,
+        layout,
+        window.marks + marked,
+    )
 }
 
 /// How many arguments are kept beyond the parameters.
@@ -262,27 +333,6 @@ fn begun(function: FuncId, stack: usize, layout: Layout, marks: usize) -> Record
             size: stack,
             marks,
             marked: 0,
-        },
-    }
-}
-
-/// A frame that waits, and keeps some of its registers and of what is pending.
-#[inline(always)]
-fn waiting(top: Record, wait: Wait, kept: usize, size: usize, marked: usize) -> Record
-    ensures { result ≡ waiting_at top wait kept size marked }
-{
-    Record {
-        kind: Kind::Lua,
-        running: Running {
-            wait,
-            opened: 0,
-            ..top.running
-        },
-        window: Window {
-            kept,
-            size,
-            marked,
-            ..top.window
         },
     }
 }

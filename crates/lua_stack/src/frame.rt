@@ -84,6 +84,25 @@ pub(crate) struct Layout {
     pub(crate) base: usize,
 }
 
+/// How a frame waits for a call: it keeps what its registers in front of `keeps` have, and what is pending among them.
+#[derive(Clone, Copy)]
+pub(crate) struct Pause {
+    pub(crate) wait: Wait,
+    pub(crate) keeps: usize,
+    /// How many registers stay its own.
+    pub(crate) kept: usize,
+    pub(crate) size: usize,
+}
+
+/// A function that is called, and where its arguments stand.
+#[derive(Clone, Copy)]
+pub(crate) struct Callee {
+    pub(crate) function: FuncId,
+    pub(crate) shape: Shape,
+    pub(crate) place: usize,
+    pub(crate) given: usize,
+}
+
 /// What a Lua frame runs, and where it goes on. Of another frame nothing here is read.
 #[derive(Clone, Copy)]
 pub(crate) struct Running {

@@ -1,4 +1,4 @@
-use Rattle.std.proofs.Common.{rules, ◌≡◌, ◌∷◌, ◌++◌, length, take, drop, subst, sym, ap, ◌∙◌}
+use Rattle.std.proofs.Common.{rules, ◌≡◌, length, subst, sym}
 use Rattle.lua_stack.specs.View.{AreInOrder}
 use Rattle.lua_stack.proofs.OpenCells.{added_in, added_to}
 use Rattle.lua_stack.proofs.Reached.{added_stands}

@@ -1,30 +1,19 @@
-use Rattle.std.proofs.Common.{rules, ◌≡◌, ◌+◌, ◌≤◌, [], ◌∷◌, ◌++◌, length, refl, ap, ◌∙◌, arith, le_refl}
-use Rattle.lua_stack.specs.View.{part, waiting_at}
+use Rattle.std.proofs.Common.{rules, ◌+◌, ◌-◌, ◌≤◌, length, refl, ap, ◌∙◌, arith, le_refl}
+use Rattle.lua_stack.specs.View.{blank, part}
 use Rattle.lua_stack.proofs.Parts.{length_put_all}
 use Rattle.lua_stack.proofs.Own.{lua_top, place_in, room_in}
-use Rattle.lua_stack.proofs.Called.{calls, calls_open, calls_stands, cleared_arguments, cleared_extra, cleared_length, cleared_registers}
+use Rattle.lua_stack.proofs.Called.{IsReady, calls, given_room, handed_over, next_room, ready_apart, register_room}
+use Rattle.lua_stack.proofs.stack.Stack.call_apart.Goals.{After-hand_over-self-inside}
 use Rattle.lua_stack.proofs.stack.Stack.call_apart.Goals as goal
 
 pub place_of-from-requires : goal.place_of-from-requires
-place_of-from-requires c =
-    let k = place_in c.self.inside c.args.self.now (c.args.register + 1 + c.args.given) c.self.view_is c.self.invariant.0 c.requires.arguments in
-    let n : c.len.result ≡ length c.self.inside.values.items = search rules in
-    omega (arith, k, n)
+place_of-from-requires c = register_room c.self.inside c.self.invariant.0 c.args.self.now c.self.view_is c.args.register c.args.given c.requires.arguments c.len.result (search rules)
 
 pub overflow_add-from : goal.overflow_add-from
-overflow_add-from c =
-    let k = place_in c.self.inside c.args.self.now (c.args.register + 1 + c.args.given) c.self.view_is c.self.invariant.0 c.requires.arguments in
-    let n : c.len.result ≡ length c.self.inside.values.items = search rules in
-    let e = c.place_of-from.ensures in
-    let l : c.place_of-from.result + 1 ≤ c.len.result = omega (arith, k, n, e) in
-    search (arith, rules)
+overflow_add-from c = let l : c.place_of-from.result + 1 ≤ c.len.result = next_room c.self.inside c.self.invariant.0 c.args.self.now c.self.view_is c.args.register c.args.given c.requires.arguments c.len.result c.place_of-from.result (search rules) c.place_of-from.ensures in search (arith, rules)
 
 pub copy-requires-clause-from : goal.copy-requires-clause-from
-copy-requires-clause-from c =
-    let k = place_in c.self.inside c.args.self.now (c.args.register + 1 + c.args.given) c.self.view_is c.self.invariant.0 c.requires.arguments in
-    let e = c.place_of-from.ensures in
-    let longer = c.in_ok-grow.ensures.longer in
-    omega (arith, k, e, longer)
+copy-requires-clause-from c = given_room c.self.inside c.self.invariant.0 c.args.self.now c.self.view_is c.args.register c.args.given c.requires.arguments (length c.grow.new.values.items) c.place_of-from.result c.in_ok-grow.ensures.longer c.place_of-from.ensures
 
 pub clear-requires : goal.clear-requires
 clear-requires c =
@@ -35,80 +24,26 @@ clear-requires c =
     let n = ap length c.copy.ensures ∙ length_put_all (part (c.place_of-from.result + 1) c.args.given c.grow.new.values.items) c.grow.new.values.items c.place_of-place.result in
     omega (arith, k, e, w, longer, n)
 
-pub lay_out-layout-requires-clause-room : goal.lay_out-layout-requires-clause-room
-lay_out-layout-requires-clause-room c =
-    let a = c.self.inside in
-    let i = c.self.invariant.0 in
-    let given = room_in a c.args.self.now (c.args.register + 1 + c.args.given) c.self.view_is i c.requires.arguments in
-    let size = room_in a c.args.self.now c.args.stack c.self.view_is i c.requires.size in
-    let front = c.in_ok-grow.ensures.front in
-    let longer = c.in_ok-grow.ensures.longer in
-    let x = c.in_ok-grow.ensures.room in
-    let y = c.in_ok-end.ensures in
-    let z = c.in_ok-end_of.ensures in
-    let e = c.place_of-from.ensures in
+pub hand_over-self-inside-requires-clause-room : goal.hand_over-self-inside-requires-clause-room
+hand_over-self-inside-requires-clause-room c =
+    let n = ap length c.copy.ensures ∙ length_put_all (part (c.place_of-from.result + 1) c.args.given c.grow.new.values.items) c.grow.new.values.items c.place_of-place.result in
+    let m = ap length c.clear.ensures ∙ length_put_all (blank (c.args.stack - c.args.register)) c.copy.new.values.items c.place_of-from.result in
+    omega (arith, n, m, c.in_ok-grow.ensures.room, c.in_ok-end.ensures, c.in_ok-end_of.ensures)
+
+ready : (c : After-hand_over-self-inside)
+    → IsReady c.self.inside c.args.register (record { wait = c.args.wait; keeps = c.args.register; kept = c.args.stack; size = c.args.stack })
+    (record { function = c.args.function; shape = c.args.shape; place = c.place_of-place.result; given = c.args.given }) c.clear.new.values.items
+ready c =
+    let whole = c.self.invariant.0.whole in
     let p = c.place_of-place.ensures in
-    let n = cleared_length a i c.grow.new.values.items c.copy.new.values.items c.clear.new.values.items front longer c.args.register c.args.given c.args.stack c.place_of-from.result c.place_of-place.result
-    c.requires.within size given e p (omega (arith, x, y, z)) c.copy.ensures c.clear.ensures in
-    omega (arith, n, x, y, z)
+    let r = room_in c.self.inside c.args.self.now c.args.stack c.self.view_is c.self.invariant.0 c.requires.size in
+    ready_apart c.self.inside c.self.invariant.0 c.args.self.now c.self.view_is c.grow.new.values.items c.copy.new.values.items c.in_ok-grow.ensures.front c.in_ok-grow.ensures.longer
+    c.args.register c.args.given c.args.stack c.args.stack c.place_of-from.result c.place_of-place.result
+    (le_refl _) c.requires.arguments c.requires.size c.place_of-from.ensures (omega (arith, p, whole, r)) (omega (arith, c.in_ok-grow.ensures.room, c.in_ok-end.ensures, c.in_ok-end_of.ensures)) c.copy.ensures
+    c.clear.new.values.items c.requires.within refl (omega (arith, p, whole)) c.clear.ensures c.args.wait c.args.function c.args.shape
 
 pub invariant_of-self-2 : goal.invariant_of-self-2
-invariant_of-self-2 c =
-    let a = c.self.inside in
-    let i = c.self.invariant.0 in
-    let given = room_in a c.args.self.now (c.args.register + 1 + c.args.given) c.self.view_is i c.requires.arguments in
-    let size = room_in a c.args.self.now c.args.stack c.self.view_is i c.requires.size in
-    let front = c.in_ok-grow.ensures.front in
-    let longer = c.in_ok-grow.ensures.longer in
-    let x = c.in_ok-grow.ensures.room in
-    let y = c.in_ok-end.ensures in
-    let z = c.in_ok-end_of.ensures in
-    let e = c.place_of-from.ensures in
-    let p = c.place_of-place.ensures in
-    let n = cleared_length a i c.grow.new.values.items c.copy.new.values.items c.clear.new.values.items front longer c.args.register c.args.given c.args.stack c.place_of-from.result c.place_of-place.result
-    c.requires.within size given e p (omega (arith, x, y, z)) c.copy.ensures c.clear.ensures in
-    let w = i.whole in
-    let below : c.push_reserved.new.self.items ≡ a.below.items ++ waiting_at a.top c.args.wait c.args.stack c.args.stack c.keep_below-marked.result ∷ [] =
-    c.push_reserved.ensures.items ∙ ap (λ xs. xs ++ c.waiting.result ∷ []) c.in_ok-reserve.ensures.items ∙ ap (λ r. a.below.items ++ r ∷ []) c.waiting.ensures in (
-      calls_stands a i c.args.register c.args.stack c.args.stack c.args.wait c.keep_below-marked.result c.clear.new.values.items c.keep_below-marked.new.pending.items
-          (cleared_extra a i c.grow.new.values.items c.copy.new.values.items c.clear.new.values.items front longer c.args.register c.args.given c.args.stack c.place_of-from.result c.place_of-place.result
-          c.requires.within size given e p (omega (arith, x, y, z)) c.copy.ensures c.clear.ensures)
-          (cleared_registers a i c.grow.new.values.items c.copy.new.values.items c.clear.new.values.items front longer c.args.register c.args.given c.args.stack c.place_of-from.result c.place_of-place.result
-          c.requires.within size given e p (omega (arith, x, y, z)) c.copy.ensures c.clear.ensures)
-          c.keep_below-marked.ensures.front c.keep_below-marked.ensures.kept c.place_of-place.result (a.top.window.marks + c.keep_below-marked.result)
-          (le_refl _) size (omega (arith, n, longer)) c.keep_below-marked.ensures.fewer c.keep_below-marked.ensures.size (omega (arith, p, size, w)) refl
-          c.args.given c.args.shape c.args.function c.lay_out-layout.result c.lay_out-layout.new.values.items c.push_reserved.new.self.items c.begun-self-inside.result
-          c.lay_out-layout.ensures below c.begun-self-inside.ensures,
-      calls_open a c.args.self.now c.push_reserved.new.self.items c.begun-self-inside.result c.args.stack c.args.stack c.keep_below-marked.result c.args.wait c.self.view_is i (lua_top c.requires.size) c.self.invariant.1 c.requires.closed below,
-    )
+invariant_of-self-2 c = handed_over c.self.inside c.self.invariant.0 _ _ _ _ _ _ _ _ _ (ready ((goal.at.invariant_of-self-2 c).After-hand_over-self-inside)) c.in_ok-reserve.ensures.items c.hand_over-self-inside.ensures c.args.self.now c.self.view_is (lua_top c.requires.size) c.self.invariant.1 c.requires.closed
 
 pub returns-clause-frames : goal.returns-clause-frames
-returns-clause-frames c =
-    let a = c.self.inside in
-    let i = c.self.invariant.0 in
-    let given = room_in a c.args.self.now (c.args.register + 1 + c.args.given) c.self.view_is i c.requires.arguments in
-    let size = room_in a c.args.self.now c.args.stack c.self.view_is i c.requires.size in
-    let front = c.in_ok-grow.ensures.front in
-    let longer = c.in_ok-grow.ensures.longer in
-    let x = c.in_ok-grow.ensures.room in
-    let y = c.in_ok-end.ensures in
-    let z = c.in_ok-end_of.ensures in
-    let e = c.place_of-from.ensures in
-    let p = c.place_of-place.ensures in
-    let n = cleared_length a i c.grow.new.values.items c.copy.new.values.items c.clear.new.values.items front longer c.args.register c.args.given c.args.stack c.place_of-from.result c.place_of-place.result
-    c.requires.within size given e p (omega (arith, x, y, z)) c.copy.ensures c.clear.ensures in
-    let w = i.whole in
-    let below : c.push_reserved.new.self.items ≡ a.below.items ++ waiting_at a.top c.args.wait c.args.stack c.args.stack c.keep_below-marked.result ∷ [] =
-    c.push_reserved.ensures.items ∙ ap (λ xs. xs ++ c.waiting.result ∷ []) c.in_ok-reserve.ensures.items ∙ ap (λ r. a.below.items ++ r ∷ []) c.waiting.ensures in
-    calls a i c.args.register c.args.stack c.args.stack c.args.wait c.keep_below-marked.result c.clear.new.values.items c.keep_below-marked.new.pending.items
-    (cleared_extra a i c.grow.new.values.items c.copy.new.values.items c.clear.new.values.items front longer c.args.register c.args.given c.args.stack c.place_of-from.result c.place_of-place.result
-    c.requires.within size given e p (omega (arith, x, y, z)) c.copy.ensures c.clear.ensures)
-    (cleared_registers a i c.grow.new.values.items c.copy.new.values.items c.clear.new.values.items front longer c.args.register c.args.given c.args.stack c.place_of-from.result c.place_of-place.result
-    c.requires.within size given e p (omega (arith, x, y, z)) c.copy.ensures c.clear.ensures)
-    c.keep_below-marked.ensures.front c.keep_below-marked.ensures.kept c.place_of-place.result (a.top.window.marks + c.keep_below-marked.result)
-    (le_refl _) size (omega (arith, n, longer)) c.keep_below-marked.ensures.fewer c.keep_below-marked.ensures.size (omega (arith, p, size, w)) refl
-    c.args.given c.args.shape c.args.function c.lay_out-layout.result c.lay_out-layout.new.values.items c.push_reserved.new.self.items c.begun-self-inside.result
-    c.lay_out-layout.ensures below c.begun-self-inside.ensures
-    c.args.self.now _ c.self.view_is (lua_top c.requires.size) c.requires.params
-    (cleared_arguments a i c.grow.new.values.items c.copy.new.values.items c.clear.new.values.items front longer c.args.register c.args.given c.args.stack c.place_of-from.result c.place_of-place.result
-    c.requires.within size given e p (omega (arith, x, y, z)) c.copy.ensures c.clear.ensures) refl
+returns-clause-frames c = calls c.self.inside c.self.invariant.0 _ _ _ _ _ _ _ _ _ (ready ((goal.at.returns-clause-frames c).After-hand_over-self-inside)) c.in_ok-reserve.ensures.items c.hand_over-self-inside.ensures refl c.args.self.now _ c.self.view_is (lua_top c.requires.size) c.requires.params refl

@@ -1,4 +1,4 @@
-use Rattle.std.proofs.Common.{rules, ◌≡◌, ◌+◌, ◌-◌, length, max, refl, arith}
+use Rattle.std.proofs.Common.{rules, ◌≡◌, ◌+◌, ◌-◌, max, refl, arith}
 use Rattle.lua_stack.proofs.Own.{lua_top, room_in}
 use Rattle.lua_stack.proofs.Varargs.{own_open, own_stands, top_own}
 use Rattle.lua_stack.proofs.stack.Stack.write_varargs.Goals as goal
