@@ -2,7 +2,6 @@
 use Rattle.std.specs.Prelude.{◌≡◌, Bool, true, false}
 use Rattle.int_core.specs.Value.{Value}
 use Rattle.machine_core.specs.World.{Frame}
-use Rattle.machine_core.specs.Moves.{TopShape, lua_top, pcall_top, xpcall_top, handler_top, closing_top, no_top}
 use Rattle.table_core.specs.declared.value.CoroId.{CoroId}
 use Rattle.table_core.specs.declared.value.Value.{Value as Kept}
 use Rattle.lua_stack.specs.declared.frame.Top.{Top}
@@ -12,15 +11,8 @@ use Rattle.lua_heap.specs.declared.world.World.{World as Memory}
 use Rattle.machine_moves.specs.declared.tops.Over.{Over}
 use Rattle.machine_moves.specs.declared.tops.Over.TheVariants.{Pcall as OverPcall, Xpcall as OverXpcall, Handler as OverHandler}
 use Rattle.move_laws.specs.Memory.{Runs}
-
 -- how it looks to a row
-abbrev pub shape_of : (in_main : Bool) → Top → TopShape
-shape_of in_main Missing = no_top in_main
-shape_of in_main Lua = lua_top
-shape_of in_main Pcall = pcall_top
-shape_of in_main (Xpcall h) = xpcall_top
-shape_of in_main Handler = handler_top
-shape_of in_main Closing = closing_top
+pub use Rattle.lua_stack.specs.Frames.{shape_of}
 
 pub record TopIs (W : Memory) (top : Top) : Type 0 where
   pub co : CoroId
