@@ -1,5 +1,5 @@
 -- Open cells: each names a register that is its frame's own, and they stand in the order of their frames and registers.
-use Rattle.std.proofs.Common.{◌≡◌, ℕ, zero, suc, ◌-◌, ◌<◌, ◌≤◌, Bool, true, false, List, [], ◌∷◌, ◌++◌, length, map, take, drop, Option, Some, None, refl, ap, sym, ◌∙◌, subst, arith, length-append}
+use Rattle.std.proofs.Common.{◌≡◌, ℕ, zero, suc, ◌-◌, ◌<◌, ◌≤◌, Bool, true, false, List, [], ◌∷◌, ◌++◌, length, map, take, drop, Option, Some, None, refl, ap, sym, ◌∙◌, subst, arith, length-append, ◌⊎◌, inl, inr}
 use Rattle.std.specs.Prelude.{cond, not, ◌&&◌, ◌||◌, nat_eq, nat_lt, slice_get, slice_index_or, IfSome, IfNone}
 use Rattle.std.proofs.lemmas.Bool.Decides.{nat_tests}
 use Rattle.std.proofs.lemmas.List.{length-map, take-append-drop}
@@ -56,37 +56,37 @@ at_is f r g s e m = by (nat_eq f g) refl (nat_eq r s) refl
     by false p t q = absurd (no_such (let x : nat_eq f g ≡ true = grind (arith, nat_tests) in sym x ∙ p))
 
 -- what the test for a place tells
-pub below_true : (frame register : ℕ) (c : OpenCell) → true ≡ stands_below frame register c → IsBelow frame register c
-below_true frame register c e = by (nat_lt c.frame frame) refl (nat_eq c.frame frame) refl (nat_lt c.register register) refl
+placed : (frame register : ℕ) (c : OpenCell) → ((stands_below frame register c ≡ true) × IsBelow frame register c) ⊎ ((stands_below frame register c ≡ false) × IsFirst frame register c)
+placed frame register c = by (nat_lt c.frame frame) refl (nat_eq c.frame frame) refl (nat_lt c.register register) refl
   where
-    first : (s : Bool) → nat_lt c.frame frame ≡ s → true ≡ (s || (nat_eq c.frame frame && nat_lt c.register register))
-    first s p = e ∙ ap (λ s. s || (nat_eq c.frame frame && nat_lt c.register register)) p
+    test : (s t u : Bool) → nat_lt c.frame frame ≡ s → nat_eq c.frame frame ≡ t → nat_lt c.register register ≡ u → stands_below frame register c ≡ (s || (t && u))
+    test s t u p q w = ap (λ s. s || (nat_eq c.frame frame && nat_lt c.register register)) p ∙ ap (λ t. s || (t && nat_lt c.register register)) q ∙ ap (λ u. s || (t && u)) w
 
-    by : (s : Bool) → nat_lt c.frame frame ≡ s → (t : Bool) → nat_eq c.frame frame ≡ t → (u : Bool) → nat_lt c.register register ≡ u → IsBelow frame register c
-    by true p t q u w = let l : c.frame < frame = grind (arith, nat_tests) in record { frame_at_most = omega (arith, l); register_less = λ g. absurd (omega (arith, l, g)) }
+    by : (s : Bool) → nat_lt c.frame frame ≡ s → (t : Bool) → nat_eq c.frame frame ≡ t → (u : Bool) → nat_lt c.register register ≡ u
+        → ((stands_below frame register c ≡ true) × IsBelow frame register c) ⊎ ((stands_below frame register c ≡ false) × IsFirst frame register c)
+    by true p t q u w =
+        let l : c.frame < frame = grind (arith, nat_tests) in
+        inl (test true t u p q w, record { frame_at_most = omega (arith, l); register_less = λ g. absurd (omega (arith, l, g)) })
     by false p true q true w =
         let l : c.frame ≡ frame = grind (arith, nat_tests) in
         let m : c.register < register = grind (arith, nat_tests) in
-        record { frame_at_most = omega (arith, l); register_less = λ g. m }
-    by false p true q false w = absurd (no_such (first false p ∙ ap (λ t. t && nat_lt c.register register) q ∙ w))
-    by false p false q u w = absurd (no_such (first false p ∙ ap (λ t. t && nat_lt c.register register) q))
-
-pub below_false : (frame register : ℕ) (c : OpenCell) → false ≡ stands_below frame register c → IsFirst frame register c
-below_false frame register c e = by (nat_lt c.frame frame) refl (nat_eq c.frame frame) refl (nat_lt c.register register) refl
-  where
-    first : (s : Bool) → nat_lt c.frame frame ≡ s → false ≡ (s || (nat_eq c.frame frame && nat_lt c.register register))
-    first s p = e ∙ ap (λ s. s || (nat_eq c.frame frame && nat_lt c.register register)) p
-
-    by : (s : Bool) → nat_lt c.frame frame ≡ s → (t : Bool) → nat_eq c.frame frame ≡ t → (u : Bool) → nat_lt c.register register ≡ u → IsFirst frame register c
-    by true p t q u w = absurd (no_such (sym (first true p)))
-    by false p true q true w = absurd (no_such (sym (first false p ∙ ap (λ t. t && nat_lt c.register register) q ∙ w)))
+        inl (test false true true p q w, record { frame_at_most = omega (arith, l); register_less = λ g. m })
     by false p true q false w =
         let l : c.frame ≡ frame = grind (arith, nat_tests) in
         let m : register ≤ c.register = grind (arith, nat_tests) in
-        record { frame_at_least = omega (arith, l); register_at_least = λ g. m }
+        inr (test false true false p q w, record { frame_at_least = omega (arith, l); register_at_least = λ g. m })
     by false p false q u w =
         let l : frame ≤ c.frame = grind (arith, nat_tests) in
-        record { frame_at_least = l; register_at_least = λ g. absurd (no_such (let x : nat_eq c.frame frame ≡ true = grind (arith, nat_tests) in sym x ∙ q)) }
+        inr (
+          test false false u p q w,
+          record { frame_at_least = l; register_at_least = λ g. absurd (no_such (let x : nat_eq c.frame frame ≡ true = grind (arith, nat_tests) in sym x ∙ q)) },
+        )
+
+pub below_true : (frame register : ℕ) (c : OpenCell) → true ≡ stands_below frame register c → IsBelow frame register c
+below_true frame register c e = elim (placed frame register c) [ inl x ↦ x.1 | inr x ↦ absurd (no_such (e ∙ x.0)) ]
+
+pub below_false : (frame register : ℕ) (c : OpenCell) → false ≡ stands_below frame register c → IsFirst frame register c
+below_false frame register c e = elim (placed frame register c) [ inl x ↦ absurd (no_such (sym (e ∙ x.0))) | inr x ↦ x.1 ]
 
 pub none_below : (frame register : ℕ) (cs ds : List OpenCell) → AllBelow frame register cs → cell_at frame register (cs ++ ds) ≡ cell_at frame register ds
 none_below frame register [] ds b = refl

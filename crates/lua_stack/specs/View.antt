@@ -64,11 +64,7 @@ frame_at values pending r = frame_in values pending r.kind r.running r.window
 
 abbrev pub tops_of : Kind → Record → List Record
 tops_of Missing r = []
-tops_of Lua r = r ∷ []
-tops_of Pcall r = r ∷ []
-tops_of (Xpcall h) r = r ∷ []
-tops_of Handler r = r ∷ []
-tops_of (Closing error) r = r ∷ []
+tops_of _ r = r ∷ []
 
 abbrev pub tops : Record → List Record
 tops r = tops_of r.kind r
@@ -99,11 +95,8 @@ pub record IsWithin (values marks : ℕ) (w : Window) : Type 0 where
 -- whether there is a frame; of its values it has all, unless it is one that waits for a call
 abbrev pub IsFrame : Kind → Window → Type 0
 IsFrame Missing w = ⊥
-IsFrame Lua w = Unit {0}
-IsFrame Pcall w = Unit {0}
-IsFrame (Xpcall h) w = Unit {0}
-IsFrame Handler w = Unit {0}
 IsFrame (Closing error) w = w.kept ≡ w.size
+IsFrame _ w = Unit {0}
 
 abbrev pub AllOver : Window → List Record → Type 0
 AllOver w [] = Unit {0}
@@ -116,11 +109,7 @@ AreStacked values marks (r ∷ rs) = IsFrame r.kind r.window × IsWithin values 
 
 abbrev pub NoneUnder : Kind → List Record → Type 0
 NoneUnder Missing rs = rs ≡ []
-NoneUnder Lua rs = Unit {0}
-NoneUnder Pcall rs = Unit {0}
-NoneUnder (Xpcall h) rs = Unit {0}
-NoneUnder Handler rs = Unit {0}
-NoneUnder (Closing error) rs = Unit {0}
+NoneUnder _ rs = Unit {0}
 
 -- the frame on top has all its registers, and where there is none there is none below
 pub record IsStack (values : List Kept) (pending : List ℕ) (below : List Record) (top : Record) : Type 0 where
@@ -139,11 +128,7 @@ window_at (r ∷ rs) w (suc n) = window_at rs w n
 -- how many registers of a frame are its own
 abbrev pub reach_of : Kind → Window → ℕ
 reach_of Lua w = w.kept
-reach_of Missing w = 0
-reach_of Pcall w = 0
-reach_of (Xpcall h) w = 0
-reach_of Handler w = 0
-reach_of (Closing error) w = 0
+reach_of _ w = 0
 
 abbrev pub reach_at : List Record → Kind → Window → ℕ → ℕ
 reach_at [] k w zero = reach_of k w
@@ -210,37 +195,24 @@ record_behind r kind = record {
 
 abbrev pub is_missing : Kind → Bool
 is_missing Missing = true
-is_missing Lua = false
-is_missing Pcall = false
-is_missing (Xpcall h) = false
-is_missing Handler = false
-is_missing (Closing error) = false
+is_missing _ = false
 
 -- a frame without values of its own
 abbrev pub is_plain : Kind → Bool
-is_plain Missing = false
-is_plain Lua = false
 is_plain Pcall = true
 is_plain (Xpcall h) = true
 is_plain Handler = true
-is_plain (Closing error) = false
+is_plain _ = false
 
 abbrev pub plain_frame : Kind → KeptFrame
-plain_frame Missing = kept_pcall
-plain_frame Lua = kept_pcall
-plain_frame Pcall = kept_pcall
 plain_frame (Xpcall h) = kept_xpcall h
 plain_frame Handler = kept_handler
-plain_frame (Closing error) = kept_pcall
+plain_frame _ = kept_pcall
 
 -- what is told of a Lua frame
 abbrev pub state_by : Kind → Running → Window → Option LuaState
 state_by Lua r w = Some (record { function = r.function; wait = r.wait; pc = r.pc; size = w.size })
-state_by Missing r w = None
-state_by Pcall r w = None
-state_by (Xpcall h) r w = None
-state_by Handler r w = None
-state_by (Closing error) r w = None
+state_by _ r w = None
 
 abbrev pub state_in : Option Record → Option LuaState
 state_in None = None
@@ -293,19 +265,11 @@ wiped_but stays i (v ∷ vs) = cond (stays i) v Nil ∷ wiped_but stays (suc i) 
 
 abbrev pub error_in : Kind → Option Kept
 error_in (Closing error) = error
-error_in Missing = None
-error_in Lua = None
-error_in Pcall = None
-error_in (Xpcall h) = None
-error_in Handler = None
+error_in _ = None
 
 abbrev pub is_lua : Kind → Bool
 is_lua Lua = true
-is_lua Missing = false
-is_lua Pcall = false
-is_lua (Xpcall h) = false
-is_lua Handler = false
-is_lua (Closing error) = false
+is_lua _ = false
 
 -- the first frame that is no Lua frame
 abbrev pub catcher_of : List Record → Top
@@ -319,11 +283,7 @@ kept_at registers n = elim (slice_get registers n) [ None ↦ Nil | Some v ↦ v
 -- the values of a frame's pending registers
 abbrev pub marked_by : List Kept → List ℕ → Kind → Window → List Kept
 marked_by values pending Lua w = map (kept_at (registers_at values w)) (part w.marks w.marked pending)
-marked_by values pending Missing w = []
-marked_by values pending Pcall w = []
-marked_by values pending (Xpcall h) w = []
-marked_by values pending Handler w = []
-marked_by values pending (Closing error) w = []
+marked_by values pending _ w = []
 
 abbrev pub marked_values : List Kept → List ℕ → Record → List Kept
 marked_values values pending r = marked_by values pending r.kind r.window
