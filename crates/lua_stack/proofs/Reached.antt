@@ -49,11 +49,11 @@ module _ (a : Inside) (s : KeptStack) (frame register : ℕ) (v : shown a ≡ s)
     pub frame_listed : frame ≤ length below
     frame_listed = let l = frame_there in let e = ap length b in omega (arith, l, e)
 
-    pub window_listed : (w : Window) → w ≡ window_at below a.top.window frame → w ≡ window_at a.below.items a.top.window frame
-    window_listed w e = e ∙ ap (λ xs. window_at xs a.top.window frame) b
+    pub window_listed : window_at below a.top.window frame ≡ window_at a.below.items a.top.window frame
+    window_listed = ap (λ xs. window_at xs a.top.window frame) b
 
-    pub place_listed : (w : Window) → w ≡ window_at below a.top.window frame → (n : ℕ) → n ≡ length a.values.items → w.base + register < n
-    place_listed w e n q = let l = place_there w (window_listed w e) in omega (arith, l, q)
+    pub place_listed : (n : ℕ) → n ≡ length a.values.items → (window_at below a.top.window frame).base + register < n
+    place_listed n q = let l = place_there (window_at below a.top.window frame) window_listed in omega (arith, l, q)
 
 -- what is read there
 

@@ -1,5 +1,5 @@
 // The cells that are open in a stack, and the registers in which their variables stand.
-ghost use Rattle.std.specs.Prelude.{◌≡◌, ◌+◌, ◌≤◌, false, None, drop, length, take, IfNone, IfSome, OnErr, OnOk};
+ghost use Rattle.std.specs.Prelude.{◌≡◌, ◌+◌, ◌<◌, ◌≤◌, false, None, drop, length, take, IfNone, IfSome, OnErr, OnOk};
 ghost use Rattle.lua_stack.specs.Frames.{Adds, AllBelow, HasOpen, HasRegisters, NoneFrom, RegisterBecomes, RegisterIs, TakesLast, cell_at, opened_at, top_number};
 ghost use Rattle.lua_stack.specs.View.{AreInOrder, FirstFrom, IsTaken, is_at, stands_below, window_at};
 
@@ -58,8 +58,8 @@ impl Stack {
         requires { HasOpen self.now frame register }
         ensures { RegisterIs self.now frame register result }
     {
-        let window = window_at(&self.below, self.top.window, frame);
-        let at = place_of(window.base, register, self.values.len());
+        let room = self.values.len();
+        let at = register_place(&self.below, self.top.window, frame, register, room);
         item_at(&self.values, at)
     }
 
@@ -68,8 +68,8 @@ impl Stack {
         requires { HasOpen self.old frame register }
         ensures { RegisterBecomes self.old self.new frame register value }
     {
-        let window = window_at(&self.below, self.top.window, frame);
-        let at = place_of(window.base, register, self.values.len());
+        let room = self.values.len();
+        let at = register_place(&self.below, self.top.window, frame, register, room);
         put_one(&mut self.values, at, value);
     }
 }
@@ -142,16 +142,24 @@ fn take_from(cells: &mut Vec<OpenCell>, frame: usize, register: usize) -> Option
     Some(last)
 }
 
-/// The window of a frame.
+/// Where a register of a frame stands, which is in front of `room`.
 #[inline]
-fn window_at(below: &[Record], top: Window, frame: usize) -> Window
-    requires { frame ≤ length below.now }
-    ensures { result ≡ window_at below.now top frame }
+fn register_place(
+    below: &[Record],
+    top: Window,
+    frame: usize,
+    register: usize,
+    room: usize,
+) -> usize
+    requires there { frame ≤ length below.now }
+    requires inside { (window_at below.now top frame).base + register < room }
+    ensures is { result ≡ (window_at below.now top frame).base + register }
+    ensures within { result < room }
 {
     if frame < below.len() {
-        return below[frame].window;
+        return place_of(below[frame].window.base, register, room);
     }
-    top
+    place_of(top.base, register, room)
 }
 
 /// Whether the last cell stands at a register of a frame or behind.

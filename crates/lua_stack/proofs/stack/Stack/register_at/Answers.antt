@@ -1,24 +1,14 @@
-use Rattle.std.proofs.Common.{rules, ◌≡◌, Some, length, ap, arith}
+use Rattle.std.proofs.Common.{rules, ◌≡◌, Some}
 use Rattle.std.specs.Prelude.{slice_get}
+use Rattle.lua_stack.specs.View.{window_at}
 use Rattle.lua_stack.proofs.Reached.{frame_listed, place_listed, register_read, window_listed}
 use Rattle.lua_stack.proofs.stack.Stack.register_at.Goals as goal
 
-pub window_at-window-requires : goal.window_at-window-requires
-window_at-window-requires c = frame_listed c.self.inside c.args.self.now c.args.frame c.args.register c.self.view_is c.self.invariant.0 c.self.invariant.1 c.requires c.deref.result.now c.deref.ensures.value
-
-pub place_of-at-requires : goal.place_of-at-requires
-place_of-at-requires c =
-    let l = place_listed c.self.inside c.args.self.now c.args.frame c.args.register c.self.view_is c.self.invariant.0 c.self.invariant.1 c.requires c.deref.result.now c.deref.ensures.value c.window_at-window.result c.window_at-window.ensures c.len.result (search rules) in
-    omega (arith, l)
-
-pub item_at-requires : goal.item_at-requires
-item_at-requires c =
-    let l = place_listed c.self.inside c.args.self.now c.args.frame c.args.register c.self.view_is c.self.invariant.0 c.self.invariant.1 c.requires c.deref.result.now c.deref.ensures.value c.window_at-window.result c.window_at-window.ensures (length c.deref-2.result.now) (ap length c.deref-2.ensures.value) in
-    let p = c.place_of-at.ensures in
-    omega (arith, l, p)
+pub register_place-at-requires : goal.register_place-at-requires
+register_place-at-requires c = record { there = frame_listed c.self.inside c.args.self.now c.args.frame c.args.register c.self.view_is c.self.invariant.0 c.self.invariant.1 c.requires c.deref.result.now c.deref.ensures.value; inside = place_listed c.self.inside c.args.self.now c.args.frame c.args.register c.self.view_is c.self.invariant.0 c.self.invariant.1 c.requires c.deref.result.now c.deref.ensures.value c.len-room.result (search rules) }
 
 pub returns : goal.returns
 returns c =
-    let g : slice_get c.self.inside.values.items c.place_of-at.result ≡ Some c.item_at.result = search rules in
-    register_read c.self.inside c.args.self.now c.args.frame c.args.register c.place_of-at.result c.window_at-window.result c.item_at.result c.self.view_is c.self.invariant.0 c.self.invariant.1 c.requires
-    (window_listed c.self.inside c.args.self.now c.args.frame c.args.register c.self.view_is c.self.invariant.0 c.self.invariant.1 c.requires c.deref.result.now c.deref.ensures.value c.window_at-window.result c.window_at-window.ensures) c.place_of-at.ensures g
+    let g : slice_get c.self.inside.values.items c.register_place-at.result ≡ Some c.item_at.result = search rules in
+    register_read c.self.inside c.args.self.now c.args.frame c.args.register c.register_place-at.result (window_at c.deref.result.now c.self.inside.top.window c.args.frame) c.item_at.result c.self.view_is c.self.invariant.0 c.self.invariant.1 c.requires
+    (window_listed c.self.inside c.args.self.now c.args.frame c.args.register c.self.view_is c.self.invariant.0 c.self.invariant.1 c.requires c.deref.result.now c.deref.ensures.value) c.register_place-at.ensures.is g
