@@ -1,5 +1,5 @@
 -- The frame below the one on top.
-use Rattle.std.proofs.Common.{◌≡◌, ℕ, zero, suc, ◌+◌, ◌-◌, ◌≤◌, List, [], ◌∷◌, ◌++◌, length, map, Option, Some, None, refl, ap, sym, ◌∙◌, subst, arith, length-append}
+use Rattle.std.proofs.Common.{◌≡◌, ℕ, suc, ◌+◌, ◌-◌, List, [], ◌∷◌, ◌++◌, length, map, Some, None, refl, ap, sym, ◌∙◌, subst, arith, length-append}
 use Rattle.std.specs.Prelude.{slice_get}
 use Rattle.std.specs.Option.{option_map}
 use Rattle.std.proofs.lemmas.List.{length-map}
@@ -13,7 +13,7 @@ use Rattle.lua_stack.specs.declared.frame.Window.{Window}
 use Rattle.lua_stack.specs.declared.frame.Kind.{Kind}
 use Rattle.lua_stack.specs.declared.frame.Kind.TheVariants.{Missing, Lua, Pcall, Xpcall, Handler, Closing}
 use Rattle.lua_stack.specs.declared.stack.Stack.TheInside.{Inside}
-use Rattle.lua_stack.specs.Frames.{KeptFrame, KeptStack, kept_state}
+use Rattle.lua_stack.specs.Frames.{KeptStack, kept_state}
 use Rattle.lua_stack.specs.View.{IsWithin, NoneUnder, blank, frame_at, frame_in, part, registers_at, state_by, state_in, tops}
 use Rattle.lua_stack.proofs.Ends.{map_more, shown, stands}
 use Rattle.lua_stack.proofs.Parts.{length_blank, length_part}

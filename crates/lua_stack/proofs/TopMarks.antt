@@ -6,7 +6,7 @@ use Rattle.lua_stack.specs.declared.frame.Record.{Record}
 use Rattle.lua_stack.specs.declared.stack.Stack.TheInside.{Inside}
 use Rattle.lua_stack.specs.Frames.{KeptStack, HasLuaTop, OnTop, TopBecomes, with_pending}
 use Rattle.lua_stack.specs.View.{AreOpen, IsLastFrom, IsStack, part, registers_at, seen}
-use Rattle.lua_stack.proofs.Parts.{length_part, part_kept, take_push, take_take}
+use Rattle.lua_stack.proofs.Parts.{length_part, take_push, take_take}
 use Rattle.lua_stack.proofs.Stacked.{stacked_longer, under_more}
 use Rattle.lua_stack.proofs.Ends.{shown, stands}
 use Rattle.lua_stack.proofs.Tops.{on_top, retop}

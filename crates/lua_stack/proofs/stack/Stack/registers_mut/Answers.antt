@@ -1,4 +1,4 @@
-use Rattle.std.proofs.Common.{◌≡◌, ◌-◌, take, drop, refl, ap, sym, ◌∙◌, arith}
+use Rattle.std.proofs.Common.{◌≡◌, ◌-◌, take, drop, refl, ap, ◌∙◌, arith}
 use Rattle.lua_stack.proofs.Own.{all_read}
 use Rattle.lua_stack.proofs.Lent.{lent}
 use Rattle.lua_stack.proofs.stack.Stack.registers_mut.Goals as goal
