@@ -41,7 +41,7 @@ pub fn form_of(op: Opcode, i: Instruction) -> Option<Form>
     ensures is { result ≡ form_at op i }
 {
     match op {
-        Opcode::Move => Some(load(register_b(i), i, false)),
+        Opcode::Move => Some(load(register(i.b()), i, false)),
         Opcode::LoadI => Some(load(Operand::Integer(i64::from(i.sbx())), i, false)),
         Opcode::LoadK => Some(load(Operand::Constant(i.bx() as usize), i, false)),
         Opcode::LoadKx => Some(Form::LoadFar { to: a(i) }),
@@ -57,55 +57,55 @@ pub fn form_of(op: Opcode, i: Instruction) -> Option<Form>
             from: a(i),
             upvalue: b(i),
         }),
-        Opcode::GetTabUp => Some(index(Operand::Upvalue(b(i)), constant_c(i), i)),
-        Opcode::GetTable => Some(index(register_b(i), register_c(i), i)),
-        Opcode::GetI => Some(index(register_b(i), Operand::Integer(i64::from(i.c())), i)),
-        Opcode::GetField => Some(index(register_b(i), constant_c(i), i)),
-        Opcode::SetTabUp => Some(store(Operand::Upvalue(a(i)), constant_b(i), i)),
-        Opcode::SetTable => Some(store(register_a(i), register_b(i), i)),
-        Opcode::SetI => Some(store(register_a(i), Operand::Integer(i64::from(i.b())), i)),
-        Opcode::SetField => Some(store(register_a(i), constant_b(i), i)),
+        Opcode::GetTabUp => Some(index(Operand::Upvalue(b(i)), constant(i.c()), i)),
+        Opcode::GetTable => Some(index(register(i.b()), register(i.c()), i)),
+        Opcode::GetI => Some(index(register(i.b()), Operand::Integer(i64::from(i.c())), i)),
+        Opcode::GetField => Some(index(register(i.b()), constant(i.c()), i)),
+        Opcode::SetTabUp => Some(store(Operand::Upvalue(a(i)), constant(i.b()), i)),
+        Opcode::SetTable => Some(store(register(i.a()), register(i.b()), i)),
+        Opcode::SetI => Some(store(register(i.a()), Operand::Integer(i64::from(i.b())), i)),
+        Opcode::SetField => Some(store(register(i.a()), constant(i.b()), i)),
         Opcode::NewTable => Some(Form::NewTable { to: a(i) }),
         Opcode::OpSelf => Some(index_method(i)),
-        Opcode::AddI => Some(arithmetic(Operator::Add, register_b(i), short_c(i), i)),
-        Opcode::AddK => Some(arithmetic(Operator::Add, register_b(i), constant_c(i), i)),
-        Opcode::SubK => Some(arithmetic(Operator::Sub, register_b(i), constant_c(i), i)),
-        Opcode::MulK => Some(arithmetic(Operator::Mul, register_b(i), constant_c(i), i)),
-        Opcode::ModK => Some(arithmetic(Operator::Mod, register_b(i), constant_c(i), i)),
-        Opcode::IDivK => Some(arithmetic(Operator::IDiv, register_b(i), constant_c(i), i)),
-        Opcode::BAndK => Some(arithmetic(Operator::BAnd, register_b(i), constant_c(i), i)),
-        Opcode::BOrK => Some(arithmetic(Operator::BOr, register_b(i), constant_c(i), i)),
-        Opcode::BXorK => Some(arithmetic(Operator::BXor, register_b(i), constant_c(i), i)),
-        Opcode::ShrI => Some(arithmetic(Operator::Shr, register_b(i), short_c(i), i)),
-        Opcode::ShlI => Some(arithmetic(Operator::Shl, short_c(i), register_b(i), i)),
-        Opcode::Add => Some(arithmetic(Operator::Add, register_b(i), register_c(i), i)),
-        Opcode::Sub => Some(arithmetic(Operator::Sub, register_b(i), register_c(i), i)),
-        Opcode::Mul => Some(arithmetic(Operator::Mul, register_b(i), register_c(i), i)),
-        Opcode::Mod => Some(arithmetic(Operator::Mod, register_b(i), register_c(i), i)),
-        Opcode::IDiv => Some(arithmetic(Operator::IDiv, register_b(i), register_c(i), i)),
-        Opcode::BAnd => Some(arithmetic(Operator::BAnd, register_b(i), register_c(i), i)),
-        Opcode::BOr => Some(arithmetic(Operator::BOr, register_b(i), register_c(i), i)),
-        Opcode::BXor => Some(arithmetic(Operator::BXor, register_b(i), register_c(i), i)),
-        Opcode::Shl => Some(arithmetic(Operator::Shl, register_b(i), register_c(i), i)),
-        Opcode::Shr => Some(arithmetic(Operator::Shr, register_b(i), register_c(i), i)),
-        Opcode::MmBin => handled(register_b(i), false, i),
-        Opcode::MmBinI => handled(short_b(i), i.k(), i),
-        Opcode::MmBinK => handled(constant_b(i), i.k(), i),
+        Opcode::AddI => Some(arithmetic(Operator::Add, register(i.b()), short(i.sc()), i)),
+        Opcode::AddK => Some(arithmetic(Operator::Add, register(i.b()), constant(i.c()), i)),
+        Opcode::SubK => Some(arithmetic(Operator::Sub, register(i.b()), constant(i.c()), i)),
+        Opcode::MulK => Some(arithmetic(Operator::Mul, register(i.b()), constant(i.c()), i)),
+        Opcode::ModK => Some(arithmetic(Operator::Mod, register(i.b()), constant(i.c()), i)),
+        Opcode::IDivK => Some(arithmetic(Operator::IDiv, register(i.b()), constant(i.c()), i)),
+        Opcode::BAndK => Some(arithmetic(Operator::BAnd, register(i.b()), constant(i.c()), i)),
+        Opcode::BOrK => Some(arithmetic(Operator::BOr, register(i.b()), constant(i.c()), i)),
+        Opcode::BXorK => Some(arithmetic(Operator::BXor, register(i.b()), constant(i.c()), i)),
+        Opcode::ShrI => Some(arithmetic(Operator::Shr, register(i.b()), short(i.sc()), i)),
+        Opcode::ShlI => Some(arithmetic(Operator::Shl, short(i.sc()), register(i.b()), i)),
+        Opcode::Add => Some(arithmetic(Operator::Add, register(i.b()), register(i.c()), i)),
+        Opcode::Sub => Some(arithmetic(Operator::Sub, register(i.b()), register(i.c()), i)),
+        Opcode::Mul => Some(arithmetic(Operator::Mul, register(i.b()), register(i.c()), i)),
+        Opcode::Mod => Some(arithmetic(Operator::Mod, register(i.b()), register(i.c()), i)),
+        Opcode::IDiv => Some(arithmetic(Operator::IDiv, register(i.b()), register(i.c()), i)),
+        Opcode::BAnd => Some(arithmetic(Operator::BAnd, register(i.b()), register(i.c()), i)),
+        Opcode::BOr => Some(arithmetic(Operator::BOr, register(i.b()), register(i.c()), i)),
+        Opcode::BXor => Some(arithmetic(Operator::BXor, register(i.b()), register(i.c()), i)),
+        Opcode::Shl => Some(arithmetic(Operator::Shl, register(i.b()), register(i.c()), i)),
+        Opcode::Shr => Some(arithmetic(Operator::Shr, register(i.b()), register(i.c()), i)),
+        Opcode::MmBin => handled(register(i.b()), false, i),
+        Opcode::MmBinI => handled(short(i.sb()), i.k(), i),
+        Opcode::MmBinK => handled(constant(i.b()), i.k(), i),
         Opcode::Unm => Some(unary(
             Operation::Arithmetic(Operator::Unm),
-            Operands::Twice(register_b(i)),
+            Operands::Twice(register(i.b())),
             i,
         )),
         Opcode::BNot => Some(unary(
             Operation::Arithmetic(Operator::BNot),
-            Operands::Twice(register_b(i)),
+            Operands::Twice(register(i.b())),
             i,
         )),
         Opcode::Not => Some(Form::Negate {
             from: b(i),
             to: a(i),
         }),
-        Opcode::Len => Some(unary(Operation::Length, Operands::One(register_b(i)), i)),
+        Opcode::Len => Some(unary(Operation::Length, Operands::One(register(i.b())), i)),
         Opcode::Concat => Some(Form::Concatenate {
             first: a(i),
             count: b(i),
@@ -116,15 +116,15 @@ pub fn form_of(op: Opcode, i: Instruction) -> Option<Form>
             ahead: 1,
         }),
         Opcode::Jmp => Some(Form::Jump { by: i.sj() }),
-        Opcode::Eq => Some(compare(Operation::Equal, register_a(i), register_b(i), i)),
-        Opcode::Lt => Some(compare(Operation::Less, register_a(i), register_b(i), i)),
-        Opcode::Le => Some(compare(Operation::LessEqual, register_a(i), register_b(i), i)),
-        Opcode::EqK => Some(compare(Operation::Equal, register_a(i), constant_b(i), i)),
-        Opcode::EqI => Some(compare(Operation::Equal, register_a(i), short_b(i), i)),
-        Opcode::LtI => Some(compare(Operation::Less, register_a(i), short_b(i), i)),
-        Opcode::LeI => Some(compare(Operation::LessEqual, register_a(i), short_b(i), i)),
-        Opcode::GtI => Some(compare(Operation::Less, short_b(i), register_a(i), i)),
-        Opcode::GeI => Some(compare(Operation::LessEqual, short_b(i), register_a(i), i)),
+        Opcode::Eq => Some(compare(Operation::Equal, register(i.a()), register(i.b()), i)),
+        Opcode::Lt => Some(compare(Operation::Less, register(i.a()), register(i.b()), i)),
+        Opcode::Le => Some(compare(Operation::LessEqual, register(i.a()), register(i.b()), i)),
+        Opcode::EqK => Some(compare(Operation::Equal, register(i.a()), constant(i.b()), i)),
+        Opcode::EqI => Some(compare(Operation::Equal, register(i.a()), short(i.sb()), i)),
+        Opcode::LtI => Some(compare(Operation::Less, register(i.a()), short(i.sb()), i)),
+        Opcode::LeI => Some(compare(Operation::LessEqual, register(i.a()), short(i.sb()), i)),
+        Opcode::GtI => Some(compare(Operation::Less, short(i.sb()), register(i.a()), i)),
+        Opcode::GeI => Some(compare(Operation::LessEqual, short(i.sb()), register(i.a()), i)),
         Opcode::Test => Some(Form::Test {
             register: a(i),
             wanted: i.k(),
@@ -223,60 +223,36 @@ fn c(i: Instruction) -> usize
     usize::from(i.c())
 }
 
-/// R[A].
-fn register_a(i: Instruction) -> Operand
-    ensures { result ≡ Register (a_of i) }
+/// The register with this number.
+fn register(number: u8) -> Operand
+    ensures { result ≡ Register number }
 {
-    Operand::Register(a(i))
+    Operand::Register(usize::from(number))
 }
 
-/// R[B].
-fn register_b(i: Instruction) -> Operand
-    ensures { result ≡ Register (b_of i) }
+/// The constant with this number.
+fn constant(number: u8) -> Operand
+    ensures { result ≡ Constant number }
 {
-    Operand::Register(b(i))
+    Operand::Constant(usize::from(number))
 }
 
-/// R[C].
-fn register_c(i: Instruction) -> Operand
-    ensures { result ≡ Register (c_of i) }
+/// The integer in a short signed field.
+fn short(field: i16) -> Operand
+    ensures { result ≡ Integer field }
 {
-    Operand::Register(c(i))
-}
-
-/// K[B].
-fn constant_b(i: Instruction) -> Operand
-    ensures { result ≡ Constant (b_of i) }
-{
-    Operand::Constant(b(i))
-}
-
-/// K[C].
-fn constant_c(i: Instruction) -> Operand
-    ensures { result ≡ Constant (c_of i) }
-{
-    Operand::Constant(c(i))
-}
-
-/// sB.
-fn short_b(i: Instruction) -> Operand
-    ensures { result ≡ Integer (sb_of i) }
-{
-    Operand::Integer(i64::from(i.sb()))
-}
-
-/// sC.
-fn short_c(i: Instruction) -> Operand
-    ensures { result ≡ Integer (sc_of i) }
-{
-    Operand::Integer(i64::from(i.sc()))
+    Operand::Integer(i64::from(field))
 }
 
 /// RK(C): with k a constant.
 fn register_or_constant(i: Instruction) -> Operand
     ensures { result ≡ cond (k_of i) (Constant (c_of i)) (Register (c_of i)) }
 {
-    if i.k() { constant_c(i) } else { register_c(i) }
+    if i.k() {
+        constant(i.c())
+    } else {
+        register(i.c())
+    }
 }
 
 /// R[A] gets a value.
@@ -308,7 +284,7 @@ fn index_method(i: Instruction) -> Form
 {
     Form::Operate {
         operation: Operation::Index,
-        operands: two(register_b(i), register_or_constant(i)),
+        operands: two(register(i.b()), register_or_constant(i)),
         also: Some(a(i) + 1),
         after: After::ToRegister(a(i)),
     }
@@ -370,7 +346,7 @@ fn handled(second: Operand, swapped: bool, i: Instruction) -> Option<Form>
     Some(Form::Operate {
         operation: Operation::Arithmetic(operator),
         operands: Operands::Two {
-            first: register_a(i),
+            first: register(i.a()),
             second,
             swapped,
         },

@@ -2,9 +2,10 @@ use Rattle.std.proofs.Common.{rules, ◌≡◌, false, ap, ap₂, sym, ◌∙◌
 use Rattle.code_core.specs.Instruction.{a_of, b_of, c_of, k_of, sb_of}
 use Rattle.machine_core.specs.InstructionRows.{row_of, with_loop, goes_round}
 use Rattle.instruction_forms.specs.Forms.{text_of}
+use Rattle.instruction_forms.specs.Waiting.{form_at}
 use Rattle.instruction_forms.specs.declared.operand.Operand.TheVariants.{Register, Constant, Upvalue, Integer}
 use Rattle.instruction_forms.specs.declared.operand.Operation.TheVariants.{Equal, Less, LessEqual}
-use Rattle.instruction_forms.proofs.Rows.{store_form, stores, comparison_has_form, handler_has_form, handler_has_none}
+use Rattle.instruction_forms.proofs.Rows.{store_form, stores, comparison_has_form, handler_choice, handler_has_form, handler_has_none}
 use Rattle.instruction_forms.proofs.choice.form_of.Goals as goal
 
 pub returns-in-SetTabUp-clause-form : goal.returns-in-SetTabUp-clause-form
@@ -51,6 +52,11 @@ returns-in-MmBinI-clause-form c = handler_has_form c.args.op c.args.i (Integer (
 
 pub returns-in-MmBinI-clause-none : goal.returns-in-MmBinI-clause-none
 returns-in-MmBinI-clause-none c = handler_has_none c.args.op c.args.i (Integer (sb_of c.args.i)) (k_of c.args.i) c.handled-in-MmBinI.result (search rules) (λ p pc. ap (λ op. row_of p pc op c.args.i) (sym c.in-MmBinI.is))
+
+pub returns-in-MmBinI-clause-is : goal.returns-in-MmBinI-clause-is
+returns-in-MmBinI-clause-is c =
+    let e : c.handled-in-MmBinI.result ≡ handler_choice c.args.i (Integer (sb_of c.args.i)) (k_of c.args.i) = search rules in
+    e ∙ ap (λ op. form_at op c.args.i) (sym c.in-MmBinI.is)
 
 pub returns-in-MmBinK-clause-form : goal.returns-in-MmBinK-clause-form
 returns-in-MmBinK-clause-form c = handler_has_form c.args.op c.args.i (Constant (b_of c.args.i)) (k_of c.args.i) c.handled-in-MmBinK.result (search rules) (λ p pc. ap (λ op. row_of p pc op c.args.i) (sym c.in-MmBinK.is))
