@@ -8,6 +8,7 @@ use Rattle.library_rows.specs.Plainly.{too_large}
 use Rattle.text_functions.proofs.Pieces.{Made, after, IsSoFar, at_first, piece_fits, piece_is_refused, all_there}
 use Rattle.library_arguments.specs.declared.refusal.Fault.{Fault}
 use Rattle.library_arguments.specs.declared.refusal.Fault.TheVariants.{Refused, Memory}
+use Rattle.library_arguments.specs.declared.refusal.Refusal.{Refusal}
 use Rattle.library_arguments.specs.Refusals.{refusal_text}
 use Rattle.lib_string.specs.declared.format_reading.Piece.{Piece}
 use Rattle.lib_string.specs.declared.format_reading.Piece.TheVariants as a_piece
@@ -20,7 +21,7 @@ by_room text bytes b = elim b as (λ _. Made) [ true ↦ Ok (text ++ bytes) | fa
 
 -- a text that has room, or has none
 
-pub room_there : (old new : List ℕ) (r : Made) → with_more old r ≡ Ok new → length new ≤ greatest_string → with_room old r ≡ Ok new
+room_there : (old new : List ℕ) (r : Made) → with_more old r ≡ Ok new → length new ≤ greatest_string → with_room old r ≡ Ok new
 room_there old new (Err why) e h = absurd (cc)
 room_there old new (Ok bytes) e h =
     let is : old ++ bytes ≡ new = cc in
@@ -28,7 +29,7 @@ room_there old new (Ok bytes) e h =
     let len : length old + length bytes ≤ greatest_string = omega (arith, ap length is, length-append old bytes) in grind (arith, nat_tests) in
     ap (by_room old bytes) fits ∙ e
 
-pub room_missing : (old new : List ℕ) (r : Made) → with_more old r ≡ Ok new → greatest_string < length new → with_room old r ≡ Err too_large
+room_missing : (old new : List ℕ) (r : Made) → with_more old r ≡ Ok new → greatest_string < length new → with_room old r ≡ Err too_large
 room_missing old new (Err why) e h = absurd (cc)
 room_missing old new (Ok bytes) e h =
     let is : old ++ bytes ≡ new = cc in
@@ -36,14 +37,9 @@ room_missing old new (Ok bytes) e h =
     let len : greatest_string < length old + length bytes = omega (arith, ap length is, length-append old bytes) in grind (arith, nat_tests) in
     ap (by_room old bytes) large
 
-pub room_refused : (old why : List ℕ) (r : Made) → with_more old r ≡ Err why → with_room old r ≡ Err why
+room_refused : (old why : List ℕ) (r : Made) → with_more old r ≡ Err why → with_room old r ≡ Err why
 room_refused old why (Err text) e = e
 room_refused old why (Ok bytes) e = absurd (cc)
-
--- a fault stays what it is
-pub fault_stays : (A B : Type 0) (fault : Fault) (old new new' : List ℕ) (r : Made) → IsText {A = A} (Err fault) new (with_more old r) → IsText {A = B} (Err fault) new' (with_room old r)
-fault_stays A B (Refused why) old new new' r e = room_refused old (refusal_text why) r e
-fault_stays A B Memory old new new' r e = tt
 
 filled_first : (p : Piece) (ps : List Part) (ss : List Shape) (i room : ℕ) → filled_in (parts_of p ++ ps) ss i room ≡ then_ok (piece_text p ss i) (λ text. onto room text (λ left. filled_in ps ss (next_place p i) left))
 filled_first (a_piece.Literal b) ps ss i room = refl
@@ -85,7 +81,7 @@ module _ (ss : List Shape) (all rest text : List ℕ) (place : ℕ) (so : IsFill
       subst (λ t. IsSoFar Whole t later) same (piece_fits Whole text bytes later now fits)
   fits_by bytes new false is e now = absurd (cc)
 
-  pub piece_filled : (new : List ℕ) → with_room text (piece_text p ss place) ≡ Ok new → IsFilledSoFar ss all behind new (next_place p place)
+  piece_filled : (new : List ℕ) → with_room text (piece_text p ss place) ≡ Ok new → IsFilledSoFar ss all behind new (next_place p place)
   piece_filled new e = by (piece_text p ss place) refl e
     where
       by : (r : Made) → piece_text p ss place ≡ r → with_room text r ≡ Ok new → IsFilledSoFar ss all behind new (next_place p place)
@@ -98,7 +94,7 @@ module _ (ss : List Shape) (all rest text : List ℕ) (place : ℕ) (so : IsFill
       let large : greatest_string < length text + length bytes = grind (arith, nat_tests) in
       piece_is_refused Whole text bytes later now large ∙ e
 
-  pub piece_refused : (why : List ℕ) → with_room text (piece_text p ss place) ≡ Err why → Whole ≡ Err why
+  piece_refused : (why : List ℕ) → with_room text (piece_text p ss place) ≡ Err why → Whole ≡ Err why
   piece_refused why e = by (piece_text p ss place) refl e
     where
       by : (r : Made) → piece_text p ss place ≡ r → with_room text r ≡ Err why → Whole ≡ Err why
@@ -106,10 +102,14 @@ module _ (ss : List Shape) (all rest text : List ℕ) (place : ℕ) (so : IsFill
       by (Ok bytes) is e = refused_by bytes why (nat_le (length text + length bytes) greatest_string) refl e (told (Ok bytes) is)
 
   -- a piece that is refused, or for which there is no memory
-  pub piece_fails : (A : Type 0) (fault : Fault) (new : List ℕ) → IsText {A = A} (Err fault) new (with_room text (piece_text p ss place)) → IsFilled (Err fault) Whole
-  piece_fails A (Refused why) new e = piece_refused (refusal_text why) e
+  pub piece_fails : (A : Type 0) (fault : Fault) (new : List ℕ) → IsText {A = A} (Err fault) new (with_more text (piece_text p ss place)) → IsFilled (Err fault) Whole
+  piece_fails A (Refused why) new e = piece_refused (refusal_text why) (room_refused text (refusal_text why) (piece_text p ss place) e)
   piece_fails A Memory new e = tt
 
+  -- a text that would be too long
+  pub piece_too_long : (why : Refusal) (new : List ℕ) → with_more text (piece_text p ss place) ≡ Ok new → greatest_string < length new → refusal_text why ≡ too_large → IsFilled (Err (Refused why)) Whole
+  piece_too_long why new e large is = piece_refused (refusal_text why) (room_missing text new (piece_text p ss place) e large ∙ ap (λ text. Err text) (sym is))
+
   -- the number of the next argument by another name
-  pub piece_filled_at : (new : List ℕ) (next : ℕ) → next ≡ next_place p place → with_room text (piece_text p ss place) ≡ Ok new → IsFilledSoFar ss all behind new next
-  piece_filled_at new next is e = subst (λ n. IsFilledSoFar ss all behind new n) (sym is) (piece_filled new e)
+  pub piece_filled_at : (new : List ℕ) (next : ℕ) → next ≡ next_place p place → with_more text (piece_text p ss place) ≡ Ok new → length new ≤ greatest_string → IsFilledSoFar ss all behind new next
+  piece_filled_at new next is e short = subst (λ n. IsFilledSoFar ss all behind new n) (sym is) (piece_filled new (room_there text new (piece_text p ss place) e short))

@@ -1,17 +1,15 @@
 // The text of a format, for `string.format`, which is Lua text.
-ghost use Rattle.std.specs.Prelude.{◌≡◌, ◌<◌, ◌≤◌, ◌+◌, ◌-◌, ◌^◌, ◌++◌, length, IfOk, Ok, OnOk};
+ghost use Rattle.std.specs.Prelude.{◌≡◌, ◌<◌, ◌≤◌, ◌+◌, ◌-◌, ◌^◌, ◌++◌, length, IfOk, OnOk};
 ghost use Rattle.int_core.specs.Value.{greatest_string};
-ghost use Rattle.library_rows.specs.Formats.{converts, filled_in, kinds_row, layout_row, letters, pieces};
+ghost use Rattle.library_rows.specs.Formats.{filled_in, kinds_row, layout_row, letters, pieces};
 ghost use Rattle.library_arguments.specs.Answers.{IsAnswer};
-ghost use Rattle.library_arguments.specs.Shapes.{shape_of, shapes_of};
-ghost use Rattle.text_format.specs.Told.{told_conversion};
-ghost use Rattle.lib_string.specs.Pieces.{IsFilled, IsShort, IsText, letter_in, next_place, piece_text, with_room};
+ghost use Rattle.library_arguments.specs.Shapes.{shapes_of};
+ghost use Rattle.lib_string.specs.Pieces.{IsFilled, IsShort, IsText, letter_in, next_place, piece_text, with_more};
 
 use crate::format_reading::{Piece, next_piece};
 use crate::formatting::{append_converted, invalid};
 use library_arguments::{Fault, Refusal, Results, Shape, argument, text_argument};
 use std::alloc::{AllocError, Global};
-use text_format::Conversion;
 use text_functions::MAX_TEXT;
 
 /// A format, which is the first argument, filled in from the others. It is private to the libraries' Lua text.
@@ -76,6 +74,7 @@ fn filled_in(alloc: Global, format: &[u8], shapes: &[Shape]) -> Result<Vec<u8>, 
     let mut rest = format;
     while let Some(next) = next_piece(rest) {
         append_piece(&mut text, &next.piece, place, shapes)?;
+        check_length(&text)?;
         place = next_place(&next.piece, place);
         rest = next.rest;
     }
@@ -103,47 +102,23 @@ fn append_piece(
     shapes: &[Shape],
 ) -> Result<(), Fault>
     requires { 0 < place }
-    ensures { IsText result text.new.items (with_room text.old.items (piece_text piece.now (shapes_of shapes.now) place)) }
+    ensures { IsText result text.new.items (with_more text.old.items (piece_text piece.now (shapes_of shapes.now) place)) }
 {
     match piece {
         Piece::Literal(byte) => {
             text.push(*byte)?;
-            check_length(text)?;
             Ok(())
         }
         Piece::Literals(bytes) => {
-            append_literals(text, bytes)?;
+            text.extend_from_slice(bytes)?;
             Ok(())
         }
         Piece::Conversion(conversion) => {
-            append_conversion(text, conversion, place, argument(shapes, place))?;
+            append_converted(text, conversion, place, argument(shapes, place))?;
             Ok(())
         }
         Piece::Broken => Err(Fault::Refused(invalid())),
     }
-}
-
-/// Puts bytes at the end of a text, within the limit on strings.
-fn append_literals(text: &mut Vec<u8>, bytes: &[u8]) -> Result<(), Fault>
-    ensures { IsText result text.new.items (with_room text.old.items (Ok bytes.now)) }
-{
-    text.extend_from_slice(bytes)?;
-    check_length(text)?;
-    Ok(())
-}
-
-/// Puts an argument at the end of a text, by a conversion, within the limit on strings.
-fn append_conversion(
-    text: &mut Vec<u8>,
-    conversion: &Conversion,
-    place: usize,
-    shape: Shape,
-) -> Result<(), Fault>
-    ensures { IsText result text.new.items (with_room text.old.items (converts (told_conversion conversion.now) place (shape_of shape.entry))) }
-{
-    append_converted(text, conversion, place, shape)?;
-    check_length(text)?;
-    Ok(())
 }
 
 /// Whether a text is within the limit on strings.

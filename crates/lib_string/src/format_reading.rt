@@ -88,13 +88,7 @@ fn literals_len(format: &[u8]) -> usize
     ensures value { result ≡ prefix_len is_literal format.now }
     ensures within { result ≤ length format.now }
 {
-    format.iter().take_while(|byte| is_literal(**byte)).count()
-}
-
-fn is_literal(byte: u8) -> bool
-    ensures { result ≡ is_literal byte }
-{
-    byte != b'%'
+    format.iter().take_while(|byte| **byte != b'%').count()
 }
 
 fn begins_with_percent(text: &[u8]) -> bool
