@@ -86,6 +86,9 @@ fn truth_opcode(k: bool) -> Opcode
     }
 }
 
+/// The places of jumps that lead away.
+pub type Places = Vec<usize>;
+
 impl Emitter {
     /// Writes the comparison of operands, where they stand, and the jump behind it.
     pub fn test_operands(
@@ -94,31 +97,17 @@ impl Emitter {
         operands: Operands,
         k: bool,
         line: u32,
-    ) -> Allocated<Vec<usize>>
+    ) -> Allocated<Places>
         ensures { IfOk result (λ places. Opened self.old self.new (λ ahead. done_code operands.second operands.first (constant_test k ahead line) (registers_test comparison.now k ahead line) (number_test comparison.now k ahead line)) 0 places.items) }
     {
         let first = operands.first;
         match operands.second {
-            Second::Constant(number) => self.test_constant(first, number, k, line),
+            Second::Constant(number) => self.test(Opcode::EqK, first, number, k, line),
             Second::Number(number) => self.test_number(comparison, first, number, k, line),
             Second::Register(register) => {
                 self.test_registers(comparison, first, register, k, line)
             }
         }
-    }
-
-    /// Writes the comparison of a register and a constant, and the jump behind it.
-    fn test_constant(
-        &mut self,
-        first: usize,
-        number: usize,
-        k: bool,
-        line: u32,
-    ) -> Allocated<Vec<usize>>
-        ensures { IfOk result (λ places. Opened self.old self.new (λ ahead. constant_test k ahead line first number) 0 places.items) }
-    {
-        let away = self.test(Opcode::EqK, first, number, k, line)?;
-        Ok(away)
     }
 
     /// Writes the comparison of a register and a numeral, and the jump behind it.
@@ -129,7 +118,7 @@ impl Emitter {
         number: usize,
         k: bool,
         line: u32,
-    ) -> Allocated<Vec<usize>>
+    ) -> Allocated<Places>
         ensures { IfOk result (λ places. Opened self.old self.new (λ ahead. number_test comparison.now k ahead line first number) 0 places.items) }
     {
         let field = field_of(number)?;
@@ -146,7 +135,7 @@ impl Emitter {
         second: usize,
         k: bool,
         line: u32,
-    ) -> Allocated<Vec<usize>>
+    ) -> Allocated<Places>
         ensures { IfOk result (λ places. Opened self.old self.new (λ ahead. registers_test comparison.now k ahead line first second) 0 places.items) }
     {
         let x = pick(comparison.swapped, first, second);
@@ -156,7 +145,7 @@ impl Emitter {
     }
 
     /// Writes the condition that is always true: no code, or a jump alone.
-    pub fn always(&mut self, wanted: bool, line: u32) -> Allocated<Vec<usize>>
+    pub fn always(&mut self, wanted: bool, line: u32) -> Allocated<Places>
         ensures { IfOk result (λ places. Opened self.old self.new (λ ahead. cond wanted [] (jump_over ahead line ∷ [])) 0 places.items) }
     {
         if wanted {
@@ -167,14 +156,7 @@ impl Emitter {
     }
 
     /// Writes an instruction that tests and the jump behind it, which is taken or passed over.
-    pub fn test(
-        &mut self,
-        op: Opcode,
-        x: usize,
-        y: usize,
-        k: bool,
-        line: u32,
-    ) -> Allocated<Vec<usize>>
+    pub fn test(&mut self, op: Opcode, x: usize, y: usize, k: bool, line: u32) -> Allocated<Places>
         ensures { IfOk result (λ places. Opened self.old self.new (λ ahead. jump_if op x y k ahead line) 0 places.items) }
     {
         self.put_flagged(op, x, y, 0, k, line)?;
@@ -183,7 +165,7 @@ impl Emitter {
     }
 
     /// Writes a jump that leads away, and answers its place.
-    fn jump_away(&mut self, line: u32) -> Allocated<Vec<usize>>
+    fn jump_away(&mut self, line: u32) -> Allocated<Places>
         ensures jump { OnOk result (self.new ≡ listed self.old (jump_over 0 line ∷ [])) }
         ensures place { IfOk result (λ away. away.items ≡ length self.old.steps ∷ []) }
     {
@@ -194,7 +176,7 @@ impl Emitter {
     }
 
     /// Writes the load of a truth and a jump that leads away.
-    pub fn load_truth(&mut self, k: bool, target: usize, line: u32) -> Allocated<Vec<usize>>
+    pub fn load_truth(&mut self, k: bool, target: usize, line: u32) -> Allocated<Places>
         ensures { IfOk result (λ places. Opened self.old self.new (λ ahead. load_truth k ahead target line) 0 places.items) }
     {
         self.put_abc(truth_opcode(k), target, 0, 0, line)?;

@@ -9,7 +9,7 @@ mod operands;
 mod operators;
 mod word;
 
-pub use comparisons::{Comparison, comparing, flag};
+pub use comparisons::{Comparison, Places, comparing, flag};
 pub use emitter::{Emitted, Emitter, Step, next};
 pub use operands::{Operands, Second, key_staying, local_at, local_of};
 pub use word::word_abc;

@@ -7,8 +7,8 @@ use Rattle.code_emitter.proofs.emitter.Emitter.test_operands.Goals as goal
 
 pub returns-in-Constant : goal.returns-in-Constant
 returns-in-Constant c =
-    subst (λ s. IfOk c.test_constant.result (λ places. Opened c.args.self.now c.test_constant.new.self (λ ahead. done_code s c.args.operands.first (constant_test c.args.k ahead c.args.line) (registers_test c.args.comparison.now c.args.k ahead c.args.line) (number_test c.args.comparison.now c.args.k ahead c.args.line)) 0 places.items))
-    (sym c.in-Constant.is) c.test_constant.ensures
+    subst (λ s. IfOk c.test.result (λ places. Opened c.args.self.now c.test.new.self (λ ahead. done_code s c.args.operands.first (constant_test c.args.k ahead c.args.line) (registers_test c.args.comparison.now c.args.k ahead c.args.line) (number_test c.args.comparison.now c.args.k ahead c.args.line)) 0 places.items))
+    (sym c.in-Constant.is) c.test.ensures
 
 pub returns-in-Number : goal.returns-in-Number
 returns-in-Number c =
