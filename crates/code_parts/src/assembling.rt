@@ -36,47 +36,40 @@ fn instructions(alloc: Global, steps: &[Step]) -> Allocated<Vec<Instruction>>
     Ok(list)
 }
 
-/// The distances from line to line, where the source is known.
-fn known_changes(
-    alloc: Global,
-    source: &Option<Bytes>,
-    from: u32,
-    steps: &[Step],
-) -> Allocated<Vec<i8>>
-    ensures { IfOk result (λ list. list.items ≡ where_known source.now (changes from (map (λ s. s.line) steps.now))) }
-{
-    match source {
-        Some(_) => changes(alloc, from, steps),
-        None => Ok(Vec::new(alloc)),
-    }
+/// What a prototype tells only where the source is known.
+#[derive(Drop)]
+struct Known {
+    /// The distances from line to line.
+    changes: Vec<i8>,
+    /// The lines that are kept in full.
+    far_lines: Vec<AbsLine>,
+    /// The names of upvalues.
+    up_names: Vec<Option<Bytes>>,
 }
 
-/// The lines that are kept in full, where the source is known.
-fn known_far_lines(
+/// Tells of a function on a line what is told where the source is known.
+fn told(
     alloc: Global,
     source: &Option<Bytes>,
-    from: u32,
+    line: u32,
     steps: &[Step],
-) -> Allocated<Vec<AbsLine>>
-    ensures { IfOk result (λ list. list.items ≡ where_known source.now (far_lines 0 from (map (λ s. s.line) steps.now))) }
-{
-    match source {
-        Some(_) => far_lines(alloc, from, steps),
-        None => Ok(Vec::new(alloc)),
-    }
-}
-
-/// The names of upvalues, where the source is known.
-fn known_up_names(
-    alloc: Global,
-    source: &Option<Bytes>,
     names: &[UpName],
-) -> Allocated<Vec<Option<Bytes>>>
-    ensures { IfOk result (λ list. list.items ≡ where_known source.now (map (λ name. Some name.text) names.now)) }
+) -> Allocated<Known>
+    ensures changes { IfOk result (λ t. t.changes.items ≡ where_known source.now (changes line (map (λ s. s.line) steps.now))) }
+    ensures far { IfOk result (λ t. t.far_lines.items ≡ where_known source.now (far_lines 0 line (map (λ s. s.line) steps.now))) }
+    ensures names { IfOk result (λ t. t.up_names.items ≡ where_known source.now (map (λ name. Some name.text) names.now)) }
 {
     match source {
-        Some(_) => up_names(alloc, names),
-        None => Ok(Vec::new(alloc)),
+        Some(_) => Ok(Known {
+            changes: changes(alloc, line, steps)?,
+            far_lines: far_lines(alloc, line, steps)?,
+            up_names: up_names(alloc, names)?,
+        }),
+        None => Ok(Known {
+            changes: Vec::new(alloc),
+            far_lines: Vec::new(alloc),
+            up_names: Vec::new(alloc),
+        }),
     }
 }
 
@@ -94,6 +87,11 @@ pub fn prototype(
     ensures { IfOk result (λ p. p ≡ record { own = assembled source.now (plain_body body.now) steps.now constants.items locals.items; inner = prototypes inner.items }) }
 {
     let count = body.params.len();
+    let Known {
+        changes,
+        far_lines,
+        up_names,
+    } = told(alloc, source, body.line, steps, &body.upvalues)?;
     Ok(Proto {
         source: copied(alloc, source)?,
         line_defined: body.line,
@@ -105,9 +103,9 @@ pub fn prototype(
         constants,
         upvalues: upvalues(alloc, &body.upvalues)?,
         protos: inner,
-        line_info: known_changes(alloc, source, body.line, steps)?,
-        abs_lines: known_far_lines(alloc, source, body.line, steps)?,
+        line_info: changes,
+        abs_lines: far_lines,
         locals,
-        up_names: known_up_names(alloc, source, &body.upvalues)?,
+        up_names,
     })
 }
