@@ -8,6 +8,7 @@ ghost use Rattle.code_expr.specs.Parts.{so_many, held_code, alone_code, item_beh
 
 use crate::expressions::expression;
 use crate::lists::{item_field, stored_field};
+use crate::quiet::is_literal;
 use code_emitter::{Emitter, next};
 use int_core::Allocated;
 use std::alloc::AllocError;
@@ -33,10 +34,7 @@ pub(crate) fn plus(first: usize, second: usize) -> Allocated<usize>
 fn is_own(name: &Name) -> bool
     ensures { result ≡ is_own name.now.place }
 {
-    match name.place {
-        Place::Local(_) => true,
-        Place::Unset | Place::Upvalue(_) | Place::GlobalIn(_) | Place::GlobalOf(_) => false,
-    }
+    matches!(name.place, Place::Local(_))
 }
 
 /// Whether an item waits.
@@ -45,21 +43,10 @@ fn waits(exp: &Exp) -> bool
 {
     match &exp.node {
         ExpNode::Var(name) => is_own(name),
-        ExpNode::Unary(op, inner) => match op {
-            UnOp::Not => waits(inner),
-            UnOp::Neg | UnOp::BitNot | UnOp::Len => false,
-        },
+        ExpNode::Unary(UnOp::Not, inner) => waits(inner),
+        ExpNode::Unary(_, _) => false,
         ExpNode::Paren(inner) => waits(inner),
-        ExpNode::Nil | ExpNode::True | ExpNode::False | ExpNode::Int(_) | ExpNode::Str(_) => true,
-        ExpNode::Vararg
-        | ExpNode::Function(_)
-        | ExpNode::Index(_, _)
-        | ExpNode::Call(_, _)
-        | ExpNode::Method(_, _, _)
-        | ExpNode::Binary(_, _, _)
-        | ExpNode::And(_, _)
-        | ExpNode::Or(_, _)
-        | ExpNode::Table(_) => false,
+        _ => is_literal(exp),
     }
 }
 

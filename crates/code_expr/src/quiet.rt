@@ -1,6 +1,7 @@
 // Expressions during whose evaluation no other code runs, so no local is assigned.
 ghost use Rattle.std.specs.Prelude.{◌≡◌};
 ghost use Rattle.tree_core.specs.Plain.{plain_exp};
+ghost use Rattle.code_of.specs.Operands.{is_literal};
 ghost use Rattle.code_of.specs.Stores.{is_near, is_quiet, beside_quiet};
 
 use tree_core::{Exp, ExpNode, Name, Place, UnOp};
@@ -9,10 +10,17 @@ use tree_core::{Exp, ExpNode, Name, Place, UnOp};
 fn is_near(name: &Name) -> bool
     ensures { result ≡ is_near name.now.place }
 {
-    match name.place {
-        Place::Local(_) | Place::Upvalue(_) => true,
-        Place::Unset | Place::GlobalIn(_) | Place::GlobalOf(_) => false,
-    }
+    matches!(name.place, Place::Local(_) | Place::Upvalue(_))
+}
+
+/// Whether an expression is an integer, a string, nil or a Boolean, written as such.
+pub(crate) fn is_literal(exp: &Exp) -> bool
+    ensures { result ≡ is_literal (plain_exp exp.now) }
+{
+    matches!(
+        &exp.node,
+        ExpNode::Nil | ExpNode::True | ExpNode::False | ExpNode::Int(_) | ExpNode::Str(_)
+    )
 }
 
 /// Whether an expression is quiet.
@@ -20,26 +28,12 @@ pub(crate) fn is_quiet(exp: &Exp) -> bool
     ensures { result ≡ is_quiet (plain_exp exp.now) }
 {
     match &exp.node {
+        ExpNode::Function(_) => true,
         ExpNode::Var(name) => is_near(name),
-        ExpNode::Unary(op, inner) => match op {
-            UnOp::Not => is_quiet(inner),
-            UnOp::Neg | UnOp::BitNot | UnOp::Len => false,
-        },
+        ExpNode::Unary(UnOp::Not, inner) => is_quiet(inner),
+        ExpNode::Unary(_, _) => false,
         ExpNode::Paren(inner) => is_quiet(inner),
-        ExpNode::Nil
-        | ExpNode::True
-        | ExpNode::False
-        | ExpNode::Int(_)
-        | ExpNode::Str(_)
-        | ExpNode::Function(_) => true,
-        ExpNode::Vararg
-        | ExpNode::Index(_, _)
-        | ExpNode::Call(_, _)
-        | ExpNode::Method(_, _, _)
-        | ExpNode::Binary(_, _, _)
-        | ExpNode::And(_, _)
-        | ExpNode::Or(_, _)
-        | ExpNode::Table(_) => false,
+        _ => is_literal(exp),
     }
 }
 

@@ -29,29 +29,15 @@ fn global_store(
 ) -> Option<Step>
     ensures { result ≡ stored_step (global_store place number constant value line) }
 {
-    match place {
-        Place::GlobalIn(register) => Some(Step {
-            instruction: word_abc(
-                Opcode::SetField,
-                usize::from(register),
-                number,
-                value,
-                constant,
-            ),
-            line,
-        }),
-        Place::GlobalOf(upvalue) => Some(Step {
-            instruction: word_abc(
-                Opcode::SetTabUp,
-                usize::from(upvalue),
-                number,
-                value,
-                constant,
-            ),
-            line,
-        }),
-        Place::Unset | Place::Local(_) | Place::Upvalue(_) => None,
-    }
+    let (opcode, table) = match place {
+        Place::GlobalIn(register) => (Opcode::SetField, register),
+        Place::GlobalOf(upvalue) => (Opcode::SetTabUp, upvalue),
+        Place::Unset | Place::Local(_) | Place::Upvalue(_) => return None,
+    };
+    Some(Step {
+        instruction: word_abc(opcode, usize::from(table), number, value, constant),
+        line,
+    })
 }
 
 /// Where the key of a field stands that waits for its value.
