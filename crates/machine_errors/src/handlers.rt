@@ -12,10 +12,10 @@ ghost use Rattle.machine_errors.specs.Handlers.{IsFailure};
 
 use crate::asking::ask_over;
 use crate::protected::first_of;
+use crate::raising::alone;
 use int_core::Allocated;
 use lua_heap::World;
 use machine_moves::{Ending, Over, give_values, pop_frame, put_in_front, take_moving};
-use std::alloc::Global;
 use table_core::Value;
 
 /// The error that takes the place of one that a message handler cannot be called with, or fails with.
@@ -72,7 +72,8 @@ pub fn answer_handler(world: &mut World) -> Allocated<Ending>
     ensures order { InOrder world.new }
     ensures err { OnErr result (world.new ≡ world.old) }
 {
-    let error = one_value(world.alloc, first_of(&world.moving))?;
+    let room = Vec::with_capacity(world.alloc, 1)?;
+    let error = alone(room, first_of(&world.moving));
     take_moving(world);
     pop_frame(world);
     give_values(world, error);
@@ -85,18 +86,7 @@ fn handler_failure(world: &mut World) -> Allocated<Vec<Value>>
     ensures added { OnOk result (AddsTexts world.old world.new) }
     ensures err { OnErr result (world.new ≡ world.old) }
 {
-    let mut failure = Vec::new(world.alloc);
-    failure.reserve(1)?;
+    let room = Vec::with_capacity(world.alloc, 1)?;
     let text = world.limited(HANDLER_FAILURE)?;
-    failure.push_reserved(text);
-    Ok(failure)
-}
-
-/// One value.
-fn one_value(alloc: Global, v: Value) -> Allocated<Vec<Value>>
-    ensures { IfOk result (λ one. one.items ≡ v ∷ []) }
-{
-    let mut one = Vec::new(alloc);
-    one.push(v)?;
-    Ok(one)
+    Ok(alone(room, text))
 }

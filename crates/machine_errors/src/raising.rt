@@ -1,5 +1,5 @@
 // Errors that are raised, and the frame that begins to be left with one (luaG_runerror of ldebug.c and luaD_throw of ldo.c).
-ghost use Rattle.std.specs.Prelude.{◌≡◌, ◌∷◌, [], List, ℕ, length, IfOk, OnOk, OnErr};
+ghost use Rattle.std.specs.Prelude.{◌≡◌, ◌≤◌, ◌∷◌, [], List, ℕ, length, vec_capacity, IfOk, OnOk, OnErr};
 ghost use Rattle.int_core.specs.Value.{Value as Meant};
 ghost use Rattle.lua_heap.specs.Cells.{CellsAreListed};
 ghost use Rattle.lua_heap.specs.Codes.{AreCodes};
@@ -51,11 +51,20 @@ pub fn blamed_text(world: &mut World, text: &[u8]) -> Allocated<Vec<Value>>
     ensures added { OnOk result (AddsTexts world.old world.new) }
     ensures err { OnErr result (world.new ≡ world.old) }
 {
-    let mut error = Vec::new(world.alloc);
-    error.reserve(1)?;
+    let room = Vec::with_capacity(world.alloc, 1)?;
     let blamed = world.raise_text(text)?;
-    error.push_reserved(blamed);
-    Ok(error)
+    Ok(alone(room, blamed))
+}
+
+/// One value, in an empty list that has room for it.
+pub(crate) fn alone(room: Vec<Value>, v: Value) -> Vec<Value>
+    requires empty { room.items ≡ [] }
+    requires room { 1 ≤ vec_capacity room }
+    ensures { result.items ≡ v ∷ [] }
+{
+    let mut one = room;
+    one.push_reserved(v);
+    one
 }
 
 /// The Lua frame on top begins to be left with an error, which moves: its cells are closed, and only its pending registers keep their values.
