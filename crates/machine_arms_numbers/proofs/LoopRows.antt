@@ -1,5 +1,5 @@
 -- Rows of jumps and loops.
-use Rattle.std.proofs.Common.{◌≡◌, ℕ, suc, ◌+◌, ◌-◌, ◌<◌, ◌≤◌, List, [], ◌++◌, length, Option, Some, None, refl, ap, sym, ◌∙◌, subst, arith, Bool, true, false}
+use Rattle.std.proofs.Common.{◌≡◌, ℕ, suc, ◌+◌, ◌-◌, ◌<◌, ◌≤◌, List, [], ◌++◌, length, Option, Some, None, refl, ap, sym, ◌∙◌, subst, arith, Bool, true, false, inl, inr}
 use Rattle.code_core.specs.declared.instruction.Instruction.{Instruction}
 use Rattle.lua_heap.specs.Reading.{value}
 use Rattle.machine_view.specs.View.{Around, held, IsAt, Goes}
@@ -7,8 +7,9 @@ use Rattle.machine_view.proofs.Places.{register_there, target_there}
 use Rattle.machine_view.proofs.Rows.{Comes, reads, writes, goes_to, pays, same_text}
 use Rattle.machine_view.proofs.Going.{going, at_next, goes_by, puts}
 use Rattle.table_core.specs.declared.value.Value.{Value as Kept}
-use Rattle.std.specs.Prelude.{ℤ, pos, negsuc, ◌+ℤ◌, ◌-ℤ◌, cond, codes, slice_get, slice_set}
+use Rattle.std.specs.Prelude.{◌⊎◌, ℤ, pos, negsuc, ◌+ℤ◌, ◌-ℤ◌, cond, codes, slice_get, slice_set}
 use Rattle.code_core.specs.Instruction.{a_of, bx_of, sj_of}
+use Rattle.code_core.specs.declared.opcode.Opcode.{Opcode}
 use Rattle.code_core.specs.declared.opcode.Opcode.TheVariants.{Jmp, ForLoop, ForPrep, TForPrep, TForLoop, VarArgPrep}
 use Rattle.int_core.specs.Arithmetic.{add, sub}
 use Rattle.int_core.specs.Value.{Value, nil, same_integer, same_plain, shape, is_known, is_object}
@@ -101,12 +102,10 @@ each_back {w = w} {ws = ws} {pc = pc} h =
     let a = apart (pc + 1) (bx_of w) x.0 x.1 in
     (a.0, subst (λ n. n < length ws) (sym a.1) x.2)
 
--- the three registers of a numerical loop
-pub loop_register : {w : Instruction} {ws : List Instruction} {ks r : List Kept} {pc : ℕ} → (n : ℕ) → n ≤ 3 → IsAt ForLoop w ws ks r pc → a_of w + n < length r
-loop_register {w = w} n l h = let m = register_there h 0 (a_of w + 3) refl in omega arith
-
-pub prep_register : {w : Instruction} {ws : List Instruction} {ks r : List Kept} {pc : ℕ} → (n : ℕ) → n ≤ 3 → IsAt ForPrep w ws ks r pc → a_of w + n < length r
-prep_register {w = w} n l h = let m = register_there h 0 (a_of w + 3) refl in omega arith
+-- the registers of a numerical loop
+pub loop_there : {op : Opcode} {w : Instruction} {ws : List Instruction} {ks r : List Kept} {pc : ℕ} → IsAt op w ws ks r pc → (op ≡ ForLoop) ⊎ (op ≡ ForPrep) → a_of w + 3 < length r
+loop_there {w = w} {ws = ws} {ks = ks} {r = r} {pc = pc} h (inl e) = register_there (subst (λ op. IsAt op w ws ks r pc) e h) 0 (a_of w + 3) refl
+loop_there {w = w} {ws = ws} {ks = ks} {r = r} {pc = pc} h (inr e) = register_there (subst (λ op. IsAt op w ws ks r pc) e h) 0 (a_of w + 3) refl
 
 at_zero : (r : List Kept) (a : ℕ) {v : Kept} → slice_get r (a + 0) ≡ Some v → slice_get r a ≡ Some v
 at_zero r a e = ap (slice_get r) (let z : a ≡ a + 0 = omega arith in z) ∙ e
@@ -137,7 +136,7 @@ module _ {w : Instruction} {ws : List Instruction} {ks r : List Kept} {pc : ℕ}
       let a = a_of w in
       let b = loop_back h in
       let l : to < length ws = subst (λ to. to < length ws) (sym p) b.1 in
-      let m = loop_register 3 (omega arith) h in
+      let m = loop_there h (inl refl) in
       let l1 : length s1 ≡ length r = ap length x1 ∙ length_set r (a + 1) (Int (sub n (pos 1))) in
       let l2 : length s2 ≡ length s1 = ap length x2 ∙ length_set s1 (a + 0) (Int (add i d)) in
       let zero : s2 ≡ slice_set s1 a (Int (add i d)) = x2 ∙ ap (λ a. slice_set s1 a (Int (add i d))) (let z : a + 0 ≡ a = omega arith in z) in
@@ -177,7 +176,7 @@ module _ {w : Instruction} {ws : List Instruction} {ks r : List Kept} {pc : ℕ}
   prep_starts {s1 = s1} {s2 = s2} {to = to} h e f k e' f' k' z b x1 x2 p fuel =
       let a = a_of w in
       let l = at_next h refl p in
-      let m = prep_register 3 (omega arith) h in
+      let m = loop_there h (inr refl) in
       let l1 : length s1 ≡ length r = ap length x1 ∙ length_set r (a + 1) (Int (rounds i n d)) in
       going l (λ g heap cells c.
       reads g heap cells r pc fuel a (Int i) (read_integer r (a_of w) (at_zero r (a_of w) e) e') (reads g heap cells r pc fuel (a + 1) (Int n) (read_integer r (a_of w + 1) f f') (reads g heap cells r pc fuel (a + 2) (Int d) (read_integer r (a_of w + 2) k k')

@@ -16,10 +16,10 @@ use Rattle.code_core.specs.Prototype.{Prototype}
 use Rattle.code_core.specs.declared.opcode.Opcode.TheVariants.{AddI, ShrI, ShlI, Unm, BNot, AddK, SubK, MulK, ModK, IDivK, BAndK, BOrK, BXorK, Add, Sub, Mul, Mod, IDiv, BAnd, BOr, BXor, Shl, Shr, MmBin, MmBinI, MmBinK, Jmp, Eq, Lt, Le, EqK, EqI, LtI, LeI, GtI, GeI}
 use Rattle.int_core.specs.Heap.{Heap}
 use Rattle.int_core.specs.Value.{Value, known, integer, shape, same_truth, bind, same}
-use Rattle.int_core.specs.Operations.{Event, Settled, fault, of_unm, of_bnot, of_add, of_sub, of_mul, of_mod, of_idiv, of_band, of_bor, of_bxor, of_shl, of_shr, computed, arithmetic, less, less_equal, found, truth, equal_on, by_zero}
+use Rattle.int_core.specs.Operations.{Event, Operation, Settled, does, fault, of_unm, of_bnot, of_add, of_sub, of_mul, of_mod, of_idiv, of_band, of_bor, of_bxor, of_shl, of_shr, computed, arithmetic, less, less_equal, found, truth, equal_on, by_zero}
 use Rattle.lua_heap.proofs.Equal.{alike}
 use Rattle.machine_core.specs.World.{Cell}
-use Rattle.machine_core.specs.Text.{own, read, written, write_register, read_register, Text, raise}
+use Rattle.machine_core.specs.Text.{Arg, args_of, own, read, written, write_register, read_register, Text, raise}
 use Rattle.machine_core.specs.InstructionRows.{fast, integer_of_shape, next, skip, with_register, with_constant, compares, with_number, unary}
 use Rattle.machine_focus.specs.Focus.{Held}
 use Rattle.machine_sound.proofs.Lists.{get_there, some_is}
@@ -153,6 +153,19 @@ module _ {op : Opcode} {w : Instruction} {ws : List Instruction} {ks r : List Ke
       (sym (q ∙ ap (λ (o : Option Event). bind o (λ event. computed event m n)) form.is_event)) target_there t p)
       (has_constant op) f))
 
+-- the operand is in the register B, and what comes goes to A
+
+pub record OnRegister (op : Opcode) (w : Instruction) : Type 0 where
+  pub names : registers op w ≡ a_of w ∷ b_of w ∷ []
+  pub on : is_return op ≡ false
+
+module _ {op : Opcode} {w : Instruction} {ws : List Instruction} {ks r : List Kept} {pc : ℕ} (h : IsAt op w ws ks r pc) (f : OnRegister op w) where
+  pub both_named : (n i : ℕ) → slice_get (a_of w ∷ b_of w ∷ []) n ≡ Some i → i < length r
+  both_named n i e = register_there h n i (ap (λ is. slice_get is n) f.names ∙ e)
+
+  pub goes_behind : pc + 1 < length ws
+  goes_behind = next_there h f.on
+
 -- a register and a number that stands in the instruction
 
 pub record OfNumeral (op : Opcode) (w : Instruction) : Type 0 where
@@ -162,28 +175,26 @@ pub record OfNumeral (op : Opcode) (w : Instruction) : Type 0 where
   pub row : (p : Prototype) (pc : ℕ) → row_of p pc op w ≡ own (read_register (b_of w)) (λ _ s. fast event (a_of w) (left (integer_of_shape s)) (right (integer_of_shape s)))
   pub without : (None ≡ left None) ⊎ (None ≡ right None)
   pub with_both : (i : ℤ) → (m : ℤ) × (n : ℤ) × (Some m ≡ left (Some i)) × (Some n ≡ right (Some i)) × (computed event m n ≡ Some (of_numeral op i (sc_of w)))
-  pub names : registers op w ≡ a_of w ∷ b_of w ∷ []
+  pub place : OnRegister op w
   pub pair : second_half op w ≡ Some MmBinI
-  pub on : is_return op ≡ false
 
 numeral_behind : (op : Opcode) (event : Event) (w : Instruction)
     → ((p : Prototype) (pc : ℕ) → row_of p pc op w ≡ own (read_register (b_of w)) (λ _ s. fast event (a_of w) (integer_of_shape s) (Some (sc_of w)))) → ((i : ℤ) → computed event i (sc_of w) ≡ Some (of_numeral op i (sc_of w)))
-    → registers op w ≡ a_of w ∷ b_of w ∷ [] → second_half op w ≡ Some MmBinI → is_return op ≡ false → OfNumeral op w
-numeral_behind op event w row gives names pair on = record {
+    → OnRegister op w → second_half op w ≡ Some MmBinI → OfNumeral op w
+numeral_behind op event w row gives place pair = record {
   event = event;
   left = λ o. o;
   right = λ o. Some (sc_of w);
   row = row;
   without = inl refl;
   with_both = λ i. (i, sc_of w, refl, refl, gives i);
-  names = names;
+  place = place;
   pair = pair;
-  on = on;
 }
 
-of_numeral_row : (op : Opcode) (w : Instruction) → IsTrue (has_numeral op) → OfNumeral op w
-of_numeral_row AddI w h = numeral_behind AddI of_add w (λ p pc. refl) (λ i. refl) refl refl refl
-of_numeral_row ShrI w h = numeral_behind ShrI of_shr w (λ p pc. refl) (λ i. refl) refl refl refl
+pub of_numeral_row : (op : Opcode) (w : Instruction) → IsTrue (has_numeral op) → OfNumeral op w
+of_numeral_row AddI w h = numeral_behind AddI of_add w (λ p pc. refl) (λ i. refl) (record { names = refl; on = refl }) refl
+of_numeral_row ShrI w h = numeral_behind ShrI of_shr w (λ p pc. refl) (λ i. refl) (record { names = refl; on = refl }) refl
 of_numeral_row ShlI w h = record {
   event = of_shl;
   left = λ o. Some (sc_of w);
@@ -191,9 +202,8 @@ of_numeral_row ShlI w h = record {
   row = λ p pc. refl;
   without = inr refl;
   with_both = λ i. (sc_of w, i, refl, refl, refl);
-  names = refl;
+  place = record { names = refl; on = refl };
   pair = refl;
-  on = refl;
 }
 of_numeral_row _ w h = absurd (cc)
 
@@ -201,23 +211,17 @@ module _ {op : Opcode} {w : Instruction} {ws : List Instruction} {ks r : List Ke
   numeral_form : OfNumeral op w
   numeral_form = of_numeral_row op w o
 
-  pub numeral_named : (n i : ℕ) → slice_get (a_of w ∷ b_of w ∷ []) n ≡ Some i → i < length r
-  numeral_named n i e = register_there h n i (ap (λ is. slice_get is n) numeral_form.names ∙ e)
-
-  pub numeral_next : pc + 1 < length ws
-  numeral_next = next_there h numeral_form.on
-
   pub numeral_skip : pc + 2 < length ws
   numeral_skip = behind_there h MmBinI numeral_form.pair refl
 
   pub numeral_left : {to : ℕ} (u : Kept) → slice_get r (b_of w) ≡ Some u → None ≡ integer_in u → to ≡ pc + 1 → (fuel : ℕ) → Goes op w ws ks r pc fuel r to fuel
-  numeral_left {to = to} u e i p fuel = going (at_next h numeral_form.on p) (λ g heap cells c.
+  numeral_left {to = to} u e i p fuel = going (at_next h numeral_form.place.on p) (λ g heap cells c.
       same_text (numeral_form.row g.context.closure.code pc) (reads g heap cells r pc fuel (b_of w) u e (from g heap cells c (sym (i ∙ sym (shape_integer g.texts u))) numeral_form.without)))
     where
       from : (g : Around) (heap : Heap) (cells : List Cell) → IsCode g ws ks → integer_of_shape (shape (value g.texts u)) ≡ None → (None ≡ numeral_form.left None) ⊎ (None ≡ numeral_form.right None)
           → Comes g.context (fast numeral_form.event (a_of w) (numeral_form.left (integer_of_shape (shape (value g.texts u)))) (numeral_form.right (integer_of_shape (shape (value g.texts u))))) (value g.texts u ∷ []) (held g heap cells r pc fuel) (Some (held g heap cells r to fuel))
-      from g heap cells c q (inl n) = goes_left g heap cells r pc fuel numeral_form.event (a_of w) _ _ c (at_next h numeral_form.on p) (n ∙ ap numeral_form.left (sym q)) p
-      from g heap cells c q (inr n) = goes_right g heap cells r pc fuel numeral_form.event (a_of w) _ _ c (at_next h numeral_form.on p) (n ∙ ap numeral_form.right (sym q)) p
+      from g heap cells c q (inl n) = goes_left g heap cells r pc fuel numeral_form.event (a_of w) _ _ c (at_next h numeral_form.place.on p) (n ∙ ap numeral_form.left (sym q)) p
+      from g heap cells c q (inr n) = goes_right g heap cells r pc fuel numeral_form.event (a_of w) _ _ c (at_next h numeral_form.place.on p) (n ∙ ap numeral_form.right (sym q)) p
 
   pub numeral_both : {s : List Kept} {to : ℕ} (u : Kept) (i : ℤ) → slice_get r (b_of w) ≡ Some u → Some i ≡ integer_in u → s ≡ slice_set r (a_of w) (Int (of_numeral op i (sc_of w))) → to ≡ pc + 2 → (fuel : ℕ) → Goes op w ws ks r pc fuel s to fuel
   numeral_both u i e j t p fuel =
@@ -226,7 +230,7 @@ module _ {op : Opcode} {w : Instruction} {ws : List Instruction} {ks r : List Ke
       going l (λ g heap cells c.
       let z = j ∙ sym (shape_integer g.texts u) in
       same_text (numeral_form.row g.context.closure.code pc) (reads g heap cells r pc fuel (b_of w) u e
-      (goes_both g heap cells r pc fuel numeral_form.event (a_of w) _ _ c l x.0 x.1 (of_numeral op i (sc_of w)) (x.2 ∙ ap numeral_form.left z) (x.3 ∙ ap numeral_form.right z) x.4 (numeral_named 0 (a_of w) refl) t p)))
+      (goes_both g heap cells r pc fuel numeral_form.event (a_of w) _ _ c l x.0 x.1 (of_numeral op i (sc_of w)) (x.2 ∙ ap numeral_form.left z) (x.3 ∙ ap numeral_form.right z) x.4 (both_named h numeral_form.place 0 (a_of w) refl) t p)))
 
 -- one operand
 
@@ -234,29 +238,22 @@ pub record OfOne (op : Opcode) (w : Instruction) : Type 0 where
   pub event : Event
   pub row : (p : Prototype) (pc : ℕ) → row_of p pc op w ≡ own (read_register (b_of w)) (λ v _. unary (arithmetic event) (read v ∷ read v ∷ []) w)
   pub gives : (n : ℤ) → computed event n n ≡ Some (of_one op n)
-  pub names : registers op w ≡ a_of w ∷ b_of w ∷ []
-  pub on : is_return op ≡ false
+  pub place : OnRegister op w
 
-of_one_row : (op : Opcode) (w : Instruction) → IsTrue (has_one op) → OfOne op w
-of_one_row Unm w h = record { event = of_unm; row = λ p pc. refl; gives = λ n. refl; names = refl; on = refl }
-of_one_row BNot w h = record { event = of_bnot; row = λ p pc. refl; gives = λ n. refl; names = refl; on = refl }
+pub of_one_row : (op : Opcode) (w : Instruction) → IsTrue (has_one op) → OfOne op w
+of_one_row Unm w h = record { event = of_unm; row = λ p pc. refl; gives = λ n. refl; place = record { names = refl; on = refl } }
+of_one_row BNot w h = record { event = of_bnot; row = λ p pc. refl; gives = λ n. refl; place = record { names = refl; on = refl } }
 of_one_row _ w h = absurd (cc)
 
 module _ {op : Opcode} {w : Instruction} {ws : List Instruction} {ks r : List Kept} {pc : ℕ} (h : IsAt op w ws ks r pc) (o : IsTrue (has_one op)) where
   one_form : OfOne op w
   one_form = of_one_row op w o
 
-  pub one_named : (n i : ℕ) → slice_get (a_of w ∷ b_of w ∷ []) n ≡ Some i → i < length r
-  one_named n i e = register_there h n i (ap (λ is. slice_get is n) one_form.names ∙ e)
-
-  pub one_next : pc + 1 < length ws
-  one_next = next_there h one_form.on
-
   pub one_does : {s : List Kept} {to : ℕ} (u : Kept) (n : ℤ) → slice_get r (b_of w) ≡ Some u → Some n ≡ integer_in u → s ≡ slice_set r (a_of w) (Int (of_one op n)) → to ≡ pc + 1 → (fuel : ℕ) → Goes op w ws ks r pc fuel s to fuel
-  one_does u n e j t p fuel = going (at_next h one_form.on p) (λ g heap cells c.
+  one_does u n e j t p fuel = going (at_next h one_form.place.on p) (λ g heap cells c.
       same_text (one_form.row g.context.closure.code pc) (reads g heap cells r pc fuel (b_of w) (Int n) (e ∙ ap Some (is_integer u n j))
       (settles g heap cells r pc fuel (ap (λ (o : Option ℤ). elim o as (λ _. Settled) [ None ↦ fault (by_zero one_form.event) | Some k ↦ found heap (known (integer k) ∷ []) ]) (one_form.gives n))
-      (puts g heap cells r pc fuel (a_of w) 1 (Int (of_one op n)) c (at_next h one_form.on p) (one_named 0 (a_of w) refl) refl t p))))
+      (puts g heap cells r pc fuel (a_of w) 1 (Int (of_one op n)) c (at_next h one_form.place.on p) (both_named h one_form.place 0 (a_of w) refl) refl t p))))
 
 -- equality
 
@@ -342,19 +339,18 @@ module _ {op : Opcode} {w : Instruction} {ws : List Instruction} {ks r : List Ke
       y : slice_get r (b_of w) ≡ Some (Int n)
       y = f ∙ ap Some (is_integer v n j)
 
-      less_on : IsAt Lt w ws ks r pc → Some b ≡ Some (int_lt m n) → Goes Lt w ws ks r pc fuel r to fuel
-      less_on h q =
-          let l = at_either h Jmp refl refl (same_truth b (k_of w)) p in
-          going l (λ g heap cells c. reads g heap cells r pc fuel (a_of w) (Int m) x (reads g heap cells r pc fuel (b_of w) (Int n) y (decides g heap cells r pc fuel w b c l p (ap (truth heap) (sym (some_is refl q))))))
-
-      less_equal_on : IsAt Le w ws ks r pc → Some b ≡ Some (int_le m n) → Goes Le w ws ks r pc fuel r to fuel
-      less_equal_on h q =
-          let l = at_either h Jmp refl refl (same_truth b (k_of w)) p in
-          going l (λ g heap cells c. reads g heap cells r pc fuel (a_of w) (Int m) x (reads g heap cells r pc fuel (b_of w) (Int n) y (decides g heap cells r pc fuel w b c l p (ap (truth heap) (sym (some_is refl q))))))
+      on : (op : Opcode) (operation : Operation) (order : ℤ → ℤ → Bool) → second_half op w ≡ Some Jmp
+          → ((p : Prototype) (pc : ℕ) → row_of p pc op w ≡ own (read_register (a_of w)) (λ x _. own (read_register (b_of w)) (λ y _. compares operation (read x) (read y) w)))
+          → ((heap : Heap) → does operation (known (integer m) ∷ known (integer n) ∷ []) heap ≡ truth heap (order m n)) → IsAt op w ws ks r pc → Some b ≡ Some (order m n) → Goes op w ws ks r pc fuel r to fuel
+      on op operation order pair row gives h q =
+          let l = at_either h Jmp pair refl (same_truth b (k_of w)) p in
+          going l (λ g heap cells c.
+          same_text (row g.context.closure.code pc)
+          (reads g heap cells r pc fuel (a_of w) (Int m) x (reads g heap cells r pc fuel (b_of w) (Int n) y (decides g heap cells r pc fuel w b c l p (gives heap ∙ ap (truth heap) (sym (some_is refl q)))))))
 
       from : (op ≡ Lt) ⊎ (op ≡ Le) → Goes op w ws ks r pc fuel r to fuel
-      from (inl e) = subst (λ op. Goes op w ws ks r pc fuel r to fuel) (sym e) (less_on (subst (λ op. IsAt op w ws ks r pc) e h) (q ∙ ap (λ op. bind (ordered_by op) (λ order. Some (order m n))) e))
-      from (inr e) = subst (λ op. Goes op w ws ks r pc fuel r to fuel) (sym e) (less_equal_on (subst (λ op. IsAt op w ws ks r pc) e h) (q ∙ ap (λ op. bind (ordered_by op) (λ order. Some (order m n))) e))
+      from (inl e) = subst (λ op. Goes op w ws ks r pc fuel r to fuel) (sym e) (on Lt less int_lt refl (λ p pc. refl) (λ heap. refl) (subst (λ op. IsAt op w ws ks r pc) e h) (q ∙ ap (λ op. bind (ordered_by op) (λ order. Some (order m n))) e))
+      from (inr e) = subst (λ op. Goes op w ws ks r pc fuel r to fuel) (sym e) (on Le less_equal int_le refl (λ p pc. refl) (λ heap. refl) (subst (λ op. IsAt op w ws ks r pc) e h) (q ∙ ap (λ op. bind (ordered_by op) (λ order. Some (order m n))) e))
 
 -- the order of a register and a number that stands in the instruction
 pub record OfNumber (op : Opcode) (w : Instruction) : Type 0 where
@@ -367,43 +363,25 @@ pub record OfNumber (op : Opcode) (w : Instruction) : Type 0 where
   pub decided : (g : Around) (heap : Heap) (cells : List Cell) (r : List Kept) (pc fuel : ℕ) {ws : List Instruction} {ks : List Kept} {to : ℕ} (m : ℤ) → IsCode g ws ks → to < length ws
       → to ≡ pc + cond (same_truth (order m (sb_of w)) (k_of w)) 1 2 → Comes g.context (text 0) (known (integer m) ∷ []) (held g heap cells r pc fuel) (Some (held g heap cells r to fuel))
 
+-- by the operation that decides it, and its operands where the register's value is named
+ordered_number : (op : Opcode) (w : Instruction) (order : ℤ → ℤ → Bool) (operation : Operation) (left right : ℕ → Arg) → ordered_by op ≡ Some order → registers op w ≡ a_of w ∷ [] → second_half op w ≡ Some Jmp
+    → ((p : Prototype) (pc : ℕ) → row_of p pc op w ≡ own (read_register (a_of w)) (λ x _. compares operation (left x) (right x) w))
+    → ((m : ℤ) (heap : Heap) → does operation (args_of (known (integer m) ∷ []) (left 0 ∷ right 0 ∷ [])) heap ≡ truth heap (order m (sb_of w))) → OfNumber op w
+ordered_number op w order operation left right is_order names pair row gives = record {
+  order = order;
+  is_order = is_order;
+  names = names;
+  pair = pair;
+  text = λ x. compares operation (left x) (right x) w;
+  row = row;
+  decided = λ g heap cells r pc fuel m c l p. decides g heap cells r pc fuel w (order m (sb_of w)) c l p (gives m heap);
+}
+
 pub of_number : (op : Opcode) (w : Instruction) → (op ≡ LtI) ⊎ (op ≡ LeI) ⊎ (op ≡ GtI) ⊎ (op ≡ GeI) → OfNumber op w
-of_number op w (inl e) = subst (λ op. OfNumber op w) (sym e) (record {
-  order = int_lt;
-  is_order = refl;
-  names = refl;
-  pair = refl;
-  text = λ x. compares less (read x) (with_number w) w;
-  row = λ p pc. refl;
-  decided = λ g heap cells r pc fuel m c l p. decides g heap cells r pc fuel w (int_lt m (sb_of w)) c l p refl;
-})
-of_number op w (inr (inl e)) = subst (λ op. OfNumber op w) (sym e) (record {
-  order = int_le;
-  is_order = refl;
-  names = refl;
-  pair = refl;
-  text = λ x. compares less_equal (read x) (with_number w) w;
-  row = λ p pc. refl;
-  decided = λ g heap cells r pc fuel m c l p. decides g heap cells r pc fuel w (int_le m (sb_of w)) c l p refl;
-})
-of_number op w (inr (inr (inl e))) = subst (λ op. OfNumber op w) (sym e) (record {
-  order = λ m n. int_lt n m;
-  is_order = refl;
-  names = refl;
-  pair = refl;
-  text = λ x. compares less (with_number w) (read x) w;
-  row = λ p pc. refl;
-  decided = λ g heap cells r pc fuel m c l p. decides g heap cells r pc fuel w (int_lt (sb_of w) m) c l p refl;
-})
-of_number op w (inr (inr (inr e))) = subst (λ op. OfNumber op w) (sym e) (record {
-  order = λ m n. int_le n m;
-  is_order = refl;
-  names = refl;
-  pair = refl;
-  text = λ x. compares less_equal (with_number w) (read x) w;
-  row = λ p pc. refl;
-  decided = λ g heap cells r pc fuel m c l p. decides g heap cells r pc fuel w (int_le (sb_of w) m) c l p refl;
-})
+of_number op w (inl e) = subst (λ op. OfNumber op w) (sym e) (ordered_number LtI w int_lt less (λ x. read x) (λ _. with_number w) refl refl refl (λ p pc. refl) (λ m heap. refl))
+of_number op w (inr (inl e)) = subst (λ op. OfNumber op w) (sym e) (ordered_number LeI w int_le less_equal (λ x. read x) (λ _. with_number w) refl refl refl (λ p pc. refl) (λ m heap. refl))
+of_number op w (inr (inr (inl e))) = subst (λ op. OfNumber op w) (sym e) (ordered_number GtI w (λ m n. int_lt n m) less (λ _. with_number w) (λ x. read x) refl refl refl (λ p pc. refl) (λ m heap. refl))
+of_number op w (inr (inr (inr e))) = subst (λ op. OfNumber op w) (sym e) (ordered_number GeI w (λ m n. int_le n m) less_equal (λ _. with_number w) (λ x. read x) refl refl refl (λ p pc. refl) (λ m heap. refl))
 
 module _ {op : Opcode} {w : Instruction} {ws : List Instruction} {ks r : List Kept} {pc : ℕ} (h : IsAt op w ws ks r pc) (o : (op ≡ LtI) ⊎ (op ≡ LeI) ⊎ (op ≡ GtI) ⊎ (op ≡ GeI)) where
   number_form : OfNumber op w

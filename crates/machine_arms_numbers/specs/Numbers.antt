@@ -23,39 +23,33 @@ is_truthy _ = true
 abbrev pub equal_at_once : Value → Value → Option Bool
 equal_at_once v w = cond (value_eq v w) (Some true) (cond (are_tables v w) None (Some false))
 
--- an operator on a register and a constant
-abbrev pub has_constant : Opcode → Bool
-has_constant AddK = true
-has_constant SubK = true
-has_constant MulK = true
-has_constant ModK = true
-has_constant IDivK = true
-has_constant BAndK = true
-has_constant BOrK = true
-has_constant BXorK = true
-has_constant _ = false
+-- the operator of an instruction on two registers, or on a register and a constant, and whether it is on a constant
+abbrev pub operator_of : Opcode → Option (Event × Bool)
+operator_of AddK = Some (of_add, true)
+operator_of SubK = Some (of_sub, true)
+operator_of MulK = Some (of_mul, true)
+operator_of ModK = Some (of_mod, true)
+operator_of IDivK = Some (of_idiv, true)
+operator_of BAndK = Some (of_band, true)
+operator_of BOrK = Some (of_bor, true)
+operator_of BXorK = Some (of_bxor, true)
+operator_of Add = Some (of_add, false)
+operator_of Sub = Some (of_sub, false)
+operator_of Mul = Some (of_mul, false)
+operator_of Mod = Some (of_mod, false)
+operator_of IDiv = Some (of_idiv, false)
+operator_of BAnd = Some (of_band, false)
+operator_of BOr = Some (of_bor, false)
+operator_of BXor = Some (of_bxor, false)
+operator_of Shl = Some (of_shl, false)
+operator_of Shr = Some (of_shr, false)
+operator_of _ = None
 
--- the operator of an instruction on two registers, or on a register and a constant
 abbrev pub event_of : Opcode → Option Event
-event_of AddK = Some of_add
-event_of SubK = Some of_sub
-event_of MulK = Some of_mul
-event_of ModK = Some of_mod
-event_of IDivK = Some of_idiv
-event_of BAndK = Some of_band
-event_of BOrK = Some of_bor
-event_of BXorK = Some of_bxor
-event_of Add = Some of_add
-event_of Sub = Some of_sub
-event_of Mul = Some of_mul
-event_of Mod = Some of_mod
-event_of IDiv = Some of_idiv
-event_of BAnd = Some of_band
-event_of BOr = Some of_bor
-event_of BXor = Some of_bxor
-event_of Shl = Some of_shl
-event_of Shr = Some of_shr
-event_of _ = None
+event_of op = elim (operator_of op) [ None ↦ None | Some o ↦ Some o.0 ]
+
+abbrev pub has_constant : Opcode → Bool
+has_constant op = elim (operator_of op) [ None ↦ false | Some o ↦ o.1 ]
 
 -- an operator on a register and another or a constant, and the second operand
 abbrev pub has_two : Opcode → Bool

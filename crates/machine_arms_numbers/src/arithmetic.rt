@@ -5,7 +5,7 @@ ghost use Rattle.int_core.specs.Value.{bind};
 ghost use Rattle.machine_arms_numbers.specs.Leading.{IsSite, Leads, MayLead};
 ghost use Rattle.machine_arms_numbers.specs.Numbers.{event_of, has_constant, has_numeral, has_one, has_two, of_numeral, of_one, second};
 
-use crate::registers::{constant, get_b, get_c, integer};
+use crate::registers::{get_b, integer, value_numbered};
 use crate::site::Site;
 use code_core::Opcode;
 use int_core::{add, floor_div, floor_mod, mul, neg, shl, shr, sub};
@@ -97,10 +97,11 @@ fn second(op: Opcode, site: Site, registers: &[Value]) -> Value
     requires form { IsTrue (has_two op) }
     ensures { second op site.entry.constants.now registers.now site.entry.word ≡ Some result }
 {
+    let n = site.word.c() as usize;
     if has_constant(op) {
-        return constant(site.constants, site.word.c() as usize);
+        return value_numbered(site.constants, n);
     }
-    get_c(registers, site.word)
+    value_numbered(registers, n)
 }
 
 /// Whether it is a constant.

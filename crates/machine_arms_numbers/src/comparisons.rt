@@ -5,7 +5,7 @@ ghost use Rattle.int_core.specs.Value.{bind};
 ghost use Rattle.machine_arms_numbers.specs.Leading.{IsSite, MayLead};
 ghost use Rattle.machine_arms_numbers.specs.Numbers.{equal_at_once, ordered_by};
 
-use crate::registers::{branch, constant, get_a, get_b, integer};
+use crate::registers::{branch, get_a, get_b, integer, value_numbered};
 use crate::site::Site;
 use code_core::Opcode;
 use table_core::Value;
@@ -54,7 +54,7 @@ pub(crate) fn equal_constant(site: Site, registers: &mut [Value]) -> Option<usiz
     requires { IsSite EqK site registers.old }
     ensures { MayLead EqK site.entry registers.old registers.new result }
 {
-    let other = constant(site.constants, site.word.b() as usize);
+    let other = value_numbered(site.constants, site.word.b() as usize);
     let truth = equal_at_once(get_a(registers, site.word), other)?;
     Some(branch(site.words, site.word, site.pc, truth))
 }

@@ -1,6 +1,7 @@
 // Jumps and loops (Lua 5.4 manual, 3.3.4 and 3.3.5), and the beginning of a function with extra arguments. A jump back and a further round cost one unit of the
 // budget.
-ghost use Rattle.std.specs.Prelude.{◌≡◌, suc, ◌≤◌, ◌^◌, ◌-ℤ◌, ◌≤ℤ◌, pos, IfSome, IfNone, IsTrue, ◌≢◌};
+ghost use Rattle.std.specs.Prelude.{◌≡◌, suc, ◌+◌, ◌<◌, ◌≤◌, ◌^◌, ◌⊎◌, length, ◌-ℤ◌, ◌≤ℤ◌, pos, IfSome, IfNone, IsTrue, ◌≢◌};
+ghost use Rattle.code_core.specs.Instruction.{a_of};
 ghost use Rattle.code_core.specs.declared.opcode.Opcode.TheVariants.{Jmp, ForLoop, ForPrep, TForPrep, TForLoop, VarArgPrep};
 ghost use Rattle.machine_core.specs.InstructionRows.{runs, rounds};
 ghost use Rattle.machine_arms_numbers.specs.Leading.{IsSite, Leads, MayLead, MayPay};
@@ -8,6 +9,7 @@ ghost use Rattle.machine_arms_numbers.specs.Numbers.{leads_back, distance_of};
 
 use crate::registers::{get_above, integer, set_above, set_above_integer, truthy};
 use crate::site::Site;
+use code_core::Opcode;
 use int_core::{add, sub};
 use table_core::Value;
 
@@ -58,12 +60,21 @@ pub(crate) fn jump(site: Site, registers: &mut [Value], fuel: &mut u64) -> Optio
     Some(site.back(distance))
 }
 
+/// The registers of a numerical loop are there: R[A] to R[A + 3].
+#[inline(always)]
+fn loop_registers_are_there(op: Opcode, site: Site, registers: &[Value])
+    requires at { IsSite op site registers.now }
+    requires form { (op ≡ ForLoop) ⊎ (op ≡ ForPrep) }
+    ensures { a_of site.entry.word + 3 < length registers.now }
+{}
+
 /// FORLOOP: a further round, or the end of the loop. `None` where the round cannot be paid.
 #[inline(always)]
 pub(crate) fn for_loop(site: Site, registers: &mut [Value], fuel: &mut u64) -> Option<usize>
     requires { IsSite ForLoop site registers.old }
     ensures { MayPay ForLoop site.entry registers.old registers.new fuel.old fuel.new result }
 {
+    loop_registers_are_there(Opcode::ForLoop, site, registers);
     let from = integer(get_above(registers, site.word, 0))?;
     let count = integer(get_above(registers, site.word, 1))?;
     let step = integer(get_above(registers, site.word, 2))?;
@@ -118,6 +129,7 @@ pub(crate) fn for_prep(site: Site, registers: &mut [Value]) -> Option<usize>
     requires { IsSite ForPrep site registers.old }
     ensures { MayLead ForPrep site.entry registers.old registers.new result }
 {
+    loop_registers_are_there(Opcode::ForPrep, site, registers);
     let from = integer(get_above(registers, site.word, 0))?;
     let limit = integer(get_above(registers, site.word, 1))?;
     let step = integer(get_above(registers, site.word, 2))?;

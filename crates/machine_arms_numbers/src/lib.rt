@@ -13,4 +13,4 @@ mod truths;
 
 pub use instruction::run_instruction;
 pub use jumps::{distance_of, further_rounds, has_round, leads_back};
-pub use registers::{branch, integer};
+pub use registers::{branch, integer, value_numbered};

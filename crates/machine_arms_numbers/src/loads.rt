@@ -4,7 +4,7 @@ ghost use Rattle.code_core.specs.declared.opcode.Opcode.TheVariants.{Move, LoadI
 ghost use Rattle.machine_arms_numbers.specs.Leading.{IsSite, Leads};
 ghost use Rattle.machine_arms_numbers.specs.Numbers.{cleared, loads_truth};
 
-use crate::registers::{constant, get_b};
+use crate::registers::{get_b, value_numbered};
 use crate::site::Site;
 use code_core::{Opcode, fetch};
 use table_core::Value;
@@ -34,7 +34,7 @@ pub(crate) fn load_constant(site: Site, registers: &mut [Value]) -> usize
     requires { IsSite LoadK site registers.old }
     ensures { Leads LoadK site.entry registers.old registers.new result }
 {
-    let v = constant(site.constants, site.word.bx() as usize);
+    let v = value_numbered(site.constants, site.word.bx() as usize);
     site.put_value(registers, v, 1)
 }
 
@@ -45,7 +45,7 @@ pub(crate) fn load_far_constant(site: Site, registers: &mut [Value]) -> usize
     ensures { Leads LoadKx site.entry registers.old registers.new result }
 {
     let extra = fetch(site.words, site.behind(1));
-    let v = constant(site.constants, extra.ax() as usize);
+    let v = value_numbered(site.constants, extra.ax() as usize);
     site.put_value(registers, v, 2)
 }
 

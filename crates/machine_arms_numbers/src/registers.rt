@@ -1,6 +1,6 @@
 // The registers that an instruction names, and the places behind it.
 ghost use Rattle.std.specs.Prelude.{◌≡◌, ◌+◌, ◌<◌, length, slice_get, slice_set, Some, cond};
-ghost use Rattle.code_core.specs.Instruction.{a_of, b_of, c_of, k_of};
+ghost use Rattle.code_core.specs.Instruction.{a_of, b_of, k_of};
 ghost use Rattle.int_core.specs.Value.{same_truth};
 ghost use Rattle.machine_arms_numbers.specs.Numbers.{integer_in, is_truthy};
 ghost use Rattle.table_core.specs.declared.value.Value.TheVariants.{Int};
@@ -24,15 +24,6 @@ pub(crate) fn get_b(registers: &[Value], i: Instruction) -> Value
     ensures { slice_get registers.now (b_of i) ≡ Some result }
 {
     registers[i.b() as usize]
-}
-
-/// R[C].
-#[inline(always)]
-pub(crate) fn get_c(registers: &[Value], i: Instruction) -> Value
-    requires { c_of i < length registers.now }
-    ensures { slice_get registers.now (c_of i) ≡ Some result }
-{
-    registers[i.c() as usize]
 }
 
 /// R[A + n].
@@ -65,13 +56,13 @@ pub(crate) fn set_above_integer(registers: &mut [Value], i: Instruction, at: usi
     registers[i.a() as usize + at] = Value::Int(n);
 }
 
-/// K[n].
+/// R[n] of registers, K[n] of constants.
 #[inline(always)]
-pub(crate) fn constant(constants: &[Value], n: usize) -> Value
-    requires { n < length constants.now }
-    ensures { slice_get constants.now n ≡ Some result }
+pub fn value_numbered(values: &[Value], n: usize) -> Value
+    requires { n < length values.now }
+    ensures { slice_get values.now n ≡ Some result }
 {
-    constants[n]
+    values[n]
 }
 
 /// The integer that a value is.

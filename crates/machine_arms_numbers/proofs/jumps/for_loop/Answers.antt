@@ -5,18 +5,9 @@ use Rattle.int_core.specs.Arithmetic.{add, sub}
 use Rattle.int_core.specs.Value.{same_integer}
 use Rattle.machine_view.proofs.Places.{next_there}
 use Rattle.table_core.specs.declared.value.Value.TheVariants.{Int}
-use Rattle.machine_arms_numbers.proofs.LoopRows.{loop_back, loop_register, round_ends, round_goes}
+use Rattle.machine_arms_numbers.proofs.LoopRows.{loop_back, round_ends, round_goes}
 use Rattle.machine_sound.proofs.Lists.{length_set}
 use Rattle.machine_arms_numbers.proofs.jumps.for_loop.Goals as goal
-
-pub get_above-requires : goal.get_above-requires
-get_above-requires c = loop_register 0 (omega arith) c.requires
-
-pub get_above-requires-2 : goal.get_above-requires-2
-get_above-requires-2 c = loop_register 1 (omega arith) c.requires
-
-pub get_above-requires-3 : goal.get_above-requires-3
-get_above-requires-3 c = loop_register 2 (omega arith) c.requires
 
 pub behind-requires : goal.behind-requires
 behind-requires c = next_there c.requires refl
@@ -26,14 +17,11 @@ returns-then-count-eq0 c =
     let z : same_integer c.in_ok-count.count (pos 0) ≡ true = search rules in
     round_ends c.in_ok-from.from c.in_ok-count.count c.in_ok-step.step c.requires c.get_above.ensures c.get_above-2.ensures c.get_above-3.ensures c.in_ok-from.ensures c.in_ok-count.ensures c.in_ok-step.ensures z c.behind.ensures
 
-pub set_above_integer-requires : goal.set_above_integer-requires
-set_above_integer-requires c = loop_register 1 (omega arith) c.requires
-
 pub set_above_integer-requires-2 : goal.set_above_integer-requires-2
-set_above_integer-requires-2 c = let l = loop_register 0 (omega arith) c.requires in let e = ap length c.set_above_integer.ensures ∙ length_set c.args.registers.now _ _ in omega (arith, l, e)
+set_above_integer-requires-2 c = let l = c.loop_registers_are_there.ensures in let e = ap length c.set_above_integer.ensures ∙ length_set c.args.registers.now _ _ in omega (arith, l, e)
 
 pub set_above_integer-requires-3 : goal.set_above_integer-requires-3
-set_above_integer-requires-3 c = let l = loop_register 3 (omega arith) c.requires in let e = ap length c.set_above_integer.ensures ∙ length_set c.args.registers.now _ _ in let f = ap length c.set_above_integer-2.ensures ∙ length_set c.set_above_integer.new.registers _ _ in omega (arith, l, e, f)
+set_above_integer-requires-3 c = let l = c.loop_registers_are_there.ensures in let e = ap length c.set_above_integer.ensures ∙ length_set c.args.registers.now _ _ in let f = ap length c.set_above_integer-2.ensures ∙ length_set c.set_above_integer.new.registers _ _ in omega (arith, l, e, f)
 
 pub back-requires : goal.back-requires
 back-requires c = let l = loop_back c.requires in let m = l.0 in let e = c.bx.ensures in record { there = next_there c.requires refl; near = omega (arith, m, e) }

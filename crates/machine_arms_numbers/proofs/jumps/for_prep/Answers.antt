@@ -5,18 +5,9 @@ use Rattle.int_core.specs.Value.{same_integer}
 use Rattle.machine_core.specs.InstructionRows.{runs, rounds}
 use Rattle.machine_view.proofs.Places.{next_there}
 use Rattle.table_core.specs.declared.value.Value.TheVariants.{Int}
-use Rattle.machine_arms_numbers.proofs.LoopRows.{prep_register, prep_place, prep_passes, prep_starts}
+use Rattle.machine_arms_numbers.proofs.LoopRows.{prep_place, prep_passes, prep_starts}
 use Rattle.machine_sound.proofs.Lists.{length_set}
 use Rattle.machine_arms_numbers.proofs.jumps.for_prep.Goals as goal
-
-pub get_above-requires : goal.get_above-requires
-get_above-requires c = prep_register 0 (omega arith) c.requires
-
-pub get_above-requires-2 : goal.get_above-requires-2
-get_above-requires-2 c = prep_register 1 (omega arith) c.requires
-
-pub get_above-requires-3 : goal.get_above-requires-3
-get_above-requires-3 c = prep_register 2 (omega arith) c.requires
 
 pub behind-requires : goal.behind-requires
 behind-requires c = let l = prep_place c.requires in let e = c.bx.ensures in omega (arith, l, e)
@@ -27,11 +18,8 @@ returns-then-not-has_round c =
     let b : runs c.in_ok-from.from c.in_ok-limit.limit c.in_ok-step.step ≡ false = search rules in
     prep_passes c.in_ok-from.from c.in_ok-limit.limit c.in_ok-step.step c.requires c.get_above.ensures c.get_above-2.ensures c.get_above-3.ensures c.in_ok-from.ensures c.in_ok-limit.ensures c.in_ok-step.ensures z b (c.behind.ensures ∙ ap (λ n. c.args.site.pc + (n + 2)) c.bx.ensures)
 
-pub set_above_integer-requires : goal.set_above_integer-requires
-set_above_integer-requires c = prep_register 1 (omega arith) c.requires
-
 pub set_above_integer-requires-2 : goal.set_above_integer-requires-2
-set_above_integer-requires-2 c = let l = prep_register 3 (omega arith) c.requires in let e = ap length c.set_above_integer.ensures ∙ length_set c.args.registers.now _ _ in omega (arith, l, e)
+set_above_integer-requires-2 c = let l = c.loop_registers_are_there.ensures in let e = ap length c.set_above_integer.ensures ∙ length_set c.args.registers.now _ _ in omega (arith, l, e)
 
 pub behind-requires-2 : goal.behind-requires-2
 behind-requires-2 c = next_there c.requires refl

@@ -6,11 +6,11 @@ use Rattle.machine_view.proofs.Places.{register_there, constant_there, next_ther
 use Rattle.machine_arms_numbers.proofs.LoadRows.{constant_does}
 use Rattle.machine_arms_numbers.proofs.loads.load_constant.Goals as goal
 
-pub constant-v-requires : goal.constant-v-requires
-constant-v-requires c = let l = constant_there c.requires 0 (bx_of c.args.site.word) anything refl in let e = c.bx.ensures in omega (arith, e, l)
+pub value_numbered-v-requires : goal.value_numbered-v-requires
+value_numbered-v-requires c = let l = constant_there c.requires 0 (bx_of c.args.site.word) anything refl in let e = c.bx.ensures in omega (arith, e, l)
 
 pub put_value-requires : goal.put_value-requires
 put_value-requires c = record { there = register_there c.requires 0 (a_of c.args.site.word) refl; next = next_there c.requires refl }
 
 pub returns : goal.returns
-returns c = constant_does c.requires (ap (slice_get c.args.site.constants.now) (sym c.bx.ensures) ∙ c.constant-v.ensures) c.put_value.ensures.registers c.put_value.ensures.next
+returns c = constant_does c.requires (ap (slice_get c.args.site.constants.now) (sym c.bx.ensures) ∙ c.value_numbered-v.ensures) c.put_value.ensures.registers c.put_value.ensures.next
