@@ -1,6 +1,6 @@
 -- The object and the key of an instruction on a field are there, and what its row does with them.
 use Rattle.std.proofs.Common.{◌≡◌, ℕ, ◌+◌, ◌<◌, List, [], ◌∷◌, length, Option, Some, None, refl, ap, sym, ◌∙◌, Bool, true, false}
-use Rattle.std.specs.Prelude.{cond, IfSome, IsTrue, pos, slice_get, slice_set}
+use Rattle.std.specs.Prelude.{cond, not, is_some, IfSome, IsTrue, pos, slice_get, slice_set}
 use Rattle.code_core.specs.Fields.{anything, name}
 use Rattle.code_core.specs.Instruction.{a_of, b_of, c_of, k_of}
 use Rattle.code_core.specs.declared.instruction.Instruction.{Instruction}
@@ -16,21 +16,25 @@ use Rattle.table_core.specs.declared.value.Value.{Value as Kept}
 use Rattle.table_core.specs.declared.value.Value.TheVariants.{Int}
 use Rattle.machine_arms_tables.specs.Fields.{Settles, upvalue_in}
 use Rattle.machine_arms_tables.specs.Frame.{Code, LeadsOn}
-use Rattle.machine_arms_tables.specs.Named.{in_upvalue, key_at, key_in, key_number, key_of, names_field, object_number, object_of, reads_field, stores_field}
+use Rattle.machine_arms_tables.specs.Named.{Naming, naming_of, in_upvalue, key_at, key_in, key_number, key_of, names_field, object_number, object_of, reads_field, stores_field}
 use Rattle.machine_arms_tables.specs.declared.names.KeyIn.{KeyIn}
 use Rattle.machine_arms_tables.specs.declared.names.KeyIn.TheVariants.{Register, Constant}
 use Rattle.machine_arms_tables.proofs.FieldRows.{IsOperand, get_element_does, get_field_does, get_integer_does, get_upvalue_field_does, set_element_does, set_field_does, set_integer_does, set_upvalue_field_does}
 use Rattle.machine_arms_tables.proofs.Operands.{operand_constant, operand_register}
 
 pub read_names : (op : Opcode) → IsTrue (reads_field op) → IsTrue (names_field op)
-read_names op f = ap (λ b. cond b true (stores_field op)) f
-
-either : (b : Bool) (c : Bool) → c ≡ true → cond b true c ≡ true
-either true c e = refl
-either false c e = e
+read_names op f = by (naming_of op) f
+  where
+    by : (o : Option Naming) → elim o as (λ _. Bool) [ None ↦ false | Some n ↦ not n.stores ] ≡ true → is_some o ≡ true
+    by None f = f
+    by (Some n) f = refl
 
 pub store_names : (op : Opcode) → IsTrue (stores_field op) → IsTrue (names_field op)
-store_names op f = either (reads_field op) (stores_field op) f
+store_names op f = by (naming_of op) f
+  where
+    by : (o : Option Naming) → elim o as (λ _. Bool) [ None ↦ false | Some n ↦ n.stores ] ≡ true → is_some o ≡ true
+    by None f = f
+    by (Some n) f = refl
 
 -- the registers and the constants are there
 
@@ -42,15 +46,11 @@ module _ {w : Instruction} {ws : List Instruction} {ks r : List Kept} {pc : ℕ}
   object_there SetTable h f e = register_there h 0 (a_of w) refl
   object_there SetI h f e = register_there h 0 (a_of w) refl
   object_there SetField h f e = register_there h 0 (a_of w) refl
-  object_there GetTabUp h f e = absurd (cc)
-  object_there SetTabUp h f e = absurd (cc)
   object_there _ h f e = absurd (cc)
 
   pub key_register : (op : Opcode) → IsAt op w ws ks r pc → IsTrue (names_field op) → key_in op ≡ Register → key_number op w < length r
   key_register GetTable h f e = register_there h 2 (c_of w) refl
   key_register SetTable h f e = register_there h 1 (b_of w) refl
-  key_register GetI h f e = absurd (cc)
-  key_register SetI h f e = absurd (cc)
   key_register _ h f e = absurd (cc)
 
   pub key_constant : (op : Opcode) → IsAt op w ws ks r pc → IsTrue (names_field op) → key_in op ≡ Constant → key_number op w < length ks
@@ -58,10 +58,6 @@ module _ {w : Instruction} {ws : List Instruction} {ks r : List Kept} {pc : ℕ}
   key_constant GetField h f e = constant_there h 0 (c_of w) name refl
   key_constant SetTabUp h f e = constant_there h 0 (b_of w) name refl
   key_constant SetField h f e = constant_there h 0 (b_of w) name refl
-  key_constant GetTable h f e = absurd (cc)
-  key_constant SetTable h f e = absurd (cc)
-  key_constant GetI h f e = absurd (cc)
-  key_constant SetI h f e = absurd (cc)
   key_constant _ h f e = absurd (cc)
 
   pub read_target : (op : Opcode) → IsAt op w ws ks r pc → IsTrue (reads_field op) → a_of w < length r
@@ -71,19 +67,16 @@ module _ {w : Instruction} {ws : List Instruction} {ks r : List Kept} {pc : ℕ}
   read_target GetField h f = register_there h 0 (a_of w) refl
   read_target _ h f = absurd (cc)
 
-  pub read_next : (op : Opcode) → IsAt op w ws ks r pc → IsTrue (reads_field op) → pc + 1 < length ws
-  read_next GetTabUp h f = next_there h refl
-  read_next GetTable h f = next_there h refl
-  read_next GetI h f = next_there h refl
-  read_next GetField h f = next_there h refl
-  read_next _ h f = absurd (cc)
-
-  pub store_next : (op : Opcode) → IsAt op w ws ks r pc → IsTrue (stores_field op) → pc + 1 < length ws
-  store_next SetTabUp h f = next_there h refl
-  store_next SetTable h f = next_there h refl
-  store_next SetI h f = next_there h refl
-  store_next SetField h f = next_there h refl
-  store_next _ h f = absurd (cc)
+  pub field_next : (op : Opcode) → IsAt op w ws ks r pc → IsTrue (names_field op) → pc + 1 < length ws
+  field_next GetTabUp h f = next_there h refl
+  field_next GetTable h f = next_there h refl
+  field_next GetI h f = next_there h refl
+  field_next GetField h f = next_there h refl
+  field_next SetTabUp h f = next_there h refl
+  field_next SetTable h f = next_there h refl
+  field_next SetI h f = next_there h refl
+  field_next SetField h f = next_there h refl
+  field_next _ h f = absurd (cc)
 
   -- the value of a store
   pub store_constant : (op : Opcode) → IsAt op w ws ks r pc → IsTrue (stores_field op) → k_of w ≡ true → c_of w < length ks

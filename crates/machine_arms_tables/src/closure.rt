@@ -14,15 +14,6 @@ pub struct Closure<'a> {
     pub upvalues: &'a [CellId],
 }
 
-/// R[n].
-#[inline(always)]
-pub(crate) fn register(registers: &[Value], n: usize) -> Value
-    requires { n < length registers.now }
-    ensures { slice_get registers.now n ≡ Some result }
-{
-    registers[n]
-}
-
 /// R[n] := v.
 #[inline(always)]
 pub fn set_register(registers: &mut [Value], n: usize, v: Value)

@@ -1,23 +1,23 @@
 // Comparisons of two tables that no handler decides, and of two strings (Lua 5.4's lopcodes.h, EQ, LT and LE; Lua 5.4 manual, 3.4.4).
-ghost use Rattle.std.specs.Prelude.{◌≡◌, ◌<◌, List, IfSome, IsTrue, [], ◌∷◌, length};
+ghost use Rattle.std.specs.Prelude.{◌≡◌, ◌<◌, List, IfSome, IsTrue, None, [], ◌∷◌, length};
 ghost use Rattle.int_core.specs.Operations.{does, equal as is_equal};
+ghost use Rattle.lua_heap.specs.Plain.{heap};
 ghost use Rattle.lua_heap.specs.Reading.{value};
 ghost use Rattle.lua_heap.specs.declared.world.Cell.{Cell};
 ghost use Rattle.machine_arms_tables.specs.Fields.{Settles};
 ghost use Rattle.machine_arms_tables.specs.Leading.{Gets, IsSite};
 ghost use Rattle.machine_arms_tables.specs.Orders.{comparison, is_comparison, order_of};
-ghost use Rattle.meta_ops.specs.Heap.{IsThere, heap_of};
 ghost use Rattle.meta_ops.specs.Outcome.{settled};
-ghost use Rattle.table_core.specs.declared.value.Value.TheVariants.{Bool as Boolean, Str, Table as a_table};
+ghost use Rattle.table_core.specs.declared.value.Value.TheVariants.{Bool as Boolean, Str};
 
-use crate::closure::register;
+use crate::fields::table_of;
 use crate::site::Site;
 use code_core::Opcode;
 use lua_heap::Strings;
-use machine_arms_numbers::branch;
+use machine_arms_numbers::{branch, value_numbered};
 use meta_ops::{Heap, Outcome, equal, less, less_equal};
 use object_pool::Pool;
-use table_core::{StrId, Table, TableId, Value};
+use table_core::{StrId, Table, Value};
 
 /// EQ, LT and LE: R[A] == R[B], R[A] < R[B], R[A] <= R[B]. `None` where EQ finds one that is no table or calls a handler, and LT or LE one that is no string.
 #[inline(always)]
@@ -31,27 +31,21 @@ pub(crate) fn compare(
     requires form { IsTrue (is_comparison op) }
     ensures { IfSome result (λ to. (cells : List Cell) → Gets op site.entry tables.now.objects cells registers.now registers.now to) }
 {
-    let left = register(registers, site.word.a() as usize);
-    let right = register(registers, site.word.b() as usize);
-    let truth = compared(op, site.strings, tables, left, right)?;
+    let left = value_numbered(registers, site.word.a() as usize);
+    let right = value_numbered(registers, site.word.b() as usize);
+    let truth = compared(op, site, tables, left, right)?;
     let to = branch(site.closure.words, site.word, site.pc, truth);
     Some(to)
 }
 
 /// The truth of a comparison.
 #[inline(always)]
-fn compared(
-    op: Opcode,
-    strings: &Strings,
-    tables: &Pool<Table>,
-    left: Value,
-    right: Value,
-) -> Option<bool>
-    ensures { IfSome result (λ b. Settles strings.now (comparison op) (left ∷ right ∷ []) tables.now.objects tables.now.objects (Boolean b ∷ [])) }
+fn compared(op: Opcode, site: Site, tables: &Pool<Table>, left: Value, right: Value) -> Option<bool>
+    ensures { IfSome result (λ b. Settles site.entry.strings.now (comparison op) (left ∷ right ∷ []) tables.now.objects tables.now.objects (Boolean b ∷ [])) }
 {
     match op {
-        Opcode::Eq => are_equal(strings, tables, left, right),
-        _ => are_ordered(op, strings, tables, left, right),
+        Opcode::Eq => are_equal(site.strings, tables, left, right),
+        _ => are_ordered(op, site.strings, tables, left, right),
     }
 }
 
@@ -59,8 +53,8 @@ fn compared(
 fn are_equal(strings: &Strings, tables: &Pool<Table>, left: Value, right: Value) -> Option<bool>
     ensures { IfSome result (λ b. Settles strings.now is_equal (left ∷ right ∷ []) tables.now.objects tables.now.objects (Boolean b ∷ [])) }
 {
-    let m = table_in(left)?;
-    let n = table_in(right)?;
+    let m = table_of(tables, left)?;
+    let n = table_of(tables, right)?;
     let heap = Heap {
         tables,
         strings,
@@ -85,37 +79,27 @@ fn are_ordered(
 {
     let s = text_in(strings, left)?;
     let t = text_in(strings, right)?;
-    let heap = Heap {
-        tables,
-        strings,
-        string_meta: None,
-    };
-    match order(op, heap, Value::Str(s), Value::Str(t)) {
+    match order(op, strings, tables, s, t) {
         Outcome::Found(Value::Bool(truth)) => Some(truth),
         _ => None,
     }
 }
 
-/// What the order of an instruction comes to.
+/// What the order of an instruction comes to, of two strings.
 #[inline(always)]
-fn order(op: Opcode, heap: Heap, left: Value, right: Value) -> Outcome
-    requires left { IsThere heap left }
-    requires right { IsThere heap right }
-    ensures { does (order_of op) (value heap.entry.strings.now left ∷ value heap.entry.strings.now right ∷ []) (heap_of heap.entry) ≡ settled heap.entry.strings.now (heap_of heap.entry) (value heap.entry.strings.now right ∷ []) result }
+fn order(op: Opcode, strings: &Strings, tables: &Pool<Table>, s: StrId, t: StrId) -> Outcome
+    requires left { s.0 < length strings.now }
+    requires right { t.0 < length strings.now }
+    ensures { does (order_of op) (value strings.now (Str s) ∷ value strings.now (Str t) ∷ []) (heap strings.now tables.now.objects None) ≡ settled strings.now (heap strings.now tables.now.objects None) (value strings.now (Str t) ∷ []) result }
 {
+    let heap = Heap {
+        tables,
+        strings,
+        string_meta: None,
+    };
     match op {
-        Opcode::Lt => less(heap, left, right),
-        _ => less_equal(heap, left, right),
-    }
-}
-
-/// The table that a value is.
-fn table_in(v: Value) -> Option<TableId>
-    ensures { IfSome result (λ id. v ≡ a_table id) }
-{
-    match v {
-        Value::Table(id) => Some(id),
-        _ => None,
+        Opcode::Lt => less(heap, Value::Str(s), Value::Str(t)),
+        _ => less_equal(heap, Value::Str(s), Value::Str(t)),
     }
 }
 

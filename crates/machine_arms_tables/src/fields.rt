@@ -1,8 +1,9 @@
 // Fields that no handler decides (luaV_fastget of lvm.h; Lua 5.4 manual, 2.4).
-ghost use Rattle.std.specs.Prelude.{◌≡◌, ℕ, List, IfSome, IfNone, IsTrue, [], ◌∷◌, slice_get, Some, None, MatchOption, false};
+ghost use Rattle.std.specs.Prelude.{◌≡◌, ◌<◌, ℕ, List, IfSome, IfNone, IsTrue, [], ◌∷◌, length, slice_get, Some, None, MatchOption, false};
 ghost use Rattle.int_core.specs.Operations.{index, store};
 ghost use Rattle.int_core.specs.Rows.{get, set};
 ghost use Rattle.table_core.specs.Value.{lua_values};
+ghost use Rattle.table_core.specs.declared.value.Value.TheVariants.{Table as a_table};
 ghost use Rattle.machine_arms_tables.specs.Fields.{is_raw, field_in, field_at_once, takes, with_field, Settles};
 
 use lua_heap::law;
@@ -18,6 +19,18 @@ pub(crate) fn table_at(tables: &Pool<Table>, id: TableId) -> Option<&Table>
         Some(tables.get(id.0))
     } else {
         None
+    }
+}
+
+/// The table that a value is, where there is one.
+#[inline(always)]
+pub(crate) fn table_of(tables: &Pool<Table>, v: Value) -> Option<TableId>
+    ensures is { IfSome result (λ id. v ≡ a_table id) }
+    ensures there { IfSome result (λ id. id.0 < length tables.now.objects) }
+{
+    match v {
+        Value::Table(id) if id.0 < tables.len() => Some(id),
+        _ => None,
     }
 }
 
@@ -108,11 +121,6 @@ pub(crate) fn put_field(tables: &mut Pool<Table>, object: Value, key: Value, v: 
     ensures kept { IfNone result (tables.new ≡ tables.old) }
 {
     law::tables_are_read();
-    let Value::Table(id) = object else {
-        return None;
-    };
-    if id.0 >= tables.len() {
-        return None;
-    }
+    let id = table_of(tables, object)?;
     put(tables.get_mut(id.0), key, v)
 }

@@ -8,9 +8,9 @@ ghost use Rattle.machine_arms_tables.specs.Fields.{Settles};
 ghost use Rattle.machine_arms_tables.specs.Leading.{IsSite, MayGet};
 ghost use Rattle.table_core.specs.declared.value.Value.TheVariants.{Int};
 
-use crate::closure::register;
 use crate::site::Site;
 use lua_heap::{Strings, law};
+use machine_arms_numbers::value_numbered;
 use object_pool::Pool;
 use table_core::{Table, Value};
 
@@ -45,7 +45,7 @@ pub(crate) fn get_length(site: Site, tables: &Pool<Table>, registers: &mut [Valu
     requires { IsSite Len site registers.old }
     ensures { MayGet Len site.entry tables.now.objects registers.old registers.new result }
 {
-    let v = register(registers, site.word.b() as usize);
+    let v = value_numbered(registers, site.word.b() as usize);
     let n = length_of(site.strings, tables, v)?;
     Some(site.store(registers, Value::Int(n)))
 }

@@ -1,13 +1,14 @@
 // The object and the key that an instruction on a field names (Lua 5.4's lopcodes.h, GETTABUP to SETFIELD).
-ghost use Rattle.std.specs.Prelude.{◌≡◌, IfSome, IsTrue, Some};
-ghost use Rattle.machine_arms_tables.specs.Leading.{IsSite, code_at};
-ghost use Rattle.machine_arms_tables.specs.Named.{in_upvalue, key_in, key_number, key_of, names_field, object_number, object_of, stores_field};
+ghost use Rattle.std.specs.Prelude.{◌≡◌, IfSome, Some};
+ghost use Rattle.machine_arms_tables.specs.Leading.{code_at};
+ghost use Rattle.machine_arms_tables.specs.Named.{IsOnField, in_upvalue, key_in, key_number, key_of, object_number, object_of, stores_field};
 
-use crate::closure::{register, spelled};
+use crate::closure::spelled;
 use crate::site::Site;
 use crate::upvalues::upvalue;
 use code_core::{Instruction, Opcode};
 use lua_heap::Cell;
+use machine_arms_numbers::value_numbered;
 use object_pool::Pool;
 use table_core::Value;
 
@@ -27,28 +28,26 @@ pub(crate) fn object_of(
     cells: &Pool<Cell>,
     registers: &[Value],
 ) -> Option<Value>
-    requires at { IsSite op site registers.now }
-    requires form { IsTrue (names_field op) }
+    requires { IsOnField op site registers.now }
     ensures { IfSome result (λ v. object_of op (code_at site.entry) cells.now.objects registers.now site.entry.word ≡ Some v) }
 {
     let n = object_number(op, site.word);
     if in_upvalue(op) {
         return upvalue(cells, site.closure.upvalues, n);
     }
-    Some(register(registers, n as usize))
+    Some(value_numbered(registers, n as usize))
 }
 
 /// The key.
 #[inline(always)]
 pub(crate) fn key_of(op: Opcode, site: Site, registers: &[Value]) -> Value
-    requires at { IsSite op site registers.now }
-    requires form { IsTrue (names_field op) }
+    requires { IsOnField op site registers.now }
     ensures { key_of op (code_at site.entry) registers.now site.entry.word ≡ Some result }
 {
     let n = key_number(op, site.word);
     let place = key_in(op);
     match place {
-        KeyIn::Register => register(registers, n as usize),
+        KeyIn::Register => value_numbered(registers, n as usize),
         KeyIn::Constant => site.closure.constant(n as usize),
         KeyIn::Number => spelled(n),
     }

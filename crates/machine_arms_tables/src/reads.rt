@@ -4,12 +4,13 @@ ghost use Rattle.code_core.specs.declared.opcode.Opcode.TheVariants.{OpSelf};
 ghost use Rattle.machine_arms_tables.specs.Leading.{IsSite, MayGet, MayGetAt};
 ghost use Rattle.machine_arms_tables.specs.Named.{reads_field};
 
-use crate::closure::{register, set_register};
+use crate::closure::set_register;
 use crate::inherited::{Reach, field_within};
 use crate::names::{key_of, object_of};
 use crate::site::Site;
 use code_core::Opcode;
 use lua_heap::Cell;
+use machine_arms_numbers::value_numbered;
 use object_pool::Pool;
 use table_core::{Table, Value};
 
@@ -44,7 +45,7 @@ pub(crate) fn get_method(
     requires { IsSite OpSelf site registers.old }
     ensures { MayGet OpSelf site.entry tables.now.objects registers.old registers.new result }
 {
-    let object = register(registers, site.word.b() as usize);
+    let object = value_numbered(registers, site.word.b() as usize);
     let key = site.closure.operand(registers, site.word);
     let v = field_within(site.strings, tables, object, key, reach)?;
     let a = site.word.a() as usize;

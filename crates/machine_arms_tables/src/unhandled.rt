@@ -4,7 +4,7 @@ ghost use Rattle.int_core.specs.Operations.{store};
 ghost use Rattle.machine_arms_tables.specs.Fields.{LacksHandler, Settles, with_field};
 ghost use Rattle.table_core.specs.Value.{is_nil};
 
-use crate::fields::put_field;
+use crate::fields::{put_field, table_of};
 use crate::inherited::Reach;
 use lua_heap::{Strings, law};
 use meta_ops::{Event, Heap, handler_in};
@@ -46,12 +46,7 @@ fn put_unhandled(
     ensures kept { IfNone result (tables.new ≡ tables.old) }
 {
     law::tables_are_read();
-    let Value::Table(id) = object else {
-        return None;
-    };
-    if id.0 >= tables.len() {
-        return None;
-    }
+    let id = table_of(tables, object)?;
     if !lacks_handler(strings, tables, id) {
         return None;
     }

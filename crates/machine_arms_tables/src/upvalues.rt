@@ -6,9 +6,9 @@ ghost use Rattle.machine_arms_tables.specs.Frame.{LeadsOn, code};
 ghost use Rattle.machine_arms_tables.specs.Leading.{IsSite};
 ghost use Rattle.table_core.specs.Table.{Contents};
 
-use crate::closure::register;
 use crate::site::Site;
 use lua_heap::Cell;
+use machine_arms_numbers::value_numbered;
 use object_pool::Pool;
 use table_core::{CellId, Value};
 
@@ -79,7 +79,7 @@ pub(crate) fn set_upvalue(site: Site, cells: &mut Pool<Cell>, registers: &[Value
     ensures goes { IfSome result (λ to. (texts : List (List ℕ)) (tables : List Contents) → LeadsOn SetUpval site.entry.word (code site.entry.closure texts) site.entry.pc to tables tables cells.old.objects cells.new.objects registers.now registers.now) }
     ensures kept { IfNone result (cells.new ≡ cells.old) }
 {
-    let v = register(registers, site.word.a() as usize);
+    let v = value_numbered(registers, site.word.a() as usize);
     put_upvalue(cells, site.closure.upvalues, site.word.b(), v)?;
     Some(site.closure.next(site.pc))
 }

@@ -8,8 +8,8 @@ use Rattle.machine_arms_tables.proofs.FieldRows.{length_does}
 use Rattle.machine_arms_tables.proofs.Leading.{below, got}
 use Rattle.machine_arms_tables.proofs.lengths.get_length.Goals as goal
 
-pub register-v-requires : goal.register-v-requires
-register-v-requires c = below c.b.ensures (register_there c.requires 1 (b_of c.args.site.word) refl)
+pub value_numbered-v-requires : goal.value_numbered-v-requires
+value_numbered-v-requires c = below c.b.ensures (register_there c.requires 1 (b_of c.args.site.word) refl)
 
 pub store-requires : goal.store-requires
 store-requires c = record { there = register_there c.requires 0 (a_of c.args.site.word) refl; next = next_there c.requires refl }
@@ -18,6 +18,6 @@ pub returns : goal.returns
 returns c cells =
     let m : to_z w64 (of_z w64 c.in_ok-n.n) ≡ c.in_ok-n.n = search rules in
     record {
-      leads = length_does (code_at c.args.site) c.requires (got c.args.registers.now c.b.ensures c.register-v.ensures) c.in_ok-n.ensures
+      leads = length_does (code_at c.args.site) c.requires (got c.args.registers.now c.b.ensures c.value_numbered-v.ensures) c.in_ok-n.ensures
           (c.store.ensures.registers ∙ ap (λ n. slice_set c.args.registers.now (a_of c.args.site.word) (Int n)) m) c.store.ensures.next cells;
     }

@@ -8,9 +8,9 @@ pub returns-then-in_upvalue : goal.returns-then-in_upvalue
 returns-then-in_upvalue c =
     object_in_upvalue (code_at c.args.site) c.args.op c.args.site.word c.args.cells.now.objects c.args.registers.now c.upvalue.result (sym c.in_upvalue.ensures ∙ c.if-in_upvalue.true) c.object_number-n.ensures c.upvalue.ensures
 
-pub register-requires : goal.register-requires
-register-requires c = below c.object_number-n.ensures (object_there c.args.op c.requires.at c.requires.form (sym c.in_upvalue.ensures ∙ c.if-in_upvalue.false))
+pub value_numbered-requires : goal.value_numbered-requires
+value_numbered-requires c = below c.object_number-n.ensures (object_there c.args.op c.requires.at c.requires.form (sym c.in_upvalue.ensures ∙ c.if-in_upvalue.false))
 
 pub returns : goal.returns
 returns c =
-    object_in_register (code_at c.args.site) c.args.op c.args.site.word c.args.cells.now.objects c.args.registers.now (sym c.in_upvalue.ensures ∙ c.if-in_upvalue.false) (got c.args.registers.now c.object_number-n.ensures c.register.ensures)
+    object_in_register (code_at c.args.site) c.args.op c.args.site.word c.args.cells.now.objects c.args.registers.now (sym c.in_upvalue.ensures ∙ c.if-in_upvalue.false) (got c.args.registers.now c.object_number-n.ensures c.value_numbered.ensures)

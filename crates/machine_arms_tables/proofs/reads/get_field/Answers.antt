@@ -1,5 +1,5 @@
 use Rattle.machine_arms_tables.specs.Leading.{code_at}
-use Rattle.machine_arms_tables.proofs.FieldNames.{get_does, read_names, read_next, read_target}
+use Rattle.machine_arms_tables.proofs.FieldNames.{get_does, read_names, field_next, read_target}
 use Rattle.machine_arms_tables.proofs.reads.get_field.Goals as goal
 
 pub object_of-requires : goal.object_of-requires
@@ -9,7 +9,7 @@ pub key_of-key-requires : goal.key_of-key-requires
 key_of-key-requires c = record { at = c.requires.at; form = read_names c.args.op c.requires.form }
 
 pub store-requires : goal.store-requires
-store-requires c = record { there = read_target c.args.op c.requires.at c.requires.form; next = read_next c.args.op c.requires.at c.requires.form }
+store-requires c = record { there = read_target c.args.op c.requires.at c.requires.form; next = field_next c.args.op c.requires.at (read_names c.args.op c.requires.form) }
 
 pub returns : goal.returns
 returns c =

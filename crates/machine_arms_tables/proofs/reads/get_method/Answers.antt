@@ -10,8 +10,8 @@ use Rattle.machine_arms_tables.proofs.Leading.{below, got}
 use Rattle.machine_arms_tables.proofs.Operands.{operand_constant, operand_register}
 use Rattle.machine_arms_tables.proofs.reads.get_method.Goals as goal
 
-pub register-object-requires : goal.register-object-requires
-register-object-requires c = below c.b.ensures (register_there c.requires 1 (b_of c.args.site.word) refl)
+pub value_numbered-object-requires : goal.value_numbered-object-requires
+value_numbered-object-requires c = below c.b.ensures (register_there c.requires 1 (b_of c.args.site.word) refl)
 
 pub operand-key-requires : goal.operand-key-requires
 operand-key-requires c =
@@ -32,6 +32,6 @@ next-requires c = next_there c.requires refl
 pub returns : goal.returns
 returns c cells = record {
   leads =
-      self_does (code_at c.args.site) c.requires (got c.args.registers.now c.b.ensures c.register-object.ensures) c.operand-key.ensures c.in_ok-v.ensures
-      (c.set_register-2.ensures ∙ ap (λ r. slice_set r c.a-a.result c.in_ok-v.v) c.set_register.ensures ∙ ap (λ a. slice_set (slice_set c.args.registers.now (a + 1) c.register-object.result) a c.in_ok-v.v) c.a-a.ensures) c.next.ensures cells;
+      self_does (code_at c.args.site) c.requires (got c.args.registers.now c.b.ensures c.value_numbered-object.ensures) c.operand-key.ensures c.in_ok-v.ensures
+      (c.set_register-2.ensures ∙ ap (λ r. slice_set r c.a-a.result c.in_ok-v.v) c.set_register.ensures ∙ ap (λ a. slice_set (slice_set c.args.registers.now (a + 1) c.value_numbered-object.result) a c.in_ok-v.v) c.a-a.ensures) c.next.ensures cells;
 }

@@ -1,5 +1,5 @@
 use Rattle.machine_arms_tables.specs.Leading.{code_at}
-use Rattle.machine_arms_tables.proofs.FieldNames.{set_does, store_constant, store_names, store_next, store_register}
+use Rattle.machine_arms_tables.proofs.FieldNames.{set_does, store_constant, store_names, field_next, store_register}
 use Rattle.machine_arms_tables.proofs.writes.set_field.Goals as goal
 
 pub returns : goal.returns
@@ -16,4 +16,4 @@ pub operand-v-requires : goal.operand-v-requires
 operand-v-requires c = record { constant = store_constant c.args.op c.requires.at c.requires.form; register = store_register c.args.op c.requires.at c.requires.form }
 
 pub next-requires : goal.next-requires
-next-requires c = store_next c.args.op c.requires.at c.requires.form
+next-requires c = field_next c.args.op c.requires.at (store_names c.args.op c.requires.form)
