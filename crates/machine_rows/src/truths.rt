@@ -44,7 +44,7 @@ pub fn negate(world: &mut World, pc: usize, from: usize, to: usize)
     ensures leads { (p : Prototype) → Leads (expand (text_of p pc (Negate from to))) [] world.old world.new go }
     ensures order { InOrder world.new }
 {
-    let v = read_register(world, from);
-    write_register(world, to, Value::Bool(!is_truthy(v)));
+    let truth = is_truthy(read_register(world, from));
+    write_register(world, to, Value::Bool(!truth));
     go_to(world, behind(pc, false));
 }
