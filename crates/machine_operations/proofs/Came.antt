@@ -31,6 +31,7 @@ use Rattle.machine_calls.specs.declared.preparing.Prepared.TheVariants.{Nothing}
 use Rattle.machine_calls.specs.Preparing.{CanPrepare}
 use Rattle.machine_calls.specs.Waiting.{AsksSo, CallsSo, IsNamed as IsCalled, MayCall}
 use Rattle.machine_operations.specs.declared.joining.Joined.{Joined}
+use Rattle.machine_operations.specs.declared.joining.Asked.{Asked}
 use Rattle.machine_operations.specs.declared.joining.Joined.TheVariants.{Whole, Asks, Fails}
 use Rattle.machine_operations.specs.Following.{Keeps, MayGo, MayKeep}
 use Rattle.machine_operations.specs.Joining.{AreValid, first_or_nil, IsNamed, Joins, MayJoin, Names, rest_row, row_of, told_for}
@@ -107,17 +108,17 @@ module _ {when : When} {W V : Memory} {r : Row} {env : List Value} {first : ℕ}
       let m = subst (λ text. Leads (raises text) c.more V new ending) t (l c.more) in
       record { is = λ fuel. c.is fuel ∙ m.is fuel }
 
-  asks_names : {handler left right : Kept} {below : ℕ} (c : ComesFrom when W V r env first (Asks handler left right below))
-      → IsCalled V c.more (read c.slot) (suc c.slot) (for_concat below) (read 0) handler (left ∷ right ∷ []) (ForConcat below) Nothing
+  asks_names : {a : Asked} (c : ComesFrom when W V r env first (Asks a))
+      → IsCalled V c.more (read c.slot) (suc c.slot) (for_concat a.below) (read 0) a.handler (a.left ∷ a.right ∷ []) (ForConcat a.below) Nothing
   asks_names c = record { calls = c.named.0; gives = c.named.1; waits = refl; copies = tt }
 
-module _ {W V : Memory} {r : Row} {env : List Value} {first : ℕ} {handler left right : Kept} {below : ℕ} where
-  pub calls_may : ComesFrom at_once W V r env first (Asks handler left right below) → IsSafe r env W → MayCall V handler (left ∷ right ∷ []) (ForConcat below) Nothing
+module _ {W V : Memory} {r : Row} {env : List Value} {first : ℕ} {a : Asked} where
+  pub calls_may : ComesFrom at_once W V r env first (Asks a) → IsSafe r env W → MayCall V a.handler (a.left ∷ a.right ∷ []) (ForConcat a.below) Nothing
   calls_may c s = record {
     env = c.more;
     f = read c.slot;
     slot = suc c.slot;
-    w = for_concat below;
+    w = for_concat a.below;
     x = read 0;
     names = asks_names c;
     safe = record { never = λ fuel e. s.never fuel (c.is fuel ∙ e) };
@@ -125,13 +126,13 @@ module _ {W V : Memory} {r : Row} {env : List Value} {first : ℕ} {handler left
     held = tt;
   }
 
-  pub calls_steps : {new : Memory} {fuel rest : ℕ} {ending : Ending} → ComesFrom at_once W V r env first (Asks handler left right below) → ReadsSame W V
-      → CallsSo V new fuel rest handler (left ∷ right ∷ []) (ForConcat below) Nothing ending → Steps r env W fuel new rest ending
-  calls_steps {fuel = fuel} c same k = steps_from same (c.is fuel) (k.steps c.more (read c.slot) (suc c.slot) (for_concat below) (read 0) (asks_names c))
+  pub calls_steps : {new : Memory} {fuel rest : ℕ} {ending : Ending} → ComesFrom at_once W V r env first (Asks a) → ReadsSame W V
+      → CallsSo V new fuel rest a.handler (a.left ∷ a.right ∷ []) (ForConcat a.below) Nothing ending → Steps r env W fuel new rest ending
+  calls_steps {fuel = fuel} c same k = steps_from same (c.is fuel) (k.steps c.more (read c.slot) (suc c.slot) (for_concat a.below) (read 0) (asks_names c))
 
-  pub asks_leads : {new : Memory} {ending : Ending} → ComesFrom by_asking W V r env first (Asks handler left right below) → AsksSo V new handler (left ∷ right ∷ []) (ForConcat below) Nothing ending → Leads r env W new ending
+  pub asks_leads : {new : Memory} {ending : Ending} → ComesFrom by_asking W V r env first (Asks a) → AsksSo V new a.handler (a.left ∷ a.right ∷ []) (ForConcat a.below) Nothing ending → Leads r env W new ending
   asks_leads c k =
-      let l = k.leads c.more (read c.slot) (suc c.slot) (for_concat below) (read 0) (asks_names c) in
+      let l = k.leads c.more (read c.slot) (suc c.slot) (for_concat a.below) (read 0) (asks_names c) in
       record { is = λ fuel. c.is fuel ∙ l.is fuel }
 
 -- an error is raised at no cost

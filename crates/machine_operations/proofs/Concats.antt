@@ -1,6 +1,7 @@
 -- A concatenation that is settled in memory: what is found is a string, and the world stands for the same.
 use Rattle.std.proofs.Common.{◌≡◌, ℕ, ◌≤◌, List, [], ◌∷◌, ◌++◌, length, Option, Some, None, refl, ap, sym, subst, ◌∙◌, Bool, true, false, Result, Ok, Err, IfOk, OnOk, OnErr}
 use Rattle.std.specs.Prelude.{cond, codes, nat_le}
+use Rattle.std.proofs.lemmas.Result.{IfOk-weaker}
 use Rattle.int_core.specs.Heap.{Heap}
 use Rattle.int_core.specs.Operations.{found, ask, fault, asked, joined, concat, concat_on, does, text_of}
 use Rattle.int_core.specs.Value.{greatest_string, string, Value, known, nth}
@@ -59,13 +60,13 @@ module _ (texts : List (List ℕ)) (tables : List Contents) (H K : Heap) (more :
   abbrev here : Sizes
   here = record { primitives = 0; tables = length tables; functions = []; cells = 0; coroutines = 0 }
 
-  pub found_there : OperandsAreThere → (o : Outcome) → concat_on H a b l r ≡ settled texts K more o → (v : Kept) → o ≡ Found v → IsIn texts tables v
+  found_there : OperandsAreThere → (o : Outcome) → concat_on H a b l r ≡ settled texts K more o → (v : Kept) → o ≡ Found v → IsIn texts tables v
   found_there law o d v e =
       let t = concat_found H K a b l r (value texts v ∷ []) (d ∙ ap (settled texts K more) e) in
       let is : value texts v ≡ known (string t.text) = ap (λ vs. nth vs 0) t.is in
       law here texts tables v refl (subst (Valid here) (sym is) t.short)
 
-  pub not_done : (o : Outcome) → concat_on H a b l r ≡ settled texts K more o → is_done o ≡ false
+  not_done : (o : Outcome) → concat_on H a b l r ≡ settled texts K more o → is_done o ≡ false
   not_done (Found v) d = refl
   not_done Done d = absurd (let t = concat_found H K a b l r [] d in let e = t.is in cc)
   not_done (Ask handler first) d = refl
@@ -85,7 +86,7 @@ asked_same texts H (Some s) (Some t) l r h arguments e = absurd (none_asked H (s
 asked_same texts H (Some s) None l r h arguments e = refl
 asked_same texts H None b l r h arguments e = refl
 
-pub ok_both : {B E : Type 0} {P R : B → Type 0} {Q : Type 0} (r : Result B E) → IfOk r P → OnOk r Q → ((b : B) → P b → Q → R b) → IfOk r R
+ok_both : {B E : Type 0} {P R : B → Type 0} {Q : Type 0} (r : Result B E) → IfOk r P → OnOk r Q → ((b : B) → P b → Q → R b) → IfOk r R
 ok_both (Ok b) p q f = f b p q
 ok_both (Err e) p q f = tt
 
@@ -110,7 +111,7 @@ joined_same old None b new h e = (record { is = λ fuel. ap (λ W. plain W fuel)
 abbrev pub with_strings : Memory → List (List ℕ) → Memory
 with_strings old texts = record old { strings = texts }
 
-pub concat_same : {B E : Type 0} (r : Result B E) (old : Memory) (texts : List (List ℕ)) (a b : Option (List ℕ)) → IsSound old → OnOk r (texts ≡ with_joined old.strings a b) → OnErr r (texts ≡ old.strings)
+concat_same : {B E : Type 0} (r : Result B E) (old : Memory) (texts : List (List ℕ)) (a b : Option (List ℕ)) → IsSound old → OnOk r (texts ≡ with_joined old.strings a b) → OnErr r (texts ≡ old.strings)
     → ReadsSame old (with_strings old texts) × IsSound (with_strings old texts)
 concat_same (Ok x) old texts a b s e f = joined_same old a b (with_strings old texts) s (ap (with_strings old) e)
 concat_same (Err x) old texts a b s e f = (record { is = λ fuel. ap (λ texts. plain (with_strings old texts) fuel) f }, subst IsSound (sym (ap (with_strings old) f)) s)
@@ -123,7 +124,7 @@ settled_same V p texts more Done = refl
 settled_same V p texts more (Ask handler first) = refl
 settled_same V p texts more (Fault cause) = refl
 
-pub concats : (old new : Memory) (left right : Kept) (o : Outcome) → HasFrame old → ReadsSame old new
+concats : (old new : Memory) (left right : Kept) (o : Outcome) → HasFrame old → ReadsSame old new
     → concat_on (heap_in old.strings old.tables.objects old.string_meta) (text_of (value old.strings left)) (text_of (value old.strings right)) (value old.strings left) (value old.strings right)
     ≡ settled new.strings (heap_in old.strings old.tables.objects old.string_meta) (value old.strings right ∷ []) o
     → new.strings ≡ with_joined old.strings (text_of (value old.strings left)) (text_of (value old.strings right))
@@ -146,3 +147,32 @@ concats old new left right o h r d w t = record {
       let H = heap_in old.strings old.tables.objects old.string_meta in
       w ∙ asked_same old.strings H (text_of l) (text_of r) l r (value new.strings handler) (value new.strings object ∷ r ∷ []) (d ∙ ap (settled new.strings H (r ∷ [])) e);
 }
+
+-- an operand before what has been joined, in the world that a concatenation leaves
+
+module _ {E : Type 0} (W : Memory) (texts : List (List ℕ)) (left right : Kept) (result : Result Outcome E) where
+  abbrev l : Value
+  l = value W.strings left
+
+  abbrev r : Value
+  r = value W.strings right
+
+  abbrev H : Heap
+  H = heap_in W.strings W.tables.objects W.string_meta
+
+  abbrev Does : Outcome → Type 0
+  Does o = concat_on H (text_of l) (text_of r) l r ≡ settled texts H (r ∷ []) o
+
+  abbrev Adds : Type 0
+  Adds = texts ≡ with_joined W.strings (text_of l) (text_of r)
+
+  pub joins_so : HasFrame W → IsSound W → OperandsAreThere → IfOk result Does → OnOk result Adds → OnErr result (texts ≡ W.strings) → IfOk result (λ o. Concats W (with_strings W texts) left right o)
+  joins_so h s law does adds err =
+      let same = concat_same result W texts (text_of l) (text_of r) s adds err in
+      ok_both result does adds (λ o d w. concats W (with_strings W texts) left right o h same.0 d w (found_there texts W.tables.objects H H (r ∷ []) (text_of l) (text_of r) l r law o d))
+
+  pub ends_there : IfOk result Does → IfOk result (λ o. is_done o ≡ false)
+  ends_there does = IfOk-weaker result _ _ (λ o d. not_done texts W.tables.objects H H (r ∷ []) (text_of l) (text_of r) l r o d) does
+
+  pub stays_so : IsSound W → OnOk result Adds → OnErr result (texts ≡ W.strings) → ReadsSame W (with_strings W texts) × IsSound (with_strings W texts)
+  stays_so s adds err = concat_same result W texts (text_of l) (text_of r) s adds err

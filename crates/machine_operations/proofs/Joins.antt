@@ -146,7 +146,7 @@ module _ {old now new : Memory} {first count below : ℕ} {last whole : Kept} (j
 
   -- a handler is asked for
   module _ (handler object : Kept) (k : JoinsOne now new (first + below) whole (Ask handler object)) where
-    asks_so : (when : When) (env : List Value) → Names old first count env last → ComesTo when old new first count env (Asks handler object whole below)
+    asks_so : (when : When) (env : List Value) → Names old first count env last → ComesTo when old new first count env (Asks (record { handler = handler; left = object; right = whole; below = below }))
     asks_so when env n =
         let g = j.goes when env n in
         let e = g.more ++ value now.strings k.operand ∷ [] in
@@ -161,7 +161,7 @@ module _ {old now new : Memory} {first count below : ℕ} {last whole : Kept} (j
           is = λ fuel. g.is fuel ∙ one_step when now new first below whole (Ask handler object) k g.more g.named fuel;
         }
 
-    pub asks_joins : Joins old new first count last (Asks handler object whole below)
+    pub asks_joins : Joins old new first count last (Asks (record { handler = handler; left = object; right = whole; below = below }))
     asks_joins = record { comes = asks_so }
 
   -- an operand is at fault

@@ -8,6 +8,7 @@ pub mod Settled
 pub mod Integers
 pub mod Receivers
 pub mod Operated
+pub mod Outcomes
 pub mod Came
 pub mod Awake
 pub mod Wholes

@@ -59,12 +59,12 @@ pub record CanJoin (W : Memory) (first count : ℕ) (v : Kept) : Type 0 where
 -- what is then done
 abbrev pub row_of : When → List (List ℕ) → (first slot : ℕ) → Joined → Row
 row_of when texts first slot (Whole v) = expand_by when (to_register first (read 0))
-row_of when texts first slot (Asks handler left right below) = calls_row when (read slot) (suc slot) (for_concat below) []
+row_of when texts first slot (Asks a) = calls_row when (read slot) (suc slot) (for_concat a.below) []
 row_of when texts first slot (Fails cause) = raises (fault_text texts cause)
 
 abbrev pub IsNamed : List (List ℕ) → List Value → ℕ → Joined → Type 0
 IsNamed texts env slot (Whole v) = arg env (read 0) ≡ value texts v
-IsNamed texts env slot (Asks handler left right below) = (arg env (read slot) ≡ value texts handler) × (drop (suc slot) env ≡ value texts left ∷ value texts right ∷ [])
+IsNamed texts env slot (Asks a) = (arg env (read slot) ≡ value texts a.handler) × (drop (suc slot) env ≡ value texts a.left ∷ value texts a.right ∷ [])
 IsNamed texts env slot (Fails cause) = Unit {0}
 
 -- the row of these operands comes to that
@@ -80,7 +80,7 @@ pub record Joins (old new : Memory) (first count : ℕ) (last : Kept) (joined : 
 -- a whole is a value that is there
 abbrev pub IsThere : Memory → Joined → Type 0
 IsThere W (Whole v) = IsIn W.strings W.tables.objects v
-IsThere W (Asks handler left right below) = Unit {0}
+IsThere W (Asks a) = Unit {0}
 IsThere W (Fails cause) = Unit {0}
 
 -- a frame goes on with what came for a concatenation of which so many operands are left: the first value, or nil

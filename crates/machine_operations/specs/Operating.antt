@@ -1,5 +1,5 @@
 -- What becomes of an operation that is not asked of a handler.
-use Rattle.std.specs.Prelude.{◌≡◌, ℕ, List, Option, Some, drop}
+use Rattle.std.specs.Prelude.{◌≡◌, ◌<◌, ◌+◌, ◌^◌, ℕ, List, Option, Some, drop}
 use Rattle.int_core.specs.Value.{Value}
 use Rattle.machine_core.specs.World.{Place, place_of}
 use Rattle.machine_core.specs.Text.{Arg, arg, read}
@@ -9,6 +9,7 @@ use Rattle.table_core.specs.declared.value.Value.{Value as Kept}
 use Rattle.lua_stack.specs.declared.frame.Wait.{Wait}
 use Rattle.lua_stack.specs.declared.frame.Wait.TheVariants.{ForValue, ForTruth, Dropped}
 use Rattle.lua_heap.specs.declared.world.World.{World as Memory}
+use Rattle.lua_heap.specs.Errors.{HasText}
 use Rattle.lua_heap.specs.Plain.{plain}
 use Rattle.lua_heap.specs.Reading.{value}
 use Rattle.instruction_forms.specs.declared.form.After.{After}
@@ -16,8 +17,9 @@ use Rattle.instruction_forms.specs.declared.form.After.TheVariants.{ToRegister, 
 use Rattle.instruction_forms.specs.Forms.{follows}
 use Rattle.meta_ops.specs.declared.fault.Fault.{Fault}
 use Rattle.meta_ops.specs.Outcome.{fault_text}
-use Rattle.move_laws.specs.Memory.{IsSafe, Leads}
-use Rattle.machine_operations.specs.Copying.{moves_for}
+use Rattle.move_laws.specs.Memory.{InOrder, IsSafe, IsSound, Leads, StandsAt}
+use Rattle.machine_errors.specs.Raising.{CanLeave}
+use Rattle.machine_operations.specs.Copying.{CanCopy, moves_for}
 
 -- for what a frame waits while a handler is called
 abbrev pub wait_kept : After → Wait
@@ -39,6 +41,22 @@ pub record MayEnd (W : Memory) (pc : ℕ) (also : Option ℕ) (first : Kept) (af
   pub slot : ℕ
   pub names : AreNamed W env x slot first v
   pub safe : IsSafe (prepares (moves_for also x) (only slot (expand (follows place.function.code pc after)))) env W
+
+-- the frame may go on with the value of an operation, once the first operand is copied
+pub record CanEnd (W : Memory) (pc : ℕ) (also : Option ℕ) (first : Kept) (after : After) (v : Kept) : Type 0 where
+  pub order : InOrder W
+  pub whole : CanLeave W
+  pub at : StandsAt W pc
+  pub room : pc + 2 < 2 ^ 64
+  pub copy : CanCopy W also
+  pub safe : MayEnd W pc also first after v
+
+-- or be left with an error
+pub record CanFail (W : Memory) (also : Option ℕ) (first : Kept) : Type 0 where
+  pub sound : IsSound W
+  pub whole : CanLeave W
+  pub copy : CanCopy W also
+  pub held : HasText W.strings first
 
 pub record EndsSo (old new : Memory) (pc : ℕ) (also : Option ℕ) (first : Kept) (after : After) (v : Kept) (ending : Ending) : Type 0 where
   pub leads : (place : Place) → place_of (plain old 0) ≡ Some place → (env : List Value) (x : Arg) (slot : ℕ) → AreNamed old env x slot first v

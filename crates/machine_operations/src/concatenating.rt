@@ -47,15 +47,16 @@ pub fn concatenate(
             keep(world, pc, first, v);
             Ok(Ending::Go)
         }
-        Joined::Asks {
-            handler,
-            left,
-            right,
-            below,
-        } => {
-            let operands = put_in_front(world.alloc, &[left], &[right])?;
-            let wait = Wait::ForConcat(below);
-            call_over(world, budget, handler, operands, wait, Prepared::Nothing)
+        Joined::Asks(asked) => {
+            let operands = put_in_front(world.alloc, &[asked.left], &[asked.right])?;
+            call_over(
+                world,
+                budget,
+                asked.handler,
+                operands,
+                Wait::ForConcat(asked.below),
+                Prepared::Nothing,
+            )
         }
         Joined::Fails(fault) => {
             let text = fault.text(world.alloc)?;
@@ -88,15 +89,10 @@ pub fn join_on(
             keep(world, pc, first, v);
             Ok(Ending::Go)
         }
-        Joined::Asks {
-            handler,
-            left,
-            right,
-            below,
-        } => {
-            let operands = put_in_front(world.alloc, &[left], &[right])?;
-            let wait = Wait::ForConcat(below);
-            ask_over(world, handler, operands, wait, Prepared::Nothing)
+        Joined::Asks(asked) => {
+            let operands = put_in_front(world.alloc, &[asked.left], &[asked.right])?;
+            let wait = Wait::ForConcat(asked.below);
+            ask_over(world, asked.handler, operands, wait, Prepared::Nothing)
         }
         Joined::Fails(fault) => {
             let text = fault.text(world.alloc)?;

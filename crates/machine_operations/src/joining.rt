@@ -15,14 +15,18 @@ use table_core::Value;
 pub enum Joined {
     /// They are all in this value.
     Whole(Value),
-    /// A handler is to be called with two of them, and so many are left in front.
-    Asks {
-        handler: Value,
-        left: Value,
-        right: Value,
-        below: usize,
-    },
+    /// A handler is to be called.
+    Asks(Asked),
     Fails(Fault),
+}
+
+/// A handler that is to be called with two of the operands, and how many are left in front of them.
+#[derive(Debug, Clone, Copy, PartialEq, Eq)]
+pub struct Asked {
+    pub handler: Value,
+    pub left: Value,
+    pub right: Value,
+    pub below: usize,
 }
 
 /// Joins so many operands, in registers from `first` on, to what stands behind them, from the last one on and as far as no handler is asked for. Where all have
@@ -58,12 +62,12 @@ fn join_in_turn(world: &mut World, first: usize, count: usize, last: Value) -> A
                 left = below;
             }
             Outcome::Ask { handler, first } => {
-                return Ok(Joined::Asks {
+                return Ok(Joined::Asks(Asked {
                     handler,
                     left: first,
                     right: whole,
                     below,
-                });
+                }));
             }
             Outcome::Fault(fault) => return Ok(Joined::Fails(fault)),
             Outcome::Done => unreachable!(),

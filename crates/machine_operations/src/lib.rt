@@ -13,8 +13,7 @@ mod whole_texts;
 
 pub use computing::arithmetic;
 pub use concatenating::{concatenate, join_on};
-pub use concatenation::settle_concatenation;
 pub use following::{advance, follow, keep, take_value};
-pub use joining::{Joined, join};
+pub use joining::{Asked, Joined, join};
 pub use operands::{Values, operation_on, read_operands};
 pub use operating::operate;

@@ -1,20 +1,18 @@
 // Operations for which a handler may be called (luaV_finishget, luaV_finishset and luaV_equalobj of lvm.c, luaT_trybinTM of ltm.c).
-ghost use Rattle.std.specs.Prelude.{◌≡◌, ◌+◌, ◌<◌, ◌^◌, [], ◌∷◌, ℕ, List, Some, map, IfOk, OnErr};
+ghost use Rattle.std.specs.Prelude.{◌≡◌, [], ◌∷◌, ℕ, List, Some, map, IfOk, OnErr};
 ghost use Rattle.instruction_forms.specs.Forms.{text_of};
 ghost use Rattle.instruction_forms.specs.declared.form.Form.TheVariants.{Operate};
-ghost use Rattle.lua_heap.specs.Errors.{HasText};
 ghost use Rattle.lua_heap.specs.Plain.{plain};
 ghost use Rattle.lua_heap.specs.Reading.{value};
 ghost use Rattle.machine_core.specs.FrameRows.{expand};
 ghost use Rattle.machine_core.specs.World.{Place, place_of};
 ghost use Rattle.meta_ops.specs.Operation.{more_of};
-ghost use Rattle.move_laws.specs.Memory.{InOrder, IsSafe, IsSound, StandsAt, StandsSound, Steps};
-ghost use Rattle.machine_errors.specs.Raising.{CanLeave};
+ghost use Rattle.move_laws.specs.Memory.{InOrder, IsSafe, StandsSound, Steps};
 ghost use Rattle.machine_moves.specs.Ending.{ending_of};
 ghost use Rattle.machine_moves.specs.declared.ending.Ending.TheVariants.{Go, Raised};
 ghost use Rattle.machine_operations.specs.Copying.{CanCopy};
 ghost use Rattle.machine_operations.specs.Operands.{first_value};
-ghost use Rattle.machine_operations.specs.Operating.{EndsSo, FailsSo, MayEnd, wait_kept};
+ghost use Rattle.machine_operations.specs.Operating.{CanEnd, CanFail, EndsSo, FailsSo, wait_kept};
 
 use crate::copying::{copy_first, prepared};
 use crate::following::follow;
@@ -122,12 +120,7 @@ fn end_with(
     after: After,
     v: Value,
 ) -> Ending
-    requires order { InOrder world.old }
-    requires whole { CanLeave world.old }
-    requires at { StandsAt world.old pc }
-    requires room { pc + 2 < 2 ^ 64 }
-    requires copy { CanCopy world.old also }
-    requires safe { MayEnd world.old pc also first after v }
+    requires { CanEnd world.old pc also first after v }
     ensures ends { EndsSo world.old world.new pc also first after v (ending_of result) }
     ensures went { result ≡ Go }
     ensures order { InOrder world.new }
@@ -139,10 +132,7 @@ fn end_with(
 
 /// The first operand is copied, and the frame begins to be left with an error. A refusal changes nothing that the world stands for.
 fn fail(world: &mut World, also: Option<usize>, first: Value, fault: Fault) -> Allocated<Ending>
-    requires sound { IsSound world.old }
-    requires whole { CanLeave world.old }
-    requires copy { CanCopy world.old also }
-    requires first { HasText world.old.strings first }
+    requires { CanFail world.old also first }
     ensures fails { IfOk result (λ ending. FailsSo world.old world.new also first fault (ending_of ending)) }
     ensures raised { IfOk result (λ ending. ending ≡ Raised) }
     ensures order { InOrder world.new }

@@ -78,9 +78,9 @@ pub call_over-requires-clause-safe : goal.call_over-requires-clause-safe
 call_over-requires-clause-safe c =
     let W = c.args.world.now in
     let n = c.args.count - 1 in
-    let a = c.in-Asks in
-    let j = subst (λ o. Joins W c.join.new.world c.args.first n c.read_register-last.result o) a.is c.in_ok-v.ensures.joins in
-    let m = calls_may (last_comes W c.args.first n c.read_register-last.result c.read_register-last.ensures c.join.new.world (Asks a.handler a.left a.right a.below) j)
+    let a = c.in-Asks.asked in
+    let j = subst (λ o. Joins W c.join.new.world c.args.first n c.read_register-last.result o) c.in-Asks.is c.in_ok-v.ensures.joins in
+    let m = calls_may (last_comes W c.args.first n c.read_register-last.result c.read_register-last.ensures c.join.new.world (Asks a) j)
     (safe_last W no_code c.args.pc c.args.first c.args.count c.if-count-eq0.false (c.requires.safe no_code)) in
     subst (λ vs. MayCall c.join.new.world a.handler vs (ForConcat a.below) Nothing) (sym c.in_ok-operands-in-Asks.ensures) m
 
@@ -89,9 +89,9 @@ returns-in_ok-operands-in-Asks-clause-steps c =
     let W = c.args.world.now in
     let V = c.join.new.world in
     let n = c.args.count - 1 in
-    let a = c.in-Asks in
-    let j = subst (λ o. Joins W V c.args.first n c.read_register-last.result o) a.is c.in_ok-v.ensures.joins in
-    let come = last_comes W c.args.first n c.read_register-last.result c.read_register-last.ensures V (Asks a.handler a.left a.right a.below) j in
+    let a = c.in-Asks.asked in
+    let j = subst (λ o. Joins W V c.args.first n c.read_register-last.result o) c.in-Asks.is c.in_ok-v.ensures.joins in
+    let come = last_comes W c.args.first n c.read_register-last.result c.read_register-last.ensures V (Asks a) j in
     IfOk-weaker c.call_over.result _ _ (λ ending k p.
     last_steps W c.call_over.new.world c.args.budget.now c.call_over.new.budget (ending_of ending) p c.args.pc c.args.first c.args.count c.if-count-eq0.false
     (calls_steps come c.join.ensures.same (subst (λ vs. CallsSo V c.call_over.new.world c.args.budget.now c.call_over.new.budget a.handler vs (ForConcat a.below) Nothing (ending_of ending)) c.in_ok-operands-in-Asks.ensures k))) c.call_over.ensures.steps

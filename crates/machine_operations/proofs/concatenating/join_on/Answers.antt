@@ -49,9 +49,9 @@ pub returns-in_ok-operands-in-Asks-clause-leads : goal.returns-in_ok-operands-in
 returns-in_ok-operands-in-Asks-clause-leads c =
     let W = c.args.world.now in
     let V = c.join.new.world in
-    let a = c.in-Asks in
-    let j = subst (λ o. Joins W V c.args.first c.args.left c.first_or_nil-last.result o) a.is c.in_ok-v.ensures.joins in
-    let come = came_comes W c.args.first c.args.left c.args.came.now c.first_or_nil-last.result c.first_or_nil-last.ensures V (Asks a.handler a.left a.right a.below) j in
+    let a = c.in-Asks.asked in
+    let j = subst (λ o. Joins W V c.args.first c.args.left c.first_or_nil-last.result o) c.in-Asks.is c.in_ok-v.ensures.joins in
+    let come = came_comes W c.args.first c.args.left c.args.came.now c.first_or_nil-last.result c.first_or_nil-last.ensures V (Asks a) j in
     IfOk-weaker c.ask_over.result _ _ (λ ending k.
     asks_leads come (subst (λ vs. AsksSo V c.ask_over.new.world a.handler vs (ForConcat a.below) Nothing (ending_of ending)) c.in_ok-operands-in-Asks.ensures k)) c.ask_over.ensures.leads
 

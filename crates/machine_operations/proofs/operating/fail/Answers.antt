@@ -20,4 +20,4 @@ begin_leaving_with-requires-clause-one c = ap length c.in_ok-error.ensures.blame
 pub returns-clause-fails : goal.returns-clause-fails
 returns-clause-fails c =
     fails_so c.requires.sound c.in_ok-error.ensures.added c.copy_first.ensures.copies (ap (λ (W : Memory). W.strings) c.copy_first.ensures.rest) c.in_ok-error.ensures.blamed
-    c.args.fault c.begin_leaving_with.new.world (ending_of c.begin_leaving_with.result) c.requires.first (c.deref.ensures.value ∙ c.in_ok-text.ensures c.args.world.now.strings) c.begin_leaving_with.ensures.leads
+    c.args.fault c.begin_leaving_with.new.world (ending_of c.begin_leaving_with.result) c.requires.held (c.deref.ensures.value ∙ c.in_ok-text.ensures c.args.world.now.strings) c.begin_leaving_with.ensures.leads
