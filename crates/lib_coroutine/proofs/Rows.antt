@@ -18,11 +18,11 @@ use Rattle.table_core.specs.declared.value.Value.TheVariants.{Prim, Table, Func,
 use Rattle.lua_heap.specs.declared.world.World.{World as Memory}
 use Rattle.lua_heap.specs.Reading.{value}
 use Rattle.lua_heap.specs.Plain.{plain}
-use Rattle.move_laws.specs.Memory.{Leads, Makes}
+use Rattle.move_laws.specs.Memory.{HasStack, IsSound, Leads, Makes}
 use Rattle.move_laws.proofs.Rows.{act_is}
 use Rattle.machine_moves.specs.declared.ending.Ending.{Ending as KeptEnding}
 use Rattle.machine_moves.specs.Ending.{ending_of}
-use Rattle.lib_coroutine.specs.Arguments.{can_be_called, coroutine_in}
+use Rattle.lib_coroutine.specs.Arguments.{IsCalledOn, can_be_called, coroutine_in}
 use Rattle.machine_errors.proofs.Calls.{nth_behind}
 use Rattle.machine_calls.proofs.Left.{world_made}
 
@@ -86,9 +86,12 @@ module _ (row : Shape → ℕ → Row) (name : List ℕ) (plainly : (p : Plain) 
 
 -- the first of the values that move, as it is read from them
 
-pub first_is : (texts : List (List ℕ)) (v : Kept) (taken items : List Kept) (co : CoroId) → value texts v ≡ nth (map (value texts) taken) 0 → taken ≡ items → coroutine_in v ≡ Some co
-    → nth (map (value texts) items) 0 ≡ object a_coroutine co.0
-first_is texts v taken items co e moved is = sym (e ∙ ap (λ l. nth (map (value texts) l) 0) moved) ∙ ap (value texts) (first_coroutine v co is)
+pub called_on : (W : Memory) (v : Kept) (taken : List Kept) (co : CoroId) → IsSound W → HasStack W → value W.strings v ≡ nth (map (value W.strings) taken) 0 → taken ≡ W.moving.items → coroutine_in v ≡ Some co → IsCalledOn W co
+called_on W v taken co sound running e moved is = record {
+  sound = sound;
+  running = running;
+  first = sym (e ∙ ap (λ l. nth (map (value W.strings) l) 0) moved) ∙ ap (value W.strings) (first_coroutine v co is);
+}
 
 pub refuses_first : {old new : Memory} {ending : Ending} (row : Shape → ℕ → Row) (name : List ℕ) (plainly : (p : Plain) → row (is_known p) 0 ≡ not_coroutine name (is_known p)) (table : row (is_object a_table) 0 ≡ not_coroutine name (is_object a_table))
     (function : row (is_object a_function) 0 ≡ not_coroutine name (is_object a_function)) (v : Kept) (taken : List Kept) → value old.strings v ≡ nth (map (value old.strings) taken) 0 → taken ≡ old.moving.items → coroutine_in v ≡ None

@@ -3,15 +3,12 @@
 
 mod beginning;
 mod closing;
-mod making;
+mod functions;
 mod refusing;
 mod resuming;
 mod standing;
 mod switching;
 mod yielding;
 
-pub use closing::close;
-pub use making::create;
-pub use resuming::resume;
-pub use standing::{is_yieldable, running, status};
+pub use functions::{close, create, is_yieldable, resume, running, status};
 pub use yielding::yield_running;

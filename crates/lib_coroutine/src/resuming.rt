@@ -1,19 +1,17 @@
 // Coroutines that are resumed (luaB_coresume and auxresume of lcorolib.c, lua_resume of ldo.c).
-ghost use Rattle.std.specs.Prelude.{◌≡◌, ◌≤◌, [], Some, drop, length, slice_get, IfOk, OnErr};
+ghost use Rattle.std.specs.Prelude.{◌≡◌, ◌≤◌, [], drop, length, IfOk, OnErr};
 ghost use Rattle.int_core.specs.Limits.{greatest_resumes};
 ghost use Rattle.int_core.specs.Value.{a_coroutine, greatest_string, object};
 ghost use Rattle.lua_heap.specs.declared.world.Coro.TheVariants.{Fresh};
 ghost use Rattle.machine_core.specs.MachineStep.{resume_row};
 ghost use Rattle.move_laws.specs.Memory.{HasStack, InOrder, IsSound, Leads, ReadsSame};
 ghost use Rattle.machine_moves.specs.Ending.{ending_of};
-ghost use Rattle.lib_coroutine.specs.Arguments.{FirstIs};
+ghost use Rattle.lib_coroutine.specs.Arguments.{FirstIs, IsCalledOn};
 ghost use Rattle.lib_coroutine.specs.Resuming.{IsRefused, IsSuspended, resumption_of};
 
 use crate::beginning::begin;
-use crate::refusing::{coroutine_of, refuse};
 use crate::switching::run_suspended;
 use lua_heap::{Coro, World};
-use machine_coroutines::first_of;
 use machine_moves::{Ending, give_values, hand_over};
 use std::alloc::AllocError;
 use table_core::{CoroId, Value};
@@ -35,27 +33,9 @@ enum Resumption {
     Dead,
 }
 
-/// The row of `coroutine.resume`: the first argument runs, and gets the others; where it cannot be resumed, the answer is false and the reason
-/// (Lua 5.4 manual, 6.2). Where memory is wanting, the machine's world is as before.
-pub fn resume(world: &mut World) -> Result<Ending, AllocError>
-    requires sound { IsSound world.old }
-    requires running { HasStack world.old }
-    ensures leads { IfOk result (λ ending. Leads resume_row [] world.old world.new (ending_of ending)) }
-    ensures order { InOrder world.new }
-    ensures err { OnErr result (ReadsSame world.old world.new) }
-{
-    let first = first_of(&world.moving);
-    match coroutine_of(first) {
-        Some(co) => resume_coroutine(world, co),
-        None => refuse(world, b"resume", b"coroutine", first),
-    }
-}
-
 /// Resumes a coroutine.
-fn resume_coroutine(world: &mut World, co: CoroId) -> Result<Ending, AllocError>
-    requires sound { IsSound world.old }
-    requires running { HasStack world.old }
-    requires first { FirstIs world.old (object a_coroutine co.0) }
+pub(crate) fn resume_coroutine(world: &mut World, co: CoroId) -> Result<Ending, AllocError>
+    requires { IsCalledOn world.old co }
     ensures leads { IfOk result (λ ending. Leads resume_row [] world.old world.new (ending_of ending)) }
     ensures order { InOrder world.new }
     ensures err { OnErr result (ReadsSame world.old world.new) }

@@ -9,7 +9,7 @@ use Rattle.table_core.specs.declared.value.Value.TheVariants.{Coro}
 use Rattle.machine_coroutines.proofs.Handed.{running_on}
 use Rattle.lib_coroutine.specs.Arguments.{can_be_called}
 use Rattle.lib_coroutine.proofs.Rows.{callable, create_leads, not_callable, refuses}
-use Rattle.lib_coroutine.proofs.making.create.Goals as goal
+use Rattle.lib_coroutine.proofs.functions.create.Goals as goal
 
 pub returns-then-not-can_be_called-clause-leads : goal.returns-then-not-can_be_called-clause-leads
 returns-then-not-can_be_called-clause-leads c =

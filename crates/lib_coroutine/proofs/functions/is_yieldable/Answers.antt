@@ -7,7 +7,7 @@ use Rattle.machine_core.specs.Text.{written}
 use Rattle.table_core.specs.declared.value.Value.TheVariants.{Bool as Boolean}
 use Rattle.move_laws.proofs.Rows.{first}
 use Rattle.machine_coroutines.proofs.Handed.{running_on}
-use Rattle.lib_coroutine.proofs.standing.is_yieldable.Goals as goal
+use Rattle.lib_coroutine.proofs.functions.is_yieldable.Goals as goal
 
 pub hand_over-requires : goal.hand_over-requires
 hand_over-requires c = running_on c.give_values.ensures.rest c.requires.running

@@ -3,11 +3,11 @@ use Rattle.std.specs.Prelude.{codes}
 use Rattle.std.proofs.lemmas.Result.{on_err_weaker}
 use Rattle.machine_core.specs.MachineStep.{resumes}
 use Rattle.lib_coroutine.proofs.Resumes.{same_reads}
-use Rattle.lib_coroutine.proofs.resuming.resume.Goals as goal
-use Rattle.lib_coroutine.proofs.Rows.{first_is, first_refused}
+use Rattle.lib_coroutine.proofs.functions.resume.Goals as goal
+use Rattle.lib_coroutine.proofs.Rows.{called_on, first_refused}
 
-pub resume_coroutine-requires-clause-first : goal.resume_coroutine-requires-clause-first
-resume_coroutine-requires-clause-first c = first_is c.args.world.now.strings c.first_of-first.result c.deref.result.now c.args.world.now.moving.items c.in-Some.co (c.first_of-first.ensures c.args.world.now.strings) (search rules) (sym c.coroutine_of.ensures ∙ c.in-Some.is)
+pub resume_coroutine-requires : goal.resume_coroutine-requires
+resume_coroutine-requires c = called_on c.args.world.now c.first_of-first.result c.deref.result.now c.in-Some.co c.requires.sound c.requires.running (c.first_of-first.ensures c.args.world.now.strings) (search rules) (sym c.coroutine_of.ensures ∙ c.in-Some.is)
 
 pub returns-in-None-clause-leads : goal.returns-in-None-clause-leads
 returns-in-None-clause-leads c =
