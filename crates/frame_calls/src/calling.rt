@@ -38,16 +38,17 @@ pub(crate) fn enter(stack: &mut Stack, stop: Stop) -> Option<()>
     ensures kept { IfNone result (stack.new ≡ stack.old) }
     ensures listed { stack.new.open_cells ≡ stack.old.open_cells }
 {
-    if stack.len() >= GREATEST_DEPTH {
-        return None;
-    }
     let register = stop.word.a() as usize;
-    let given = one_less(stop.word.b())?;
-    let id = callee(stack.registers(), register, given)?;
-    let shape = shape_of(stop.functions, id)?;
+    // First, while it is at hand whether anything is open.
     if !may_give_up(stack, register, stop.size, register, stop.closed) {
         return None;
     }
+    if stack.len() >= GREATEST_DEPTH {
+        return None;
+    }
+    let given = one_less(stop.word.b())?;
+    let id = callee(stack.registers(), register, given)?;
+    let shape = shape_of(stop.functions, id)?;
     match stack.call_in_place(register, given, Wait::ForCall, stop.size, id, shape) {
         Ok(()) => Some(()),
         Err(_) => None,
@@ -112,16 +113,16 @@ pub fn may_give_up(
     ensures there { result ≡ true → HasRegisters stack.now size }
     ensures closed { result ≡ true → NoneFrom stack.now free }
 {
+    let Some(first) = closed else {
+        return false;
+    };
+    if first > free {
+        return false;
+    }
     if register > size {
         return false;
     }
-    if size > stack.registers().len() {
-        return false;
-    }
-    match closed {
-        Some(first) => first <= free,
-        None => false,
-    }
+    size <= stack.registers().len()
 }
 
 /// One less than a number of values that is counted from one, as instructions count them.
