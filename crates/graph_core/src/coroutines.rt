@@ -10,9 +10,8 @@ ghost use Rattle.lua_heap.specs.Reading.{value as read};
 ghost use Rattle.graph_core.specs.Frames.{fields_at, fields_of};
 ghost use Rattle.graph_core.specs.Walk.{MeetsFields, MeetsPart, texts_in};
 
-use crate::object::Object;
+use crate::object::Seen;
 use crate::walk::Walk;
-use indexmap::IndexSet;
 use int_core::Allocated;
 use lua_heap::Coro;
 use lua_stack::{FrameView, LuaView, Stack, Wait};
@@ -20,11 +19,7 @@ use table_core::Value;
 
 impl Walk<'_> {
     /// What the coroutine of a number names is met, if there is one.
-    pub(crate) fn meet_coroutine_at(
-        &self,
-        seen: &mut IndexSet<Object>,
-        number: usize,
-    ) -> Allocated<()>
+    pub(crate) fn meet_coroutine_at(&self, seen: &mut Seen, number: usize) -> Allocated<()>
         ensures { OnOk result (MeetsPart self.now seen.old.keys seen.new.keys (an_object a_coroutine number)) }
     {
         if number >= self.world.coros.len() {
@@ -34,7 +29,7 @@ impl Walk<'_> {
     }
 
     /// What a coroutine names is met: nothing of one that runs or resumed another.
-    fn meet_coroutine(&self, seen: &mut IndexSet<Object>, coro: &Coro) -> Allocated<()>
+    fn meet_coroutine(&self, seen: &mut Seen, coro: &Coro) -> Allocated<()>
         ensures { OnOk result (MeetsFields self.now seen.old.keys seen.new.keys (coroutine_fields (read_coroutine (texts_in self.now) coro.now))) }
     {
         match coro {
@@ -48,7 +43,7 @@ impl Walk<'_> {
     }
 
     /// What frames name is met.
-    fn meet_frames(&self, seen: &mut IndexSet<Object>, stack: &Stack) -> Allocated<()>
+    fn meet_frames(&self, seen: &mut Seen, stack: &Stack) -> Allocated<()>
         ensures { OnOk result (MeetsFields self.now seen.old.keys seen.new.keys (flat_map frame_fields (frames (read (texts_in self.now)) stack.now))) }
     {
         for at in 0..stack.len() {
@@ -58,7 +53,7 @@ impl Walk<'_> {
     }
 
     /// What a frame names is met, if it is there.
-    fn meet_frame_at(&self, seen: &mut IndexSet<Object>, stack: &Stack, at: usize) -> Allocated<()>
+    fn meet_frame_at(&self, seen: &mut Seen, stack: &Stack, at: usize) -> Allocated<()>
         ensures { OnOk result (MeetsFields self.now seen.old.keys seen.new.keys (fields_at (texts_in self.now) stack.now.frames at)) }
     {
         match stack.frame_at(at) {
@@ -68,7 +63,7 @@ impl Walk<'_> {
     }
 
     /// What a frame names is met.
-    fn meet_frame(&self, seen: &mut IndexSet<Object>, frame: FrameView<'_>) -> Allocated<()>
+    fn meet_frame(&self, seen: &mut Seen, frame: FrameView<'_>) -> Allocated<()>
         ensures { OnOk result (MeetsFields self.now seen.old.keys seen.new.keys (fields_of (texts_in self.now) (viewed frame.entry))) }
     {
         match frame {
@@ -81,7 +76,7 @@ impl Walk<'_> {
     }
 
     /// What the frame of a Lua function names is met. Registers that are nil name nothing.
-    fn meet_lua(&self, seen: &mut IndexSet<Object>, view: LuaView<'_>) -> Allocated<()>
+    fn meet_lua(&self, seen: &mut Seen, view: LuaView<'_>) -> Allocated<()>
         ensures { OnOk result (MeetsFields self.now seen.old.keys seen.new.keys (fields_of (texts_in self.now) (kept_lua (viewed_lua view.entry)))) }
     {
         self.meet(seen, Value::Func(view.function))?;
@@ -91,7 +86,7 @@ impl Walk<'_> {
     }
 
     /// The error is met with which a frame is left.
-    fn meet_wait(&self, seen: &mut IndexSet<Object>, wait: Wait) -> Allocated<()>
+    fn meet_wait(&self, seen: &mut Seen, wait: Wait) -> Allocated<()>
         ensures { OnOk result (MeetsFields self.now seen.old.keys seen.new.keys (wait_fields (wait_of (read (texts_in self.now)) wait))) }
     {
         match wait {
@@ -103,12 +98,7 @@ impl Walk<'_> {
     }
 
     /// An error, if there is one, and the values that are still to be closed are met.
-    fn meet_error_and(
-        &self,
-        seen: &mut IndexSet<Object>,
-        error: Option<Value>,
-        left: &[Value],
-    ) -> Allocated<()>
+    fn meet_error_and(&self, seen: &mut Seen, error: Option<Value>, left: &[Value]) -> Allocated<()>
         ensures { OnOk result (MeetsFields self.now seen.old.keys seen.new.keys (fields_of (texts_in self.now) (kept_closing error left.now))) }
     {
         self.meet_error(seen, error)?;
@@ -116,7 +106,7 @@ impl Walk<'_> {
     }
 
     /// An error is met, if there is one.
-    fn meet_error(&self, seen: &mut IndexSet<Object>, error: Option<Value>) -> Allocated<()>
+    fn meet_error(&self, seen: &mut Seen, error: Option<Value>) -> Allocated<()>
         ensures { OnOk result (MeetsFields self.now seen.old.keys seen.new.keys (error_fields (option_map (read (texts_in self.now)) error))) }
     {
         match error {

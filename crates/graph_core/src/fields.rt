@@ -9,16 +9,15 @@ ghost use Rattle.lua_heap.specs.Reading.{row as read_row, value as read};
 ghost use Rattle.graph_core.specs.Cells.{CellsAreThere, coroutine_inside, outer};
 ghost use Rattle.graph_core.specs.Walk.{MeetsFields, MeetsPart, inside_in, texts_in};
 
-use crate::object::{Object, Sort, meet};
+use crate::object::{Object, Seen, Sort, meet};
 use crate::walk::Walk;
-use indexmap::IndexSet;
 use int_core::Allocated;
 use lua_heap::Cell;
 use table_core::{CellId, CoroId, Table, TableId, Value};
 
 impl Walk<'_> {
     /// What a table names is met: the key and the value of each row, cleared ones too, then the metatable.
-    fn meet_table(&self, seen: &mut IndexSet<Object>, table: &Table) -> Allocated<()>
+    fn meet_table(&self, seen: &mut Seen, table: &Table) -> Allocated<()>
         ensures { OnOk result (MeetsFields self.now seen.old.keys seen.new.keys (table_fields (read_table (texts_in self.now) table.now))) }
     {
         self.meet_rows(seen, table)?;
@@ -26,7 +25,7 @@ impl Walk<'_> {
     }
 
     /// What the rows of a table name is met.
-    fn meet_rows(&self, seen: &mut IndexSet<Object>, table: &Table) -> Allocated<()>
+    fn meet_rows(&self, seen: &mut Seen, table: &Table) -> Allocated<()>
         ensures { OnOk result (MeetsFields self.now seen.old.keys seen.new.keys (flat_map (λ r. row_fields (read_row (texts_in self.now) r)) table.now.rows)) }
     {
         for at in 0..table.rows() {
@@ -38,7 +37,7 @@ impl Walk<'_> {
     }
 
     /// What the table of a number names is met, if there is one.
-    pub(crate) fn meet_table_at(&self, seen: &mut IndexSet<Object>, number: usize) -> Allocated<()>
+    pub(crate) fn meet_table_at(&self, seen: &mut Seen, number: usize) -> Allocated<()>
         ensures { OnOk result (MeetsPart self.now seen.old.keys seen.new.keys (an_object a_table number)) }
     {
         if number >= self.world.tables.len() {
@@ -48,11 +47,7 @@ impl Walk<'_> {
     }
 
     /// What the function of a number names is met, if there is one.
-    pub(crate) fn meet_function_at(
-        &self,
-        seen: &mut IndexSet<Object>,
-        number: usize,
-    ) -> Allocated<()>
+    pub(crate) fn meet_function_at(&self, seen: &mut Seen, number: usize) -> Allocated<()>
         ensures { OnOk result (MeetsPart self.now seen.old.keys seen.new.keys (an_object a_function number)) }
     {
         if number >= self.world.funcs.len() {
@@ -62,7 +57,7 @@ impl Walk<'_> {
     }
 
     /// What the cell of a number names is met, if there is one.
-    pub(crate) fn meet_cell_at(&self, seen: &mut IndexSet<Object>, number: usize) -> Allocated<()>
+    pub(crate) fn meet_cell_at(&self, seen: &mut Seen, number: usize) -> Allocated<()>
         requires listed { CellsAreListed self.now.world.now }
         requires there { CellsAreThere self.now.world.now }
         ensures { OnOk result (MeetsPart self.now seen.old.keys seen.new.keys (a_cell number)) }

@@ -15,4 +15,4 @@ pub use inverting::inverse;
 pub use numbering::{Numbering, reach};
 pub use object::{Object, Sort};
 pub use permanents::{Permanent, PermanentKey, PermanentSort, Permanents};
-pub use walk::is_table;
+pub use walk::{is_table, item_at};

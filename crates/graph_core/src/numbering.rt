@@ -10,7 +10,7 @@ ghost use Rattle.graph_core.specs.Numbering.{IsNumbering};
 ghost use Rattle.graph_core.specs.Objects.{part};
 ghost use Rattle.graph_core.specs.Walk.{MeetsPart, inside_in, name_in, texts_in};
 
-use crate::object::{Object, Sort};
+use crate::object::{Object, Seen, Sort};
 use crate::permanents::Permanents;
 use crate::walk::Walk;
 use indexmap::IndexSet;
@@ -61,7 +61,7 @@ pub fn reach(
 
 impl Walk<'_> {
     /// What some roots reach, in the order of first visit.
-    fn visit(&self, alloc: Global, roots: &[Value]) -> Allocated<IndexSet<Object>>
+    fn visit(&self, alloc: Global, roots: &[Value]) -> Allocated<Seen>
         requires listed { CellsAreListed self.now.world.now }
         requires there { CellsAreThere self.now.world.now }
         ensures few { IfOk result (λ seen. slice_get seen.keys greatest_count ≡ None) }
@@ -80,7 +80,7 @@ impl Walk<'_> {
     }
 
     /// What an object names is met.
-    fn meet_parts(&self, seen: &mut IndexSet<Object>, object: Object) -> Allocated<()>
+    fn meet_parts(&self, seen: &mut Seen, object: Object) -> Allocated<()>
         requires listed { CellsAreListed self.now.world.now }
         requires there { CellsAreThere self.now.world.now }
         ensures { OnOk result (MeetsPart self.now seen.old.keys seen.new.keys (part object)) }

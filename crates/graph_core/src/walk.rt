@@ -6,7 +6,7 @@ ghost use Rattle.lua_heap.specs.Reading.{value as read};
 ghost use Rattle.graph_core.specs.Objects.{objects_in};
 ghost use Rattle.graph_core.specs.Walk.{MeetsFields, name_in, texts_in, value_field};
 
-use crate::object::{Object, Sort, meet};
+use crate::object::{Object, Seen, Sort, meet};
 use crate::permanents::Permanents;
 use indexmap::IndexSet;
 use int_core::Allocated;
@@ -24,7 +24,7 @@ pub(crate) struct Walk<'a> {
 
 impl Walk<'_> {
     /// A value is met.
-    pub(crate) fn meet(&self, seen: &mut IndexSet<Object>, value: Value) -> Allocated<()>
+    pub(crate) fn meet(&self, seen: &mut Seen, value: Value) -> Allocated<()>
         ensures { OnOk result (MeetsFields self.now seen.old.keys seen.new.keys (value_field self.now value ∷ [])) }
     {
         match self.object_of(value) {
@@ -34,23 +34,23 @@ impl Walk<'_> {
     }
 
     /// Values are met.
-    pub(crate) fn meet_all(&self, seen: &mut IndexSet<Object>, values: &[Value]) -> Allocated<()>
+    pub(crate) fn meet_all(&self, seen: &mut Seen, values: &[Value]) -> Allocated<()>
         ensures { OnOk result (MeetsFields self.now seen.old.keys seen.new.keys (flat_map (λ v. value_field self.now v ∷ []) values.now)) }
     {
         for at in 0..values.len() {
-            self.meet(seen, value_at(values, at))?;
+            self.meet(seen, item_at(values, at))?;
         }
         Ok(())
     }
 
     /// Cells are met.
-    pub(crate) fn meet_cells(&self, seen: &mut IndexSet<Object>, cells: &[CellId]) -> Allocated<()>
+    pub(crate) fn meet_cells(&self, seen: &mut Seen, cells: &[CellId]) -> Allocated<()>
         ensures { OnOk result (MeetsFields self.now seen.old.keys seen.new.keys (flat_map (λ c. of_cell c.0 ∷ []) cells.now)) }
     {
         for at in 0..cells.len() {
             let object = Object {
                 sort: Sort::Cell,
-                number: cell_at(cells, at).0,
+                number: item_at(cells, at).0,
             };
             meet(seen, object)?;
         }
@@ -75,22 +75,13 @@ impl Walk<'_> {
     }
 }
 
-/// A value of a list.
+/// An item of a list.
 #[inline(always)]
-fn value_at(values: &[Value], at: usize) -> Value
-    requires { at < length values.now }
-    ensures { slice_get values.now at ≡ Some result }
+pub fn item_at<T: Copy>(items: &[T], at: usize) -> T
+    requires { at < length items.now }
+    ensures { slice_get items.now at ≡ Some result }
 {
-    values[at]
-}
-
-/// A cell of a list.
-#[inline(always)]
-fn cell_at(cells: &[CellId], at: usize) -> CellId
-    requires { at < length cells.now }
-    ensures { slice_get cells.now at ≡ Some result }
-{
-    cells[at]
+    items[at]
 }
 
 /// Whether a value is the table of a number.
@@ -114,18 +105,9 @@ fn object_in(value: Value) -> Option<Object>
     ensures { (texts : List (List ℕ)) → objects_in result ≡ value_parts (read texts value) }
 {
     match value {
-        Value::Table(id) => Some(Object {
-            sort: Sort::Table,
-            number: id.0,
-        }),
-        Value::Func(id) => Some(Object {
-            sort: Sort::Func,
-            number: id.0,
-        }),
-        Value::Coro(id) => Some(Object {
-            sort: Sort::Coro,
-            number: id.0,
-        }),
+        Value::Table(id) => Some(Object::new(Sort::Table, id.0)),
+        Value::Func(id) => Some(Object::new(Sort::Func, id.0)),
+        Value::Coro(id) => Some(Object::new(Sort::Coro, id.0)),
         Value::Nil => None,
         Value::Bool(_) => None,
         Value::Int(_) => None,

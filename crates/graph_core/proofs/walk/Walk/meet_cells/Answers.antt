@@ -6,5 +6,5 @@ use Rattle.graph_core.proofs.walk.Walk.meet_cells.Goals as goal
 
 pub loop-at-preserved : goal.loop-at-preserved
 loop-at-preserved c =
-    one_more c.args.self.now (λ (id : CellId). of_cell id.0 ∷ []) c.args.seen.now.keys c.loop-at.seen.keys c.meet.new.seen.keys c.loop-at.at c.args.cells.now c.cell_at.result c.cell_at.ensures
+    one_more c.args.self.now (λ (id : CellId). of_cell id.0 ∷ []) c.args.seen.now.keys c.loop-at.seen.keys c.meet.new.seen.keys c.loop-at.at c.args.cells.now c.item_at.result c.item_at.ensures
     c.loop-at.invariant c.in_ok-meet.ensures
