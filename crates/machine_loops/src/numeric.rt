@@ -13,13 +13,12 @@ ghost use Rattle.machine_moves.specs.Ending.{ending_of};
 ghost use Rattle.machine_loops.specs.Loops.{MayRead, MayDo, ReadsLoop};
 
 use crate::jumps::go_back;
-use int_core::{add, sub};
+use int_core::{Allocated, add, sub};
 use lua_heap::World;
 use machine_arms_numbers::{further_rounds, has_round, integer};
 use machine_errors::raise;
 use machine_moves::{Ending, go_to, pay, read_register, write_register};
 use machine_rows::go_on;
-use std::alloc::AllocError;
 use table_core::Value;
 
 /// The first three registers of a loop, where they are integers: before its first round the initial value, the limit and the step, then the variable,
@@ -32,12 +31,7 @@ pub struct LoopValues {
 }
 
 /// The loop has its first round, or is passed over. A refusal changes nothing.
-pub fn start_loop(
-    world: &mut World,
-    pc: usize,
-    base: usize,
-    by: usize,
-) -> Result<Ending, AllocError>
+pub fn start_loop(world: &mut World, pc: usize, base: usize, by: usize) -> Allocated<Ending>
     requires sound { IsSound world.old }
     requires at { StandsAt world.old pc }
     requires room { pc < 2 ^ 63 }
@@ -94,7 +88,7 @@ pub fn go_round(
     pc: usize,
     base: usize,
     by: usize,
-) -> Result<Ending, AllocError>
+) -> Allocated<Ending>
     requires sound { IsSound world.old }
     requires at { StandsAt world.old pc }
     requires room { pc < 2 ^ 63 }
