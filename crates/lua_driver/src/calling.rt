@@ -14,8 +14,8 @@ ghost use Rattle.lua_driver.specs.Turns.{GoesFurther};
 
 use int_core::Allocated;
 use lua_heap::World;
-use machine_call_rows::call;
-use machine_library_calls::{CallAt, call_library};
+use machine_call_rows::{CallAt, call};
+use machine_library_calls::call_library;
 use machine_moves::Ending;
 use running_frame::Here;
 
@@ -35,6 +35,6 @@ pub(crate) fn call_here(
     let done = call_library(world, budget, here, at)?;
     match done {
         Some(ending) => Ok(ending),
-        None => call(world, budget, at.function, at.count, at.keeps, at.iterates),
+        None => call(world, budget, at),
     }
 }

@@ -5,7 +5,7 @@ ghost use Rattle.code_core.specs.declared.opcode.Opcode.TheVariants.{Return};
 ghost use Rattle.lua_driver.specs.Words.{IsQuick};
 
 use code_core::Opcode;
-use machine_library_calls::CallAt;
+use machine_call_rows::CallAt;
 use running_frame::Here;
 
 /// What a Lua frame does at its word, where that is done without the instruction's form.

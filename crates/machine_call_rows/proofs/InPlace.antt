@@ -25,8 +25,8 @@ use Rattle.machine_moves.specs.declared.ending.Ending.TheVariants.{Go}
 use Rattle.machine_calls.specs.Given.{AreGiven, CallsGiven, HasGiven}
 use Rattle.machine_calls.specs.Waiting.{CallsSo, MayCall}
 use Rattle.machine_calls.proofs.Over.{may_enter}
-use Rattle.machine_call_rows.specs.Rows.{IsWaitOfCall, MayReadValues}
-use Rattle.machine_call_rows.proofs.Read.{call_text, registers_read, steps_call, whole_text}
+use Rattle.machine_call_rows.specs.Rows.{IsWaitOfCall, MayReadValues, whole_text}
+use Rattle.machine_call_rows.proofs.Read.{call_text, registers_read, steps_call}
 use Rattle.machine_calls.proofs.Given.{itself}
 
 -- what the registers hold that were read

@@ -2,7 +2,7 @@
 use Rattle.std.proofs.Common.{◌≡◌, ℕ, suc, ◌+◌, List, [], ◌∷◌, ◌++◌, length, ap, refl, sym, subst, ◌∙◌, Bool}
 use Rattle.std.specs.Prelude.{map, pos}
 use Rattle.int_core.specs.Value.{Value, Shape, shape, integer, nil, is_known}
-use Rattle.machine_core.specs.Text.{Arg, list_end, read, read_list, read_register, read_registers, drop_pending, cut_from, Text, own, call, tail_call}
+use Rattle.machine_core.specs.Text.{Arg, list_end, read, read_list, read_register, read_registers, drop_pending, cut_from, Text, call, tail_call}
 use Rattle.machine_core.specs.InstructionRows.{read_values}
 use Rattle.machine_core.specs.FrameRows.{expand}
 use Rattle.machine_core.specs.Moves.{Ending as Ends, on_own, run}
@@ -25,7 +25,7 @@ use Rattle.machine_calls.specs.declared.preparing.Prepared.TheVariants.{GivenUp}
 use Rattle.machine_calls.specs.Preparing.{CanPrepare}
 use Rattle.machine_calls.specs.Tails.{CallsInPlace, IsNamedTail, MayCallInPlace}
 use Rattle.machine_calls.specs.Waiting.{CallsSo, IsNamed, MayCall}
-use Rattle.machine_call_rows.specs.Rows.{IsWaitOfCall, MayKeep, MayReadValues, ReadsValues}
+use Rattle.machine_call_rows.specs.Rows.{IsWaitOfCall, MayKeep, MayReadValues, ReadsValues, whole_text, with_arguments}
 use Rattle.machine_call_rows.proofs.Beyond.{none_beyond}
 
 -- values that are read
@@ -68,18 +68,13 @@ registers_read W from count n vs e m =
           (act_is (on_own (read_registers from n)) (λ n s. expand (rest n s)) env (plain W fuel) (plain W fuel) (map (value W.strings) vs) told ((m env).is fuel));
     }
 
--- what follows the value that is called
-abbrev pub with_arguments : (function count : ℕ) → (Arg → ℕ → Text) → ℕ → Shape → Text
-with_arguments function count rest f s = read_values (function + 1) count (λ v _. rest (read f) v)
+-- what follows them
 
 abbrev pub call_text : (keeps : ℕ) → Bool → Arg → ℕ → Text
 call_text keeps iterates f v = call f v (wait_for_call iterates) (drop_pending keeps ∷ cut_from keeps ∷ [])
 
 abbrev pub tail_text : Arg → ℕ → Text
 tail_text f v = tail_call f v
-
-abbrev pub whole_text : (function count : ℕ) → (Arg → ℕ → Text) → Text
-whole_text function count rest = own (read_register function) (with_arguments function count rest)
 
 abbrev ReadsRegister : Memory → ℕ → Kept → Type 0
 ReadsRegister W function called = (env : List Value) → Makes W W (on_own (read_register function)) env (value W.strings called ∷ []) (shape (value W.strings called))

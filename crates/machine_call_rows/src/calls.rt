@@ -2,12 +2,12 @@
 ghost use Rattle.std.specs.Prelude.{◌≡◌, ◌+◌, ◌<◌, ◌^◌, ℕ, [], true, false, IfOk, OnErr};
 ghost use Rattle.code_core.specs.Prototype.{Prototype};
 ghost use Rattle.instruction_forms.specs.Forms.{text_of};
-ghost use Rattle.instruction_forms.specs.declared.form.Form.TheVariants.{Call, TailCall};
+ghost use Rattle.instruction_forms.specs.declared.form.Form.TheVariants.{TailCall};
 ghost use Rattle.machine_core.specs.FrameRows.{expand};
 ghost use Rattle.machine_core.specs.Moves.{go};
 ghost use Rattle.move_laws.specs.Memory.{InOrder, IsSafe, IsSound, Steps};
 ghost use Rattle.machine_moves.specs.Ending.{ending_of};
-ghost use Rattle.machine_call_rows.specs.Rows.{IsWaitOfCall, MayKeep, MayReadValues, ReadsValues};
+ghost use Rattle.machine_call_rows.specs.Rows.{CallSteps, IsWaitOfCall, MayDoCall, MayReadValues, ReadsValues};
 
 use int_core::Allocated;
 use lua_heap::World;
@@ -16,91 +16,78 @@ use machine_calls::{Prepared, call_in_place, call_over, call_registers};
 use machine_moves::{Ending, read_list, read_register, read_registers};
 use table_core::Value;
 
-/// The value of a register is called for a unit of the budget, with the values of one register fewer than `count` behind it, or for 0 those up to the end
-/// of the open list. The frame on top waits for what comes of it, and keeps its registers below `keeps` (Lua 5.4 manual, 3.4.10; for an iterator 3.3.5).
-/// A value that cannot be called, and a full stack, are errors of that frame. A refusal may leave it changed, but in order.
-pub fn call(
-    world: &mut World,
-    budget: &mut u64,
-    function: usize,
-    count: usize,
-    keeps: usize,
-    iterates: bool,
-) -> Allocated<Ending>
-    requires sound { IsSound world.old }
-    requires keeps { MayKeep world.old keeps }
-    requires near { function + 1 < 2 ^ 64 }
-    requires safe { (p : Prototype) (pc : ℕ) → IsSafe (expand (text_of p pc (Call function count keeps iterates))) [] world.old }
-    ensures steps { IfOk result (λ ending. (p : Prototype) (pc : ℕ) → Steps (expand (text_of p pc (Call function count keeps iterates))) [] world.old budget.old world.new budget.new (ending_of ending)) }
+/// A call, as its instruction tells it: the register of what is called, one more than the number of the arguments after it or 0 for those up to the end of
+/// the open list, the register from which on the frame gives its registers up, and whether an iterator is called.
+#[derive(Clone, Copy, Debug)]
+pub struct CallAt {
+    pub function: usize,
+    pub count: usize,
+    pub keeps: usize,
+    pub iterates: bool,
+}
+
+/// The value of a register is called for a unit of the budget, with the values of the registers behind it. The frame on top waits for what comes of it (Lua
+/// 5.4 manual, 3.4.10; for an iterator 3.3.5). A value that cannot be called, and a full stack, are errors of that frame. A refusal may leave it changed,
+/// but in order.
+pub fn call(world: &mut World, budget: &mut u64, at: CallAt) -> Allocated<Ending>
+    requires { MayDoCall world.old at }
+    ensures steps { IfOk result (λ ending. CallSteps at world.old budget.old world.new budget.new (ending_of ending)) }
     ensures order { InOrder world.new }
     ensures err { OnErr result ((world.new.printed ≡ world.old.printed) × (budget.new ≡ budget.old)) }
 {
-    if call_function(world, budget, function, count, keeps, iterates)? {
+    if call_function(world, budget, at)? {
         return Ok(Ending::Go);
     }
-    call_apart(world, budget, function, count, keeps, iterates)
+    call_apart(world, budget, at)
 }
 
 /// Does so where the value is a Lua function that is given its arguments in registers, and these are given up with it: they become the function's first
 /// registers where they stand. `false`, with all as before, where that is not so, where the budget is spent or the stack is full. A refusal changes nothing.
-fn call_function(
-    world: &mut World,
-    budget: &mut u64,
-    function: usize,
-    count: usize,
-    keeps: usize,
-    iterates: bool,
-) -> Allocated<bool>
-    requires sound { IsSound world.old }
-    requires keeps { MayKeep world.old keeps }
-    requires near { function + 1 < 2 ^ 64 }
-    requires safe { (p : Prototype) (pc : ℕ) → IsSafe (expand (text_of p pc (Call function count keeps iterates))) [] world.old }
-    ensures steps { IfOk result (λ entered. entered ≡ true → (p : Prototype) (pc : ℕ) → Steps (expand (text_of p pc (Call function count keeps iterates))) [] world.old budget.old world.new budget.new go) }
+fn call_function(world: &mut World, budget: &mut u64, at: CallAt) -> Allocated<bool>
+    requires { MayDoCall world.old at }
+    ensures steps { IfOk result (λ entered. entered ≡ true → CallSteps at world.old budget.old world.new budget.new go) }
     ensures kept { IfOk result (λ entered. entered ≡ false → (world.new ≡ world.old) × (budget.new ≡ budget.old)) }
     ensures order { InOrder world.new }
     ensures err { OnErr result ((world.new ≡ world.old) × (budget.new ≡ budget.old)) }
 {
-    let called = read_register(world, function);
+    let called = read_register(world, at.function);
     let Value::Func(id) = called else {
         return Ok(false);
     };
-    if count == 0 {
+    if at.count == 0 {
         return Ok(false);
     }
-    if keeps != function {
+    if at.keeps != at.function {
         return Ok(false);
     }
-    let given = count - 1;
-    let _arguments = read_registers(world, function + 1, given);
-    call_registers(world, budget, id, function, given, wait_of_call(iterates))
+    let given = at.count - 1;
+    let _arguments = read_registers(world, at.function + 1, given);
+    call_registers(
+        world,
+        budget,
+        id,
+        at.function,
+        given,
+        wait_of_call(at.iterates),
+    )
 }
 
 /// Does so with the arguments apart.
-fn call_apart(
-    world: &mut World,
-    budget: &mut u64,
-    function: usize,
-    count: usize,
-    keeps: usize,
-    iterates: bool,
-) -> Allocated<Ending>
-    requires sound { IsSound world.old }
-    requires keeps { MayKeep world.old keeps }
-    requires near { function + 1 < 2 ^ 64 }
-    requires safe { (p : Prototype) (pc : ℕ) → IsSafe (expand (text_of p pc (Call function count keeps iterates))) [] world.old }
-    ensures steps { IfOk result (λ ending. (p : Prototype) (pc : ℕ) → Steps (expand (text_of p pc (Call function count keeps iterates))) [] world.old budget.old world.new budget.new (ending_of ending)) }
+fn call_apart(world: &mut World, budget: &mut u64, at: CallAt) -> Allocated<Ending>
+    requires { MayDoCall world.old at }
+    ensures steps { IfOk result (λ ending. CallSteps at world.old budget.old world.new budget.new (ending_of ending)) }
     ensures order { InOrder world.new }
     ensures err { OnErr result ((world.new.printed ≡ world.old.printed) × (budget.new ≡ budget.old)) }
 {
-    let called = read_register(world, function);
-    let arguments = read_values(world, function + 1, count).to_vec(world.alloc)?;
+    let called = read_register(world, at.function);
+    let arguments = read_values(world, at.function + 1, at.count).to_vec(world.alloc)?;
     call_over(
         world,
         budget,
         called,
         arguments,
-        wait_of_call(iterates),
-        Prepared::GivenUp { register: keeps },
+        wait_of_call(at.iterates),
+        Prepared::GivenUp { register: at.keeps },
     )
 }
 

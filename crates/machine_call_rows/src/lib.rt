@@ -7,7 +7,7 @@ pub mod law;
 mod primitives;
 mod tails;
 
-pub use calls::{call, tail_call};
+pub use calls::{CallAt, call, tail_call};
 pub use few::Few;
 pub use primitives::{PrimitiveCall, arguments_of_call, call_primitive, wait_for_primitive};
 pub use tails::tail_call_primitive;

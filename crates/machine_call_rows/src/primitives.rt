@@ -1,15 +1,11 @@
 // Calls of primitives with few arguments, which take no memory (precallC of ldo.c).
-ghost use Rattle.std.specs.Prelude.{◌≡◌, ◌+◌, ◌-◌, ◌<◌, ◌^◌, ℕ, List, [], IfNone, IfSome};
-ghost use Rattle.code_core.specs.Prototype.{Prototype};
-ghost use Rattle.instruction_forms.specs.Forms.{text_of};
-ghost use Rattle.instruction_forms.specs.declared.form.Form.TheVariants.{Call};
-ghost use Rattle.machine_core.specs.FrameRows.{expand};
-ghost use Rattle.move_laws.specs.Memory.{InOrder, IsSafe, IsSound};
+ghost use Rattle.std.specs.Prelude.{◌≡◌, ◌+◌, ◌-◌, ◌<◌, ◌^◌, ℕ, List, IfNone, IfSome};
+ghost use Rattle.move_laws.specs.Memory.{InOrder, IsSound};
 ghost use Rattle.table_core.specs.declared.value.Value.{Value as Kept};
 ghost use Rattle.machine_call_rows.specs.Primitives.{CallsPrimitive, MayCallPrimitive};
-ghost use Rattle.machine_call_rows.specs.Rows.{MayKeep, MayReadValues, ReadsValues};
+ghost use Rattle.machine_call_rows.specs.Rows.{MayDoCall, MayKeep, MayReadCall, MayReadValues, ReadsValues};
 
-use crate::calls::{read_values, wait_of_call};
+use crate::calls::{CallAt, read_values, wait_of_call};
 use crate::few::Few;
 use lua_heap::World;
 use machine_calls::{Prepared, make_ready};
@@ -32,6 +28,34 @@ impl PrimitiveCall {
             arguments: Few::new(),
         }
     }
+
+    /// Tells the primitive that stands in a register, and its arguments behind it. `None` where another value stands there, where there are more than six
+    /// arguments, and where the budget is spent.
+    #[inline(always)]
+    pub(crate) fn see(
+        &mut self,
+        world: &World,
+        budget: u64,
+        function: usize,
+        count: usize,
+    ) -> Option<()>
+        requires sound { IsSound world.now }
+        requires near { function + 1 < 2 ^ 64 }
+        requires safe { MayReadCall world.now function count }
+        ensures { IfSome result (λ _. MayCallPrimitive world.now budget function count self.new.number self.new.arguments) }
+    {
+        let called = read_register(world, function);
+        let Value::Prim(number) = called else {
+            return None;
+        };
+        if budget == 0 {
+            return None;
+        }
+        self.arguments
+            .hold(read_values(world, function + 1, count))?;
+        self.number = number;
+        Some(())
+    }
 }
 
 /// Does the call of `call` where the value is a primitive that is given at most six arguments: the frame on top waits, and the call is paid. The arguments
@@ -39,38 +63,19 @@ impl PrimitiveCall {
 pub fn call_primitive(
     world: &mut World,
     budget: &mut u64,
-    function: usize,
-    count: usize,
-    keeps: usize,
-    iterates: bool,
+    at: CallAt,
     told: &mut PrimitiveCall,
 ) -> Option<()>
-    requires sound { IsSound world.old }
-    requires keeps { MayKeep world.old keeps }
-    requires near { function + 1 < 2 ^ 64 }
-    requires safe { (p : Prototype) (pc : ℕ) → IsSafe (expand (text_of p pc (Call function count keeps iterates))) [] world.old }
-    ensures calls { IfSome result (λ _. CallsPrimitive world.old world.new budget.old function count keeps iterates told.new.number told.new.arguments) }
+    requires { MayDoCall world.old at }
+    ensures calls { IfSome result (λ _. CallsPrimitive world.old world.new budget.old at told.new.number told.new.arguments) }
     ensures paid { IfSome result (λ _. budget.new ≡ budget.old - 1) }
     ensures kept { IfNone result ((world.new ≡ world.old) × (budget.new ≡ budget.old)) }
     ensures order { InOrder world.new }
     ensures rest { world.new ≡ record world.old { cells = world.new.cells; coros = world.new.coros } }
 {
-    let called = read_register(world, function);
-    let Value::Prim(number) = called else {
-        return None;
-    };
-    if *budget == 0 {
-        return None;
-    }
-    told.arguments
-        .hold(read_values(world, function + 1, count))?;
-    make_ready(
-        world,
-        wait_of_call(iterates),
-        Prepared::GivenUp { register: keeps },
-    );
+    told.see(world, *budget, at.function, at.count)?;
+    wait_for_primitive(world, at);
     *budget -= 1;
-    told.number = number;
     Some(())
 }
 
@@ -85,18 +90,18 @@ pub fn arguments_of_call(world: &World, function: usize, count: usize) -> &[Valu
     read_values(world, function + 1, count)
 }
 
-/// What `call_primitive` does to the frame on top where the call was seen before: the frame waits, and gives its registers up from `keeps` on.
+/// What `call_primitive` does to the frame on top where the call was seen before: the frame waits, and gives registers up.
 #[inline(always)]
-pub fn wait_for_primitive(world: &mut World, keeps: usize, iterates: bool)
+pub fn wait_for_primitive(world: &mut World, at: CallAt)
     requires sound { IsSound world.old }
-    requires keeps { MayKeep world.old keeps }
-    ensures calls { (fuel function count number : ℕ) (arguments : List Kept) → MayCallPrimitive world.old fuel function count number arguments → CallsPrimitive world.old world.new fuel function count keeps iterates number arguments }
+    requires keeps { MayKeep world.old at.keeps }
+    ensures calls { (fuel number : ℕ) (arguments : List Kept) → MayCallPrimitive world.old fuel at.function at.count number arguments → CallsPrimitive world.old world.new fuel at number arguments }
     ensures order { InOrder world.new }
     ensures rest { world.new ≡ record world.old { cells = world.new.cells; coros = world.new.coros } }
 {
     make_ready(
         world,
-        wait_of_call(iterates),
-        Prepared::GivenUp { register: keeps },
+        wait_of_call(at.iterates),
+        Prepared::GivenUp { register: at.keeps },
     );
 }

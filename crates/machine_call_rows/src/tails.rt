@@ -7,12 +7,9 @@ ghost use Rattle.machine_core.specs.FrameRows.{expand};
 ghost use Rattle.move_laws.specs.Memory.{InOrder, IsSafe, IsSound};
 ghost use Rattle.machine_call_rows.specs.Primitives.{TailCallsPrimitive};
 
-use crate::calls::read_values;
 use crate::primitives::PrimitiveCall;
 use lua_heap::World;
 use machine_calls::drop_frame;
-use machine_moves::read_register;
-use table_core::Value;
 
 /// Does the call of `tail_call` where the value is a primitive that is given at most six arguments: the frame on top is gone, and the call is paid. The
 /// arguments do not move yet. `None`, with all as before, where it is another value, where there are more arguments, and where the budget is spent.
@@ -32,17 +29,8 @@ pub fn tail_call_primitive(
     ensures order { InOrder world.new }
     ensures rest { world.new ≡ record world.old { cells = world.new.cells; coros = world.new.coros } }
 {
-    let called = read_register(world, function);
-    let Value::Prim(number) = called else {
-        return None;
-    };
-    if *budget == 0 {
-        return None;
-    }
-    told.arguments
-        .hold(read_values(world, function + 1, count))?;
+    told.see(world, *budget, function, count)?;
     drop_frame(world);
     *budget -= 1;
-    told.number = number;
     Some(())
 }

@@ -3,8 +3,9 @@ ghost use Rattle.std.specs.Prelude.{◌≡◌, [], IfOk, OnErr};
 ghost use Rattle.lua_heap.specs.Plain.{plain};
 ghost use Rattle.machine_core.specs.FrameRows.{unwound, unwinding_row};
 ghost use Rattle.machine_core.specs.Moves.{no_top, runs_main};
-ghost use Rattle.move_laws.specs.Memory.{HasStack, InOrder, IsSafe, IsSound, Leads, ReadsSame};
+ghost use Rattle.move_laws.specs.Memory.{HasStack, InOrder, IsSafe, Leads, ReadsSame};
 ghost use Rattle.machine_moves.specs.Ending.{ending_of};
+ghost use Rattle.machine_frame_rows.specs.Reaching.{MayReach};
 
 use crate::handing::runs_main;
 use int_core::Allocated;
@@ -17,8 +18,7 @@ use machine_returns::unwind_function;
 
 /// An error reaches the frame on top, which is left with it or catches it, or it ends the running coroutine. After a refusal the machine's world is as before.
 pub fn unwind_top(world: &mut World) -> Allocated<Ending>
-    requires sound { IsSound world.old }
-    requires safe { IsSafe unwinding_row [] world.old }
+    requires { MayReach unwinding_row world.old }
     ensures leads { IfOk result (λ ending. Leads unwinding_row [] world.old world.new (ending_of ending)) }
     ensures order { InOrder world.new }
     ensures err { OnErr result (ReadsSame world.old world.new) }

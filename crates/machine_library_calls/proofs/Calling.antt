@@ -1,16 +1,19 @@
--- A primitive that a Lua frame calls, and results that go to its registers: these are up to three steps of the machine.
-use Rattle.std.proofs.Common.{◌≡◌, ℕ, zero, suc, ◌-◌, ◌<◌, ◌≤◌, Some, List, [], ◌∷◌, ◌++◌, length, refl, ap, sym, subst, ◌∙◌, arith, Bool, false}
+-- A primitive that is called for a Lua frame, and results that the frame takes: these are up to three steps of the machine.
+use Rattle.std.proofs.Common.{◌≡◌, ℕ, suc, zero, ◌-◌, ◌<◌, ◌≤◌, List, [], ◌∷◌, ◌++◌, length, Option, Some, None, Result, Ok, Err, IfOk, refl, ap, sym, subst, ◌∙◌, arith, Bool, true, false}
 use Rattle.std.specs.Prelude.{◌^◌, drop, map}
 use Rattle.std.specs.Global.{Vec}
-use Rattle.int_core.specs.Value.{Value}
+use Rattle.int_core.specs.Heap.{Heap}
+use Rattle.int_core.specs.Value.{Value, last}
 use Rattle.tree_core.specs.Tree.{Body}
 use Rattle.library_rows.specs.Library.{all_entries}
+use Rattle.library_rows.specs.Look.{Look, looked}
 use Rattle.load_rows.specs.Loading.{Builds}
 use Rattle.loaded_code.specs.Laws.{LoadingIsSafe, library}
-use Rattle.library_rows.specs.Look.{Look, looked}
-use Rattle.machine_core.specs.World.{Place, place_of}
+use Rattle.source_builds.specs.Builds.{BuildsSources}
+use Rattle.machine_core.specs.World.{Frame, closing, World, Stack, stack_of, Place, place_of}
 use Rattle.machine_core.specs.Text.{Arg, args_of}
-use Rattle.machine_core.specs.Moves.{Ending, go, calls_primitive, raised, give, give_with, is_given, made, Row, ends}
+use Rattle.machine_core.specs.FrameRows.{hand_over, handed}
+use Rattle.machine_core.specs.Moves.{Ending, Made, made, TopShape, lua_top, see_top, top_now, top_shape, go, calls_primitive, raised, give, give_with, is_given, Row, ends}
 use Rattle.machine_core.specs.MachineStep.{after_look, and_then, look_row, steps}
 use Rattle.machine_sound.specs.Laws.{PrimitivesSafe}
 use Rattle.machine_sound.proofs.Lists.{some_is}
@@ -24,13 +27,11 @@ use Rattle.lua_heap.specs.Reading.{value}
 use Rattle.pure_functions.specs.declared.answer.Answer.{Answer}
 use Rattle.pure_functions.specs.declared.answer.Answer.TheVariants.{Raises}
 use Rattle.pure_functions.specs.Answers.{Changes, OnlyStrings, Stands, told, heap_of}
-use Rattle.move_laws.specs.Memory.{HasFrame, InOrder, IsSound, Leads, Makes, ReadsSame}
+use Rattle.move_laws.specs.Memory.{InOrder, IsSound, Leads, Makes, ReadsSame}
 use Rattle.move_laws.proofs.Order.{steps_of}
+use Rattle.move_laws.proofs.Rows.{first, ended}
 use Rattle.machine_moves.specs.Ending.{ending_of}
 use Rattle.machine_moves.specs.declared.ending.Ending.{Ending as KeptEnding}
-use Rattle.instruction_forms.specs.declared.form.Form.TheVariants.{Call}
-use Rattle.machine_call_rows.specs.Primitives.{CallsPrimitive}
-use Rattle.machine_call_rows.specs.Rows.{IsWaitOfCall}
 use Rattle.machine_primitives.proofs.Reading.{nothing, nothing_built}
 use Rattle.machine_returns.specs.Waking.{IsSolid, WaitsSo, Wakes}
 use Rattle.machine_returns.proofs.Woken.{moved}
@@ -41,14 +42,18 @@ use Rattle.step_laws.specs.Steps.{Does, IsReady}
 use Rattle.step_laws.proofs.Ready.{ready_is_sound, steps_stay_ready}
 use Rattle.step_laws.proofs.Stepping.{primitive_is_step}
 use Rattle.running_frame.specs.declared.place.Here.{Here}
-use Rattle.running_frame.specs.Here.{IsHere, IsAtWord, RunsIf, is_none}
-use Rattle.machine_step.specs.Places.{RunsForm, GoesOnSo, IsAwake, WaitsHere}
-use Rattle.machine_step.proofs.Again.{solid_with as solid_given, wakes_with}
+use Rattle.running_frame.specs.Here.{is_none}
+use Rattle.machine_step.specs.Places.{GoesOnSo, IsAwake, WaitsHere}
+use Rattle.machine_step.proofs.Again.{ready_without, solid_with as solid_given, waits_with, wakes_with}
 use Rattle.machine_step.proofs.Awake.{awake, goes_on}
 use Rattle.machine_step.proofs.ByForm.{does}
-use Rattle.machine_step.proofs.Steps.{waits_here}
-use Rattle.machine_library_calls.specs.Calls.{Begun, Comes, IsAnswered, IsCalled, begins, wait_by}
-use Rattle.machine_library_calls.proofs.Waiting.{hands_on, is_wait, ready_place, same_wait, waiting_place, waits_for_some}
+use Rattle.machine_call_rows.specs.declared.calls.CallAt.{CallAt}
+use Rattle.machine_call_rows.specs.Primitives.{CallsPrimitive, TailCallsPrimitive}
+use Rattle.machine_library_calls.specs.declared.primitives.Taker.{Taker}
+use Rattle.machine_library_calls.specs.declared.primitives.Taker.TheVariants.{Caller, Below}
+use Rattle.machine_library_calls.specs.Calls.{Begun, CallComes, Comes, HasLuaOnTop, IsAnswered, IsAtCall, IsCalled, IsGiven, Takes, WaitsIf, WaitsSoAt, begins, wait_by}
+use Rattle.machine_library_calls.specs.Tails.{IsAtTailCall}
+use Rattle.machine_library_calls.proofs.Waiting.{is_wait, ready_place, same_by, same_wait, sees, told_top, top_in, waiting_place, waits_for_some}
 
 -- values as a list on its way
 
@@ -84,44 +89,56 @@ moving_order X V e o = subst InOrder (sym e) (record { codes = o.codes; listed =
 pub order_of_strings : (R X : Memory) (few : List Kept) → OnlyStrings R X few → InOrder R → InOrder X
 order_of_strings R X few o i = record { codes = o.codes i.codes; listed = subst CellsAreListed (sym o.rest) i.listed }
 
-module _ {b : Begun} {R : Memory} {here : Here} {iterates : Bool} {number : ℕ} {few : List Kept} (k : IsCalled b R here iterates number few) where
+-- what is on top is the same whatever tables hold and whatever moves
+
+abbrev changed : World → Heap → List Value → World
+changed V H vs = record V { heap = H; moving = vs }
+
+top_kept : (V : World) (H : Heap) (vs : List Value) (o : Option Frame) → top_shape (changed V H vs) o ≡ top_shape V o
+top_kept V H vs (Some (closing e left)) = refl
+top_kept V H vs _ = refl
+
+tops_kept : (V : World) (H : Heap) (vs : List Value) (o : Option Stack) → top_in (changed V H vs) o ≡ top_in V o
+tops_kept V H vs None = refl
+tops_kept V H vs (Some s) = ap (λ t. Some t) (top_kept V H vs (last s.frames))
+
+told_is : (V : World) (o : Option TopShape) (t : TopShape) → told_top V o ≡ made V [] t → o ≡ Some t
+told_is V None t e = absurd (cc)
+told_is V (Some u) t e = ap (λ u. Some u) (ap (λ (d : Made TopShape). d.told) (some_is {o = made V [] u} refl e))
+
+sees_lua : (R N : Memory) (H : Heap) (vs : List Value) → ((fuel : ℕ) → plain N fuel ≡ changed (plain R fuel) H vs) → Makes R R see_top [] [] lua_top → (env : List Value) → Makes N N see_top env [] lua_top
+sees_lua R N H vs m s env = record {
+  is = λ fuel.
+      let V = plain R fuel in
+      let now : top_now V ≡ Some lua_top = told_is V (top_now V) lua_top (s.is fuel) in
+      ap (λ U. told_top U (top_now U)) (m fuel)
+      ∙ ap (told_top (changed V H vs)) (tops_kept V H vs (stack_of V) ∙ now)
+      ∙ ap (λ U. made U [] lua_top) (sym (m fuel));
+}
+
+module _ {b : Begun} {R : Memory} {number : ℕ} {few : List Kept} (k : IsCalled b R number few) where
   abbrev W : Memory
   W = b.before
 
   abbrev left : ℕ
   left = b.fuel - 1
 
-  abbrev P : Place
-  P = k.is_here.word.place
-
-  -- the place of the frame that waits
-  abbrev Q : Place
-  Q = waiting_place W k.calls.wait k.keeps P
-
   -- with the arguments on their way
   abbrev M : Memory
-  M = record R { moving = listed R few k.calls.few }
-
-  none_move : R.moving.items ≡ []
-  none_move = ap (λ (W : Memory). W.moving.items) k.rest ∙ k.still
+  M = record R { moving = listed R few k.few }
 
   order_M : InOrder M
   order_M = record { codes = k.order.codes; listed = k.order.listed }
 
-  -- the call is a step, whatever the libraries do
-
-  leads_to : (V : Memory) → V ≡ record R { moving = V.moving } → V.moving.items ≡ few → (rows : ℕ → Row) → Does rows go W b.fuel V left (calls_primitive number)
-  leads_to V e items rows = (does k.runs (k.calls.steps V e items k.runs.runs.place.function.code here.pc)).is rows
-
   called_step : (rows : ℕ → Row) → Does rows go W b.fuel M left (calls_primitive number)
-  called_step = leads_to M refl refl
+  called_step = k.steps M refl refl
 
-  at_once : (V : Memory) (to : Ending) (rows : ℕ → Row) → Does rows go W b.fuel V left to → Comes rows W b.fuel V left to
-  at_once V to rows d = record { count = 0; mid = W; rest = b.fuel; at = go; goes_on = refl; is = refl; ready = k.ready; does = d }
+  at_once : (V : Memory) (rows : ℕ → Row) → Does rows go W b.fuel V left (calls_primitive number) → Comes rows W b.fuel V left (calls_primitive number)
+  at_once V rows d = record { count = 0; mid = W; rest = b.fuel; at = go; goes_on = refl; is = refl; ready = k.ready; does = d }
 
   -- the primitive is left for the next step
   pub later_comes : (V : Memory) → V ≡ record R { moving = V.moving } → V.moving.items ≡ few → (rows : ℕ → Row) → Comes rows W b.fuel V left (calls_primitive number)
-  later_comes V e items rows = at_once V (calls_primitive number) rows (leads_to V e items rows)
+  later_comes V e items rows = at_once V rows (k.steps V e items rows)
 
   pub later_order : (V : Memory) → V ≡ record R { moving = V.moving } → InOrder V
   later_order V e = moving_order R V e k.order
@@ -133,11 +150,24 @@ module _ {b : Begun} {R : Memory} {here : Here} {iterates : Bool} {number : ℕ}
     ready_M : IsReady (length all_entries) (calls_primitive number) M
     ready_M = called_ready (library nothing) (law nothing nothing_built)
 
+    -- it is looked up in a second step
+    second_comes : (builds : Builds Body) {V : Memory} {to : Ending} → Does (library builds) (calls_primitive number) M left V left to → Comes (library builds) W b.fuel V left to
+    second_comes builds d = record {
+      count = suc zero;
+      mid = M;
+      rest = left;
+      at = calls_primitive number;
+      goes_on = refl;
+      is = one_step (library builds) (called_step (library builds));
+      ready = ready_M;
+      does = d;
+    }
+
     sound_M : IsSound M
     sound_M = ready_is_sound (length all_entries) (calls_primitive number) M ready_M
 
     nothing_moves : (fuel : ℕ) → moved (plain M fuel) [] ≡ plain R fuel
-    nothing_moves fuel = ap (λ vs. moved (plain R fuel) (map (value R.strings) vs)) (sym none_move)
+    nothing_moves fuel = ap (λ vs. moved (plain R fuel) (map (value R.strings) vs)) (sym k.still)
 
     taken : Taken M R few
     taken = record {
@@ -157,19 +187,13 @@ module _ {b : Begun} {R : Memory} {here : Here} {iterates : Bool} {number : ℕ}
       reads_same = subst (ReadsSame M) (sym e) (moves_again M R X few V.moving items taken o)
 
       pub refused_comes : (rows : ℕ → Row) → Comes rows W b.fuel V left (calls_primitive number)
-      refused_comes rows = at_once V (calls_primitive number) rows (record { is = (called_step rows).is ∙ ap (ends (calls_primitive number)) (sym (reads_same.is left)) })
+      refused_comes rows = at_once V rows (record { is = (called_step rows).is ∙ ap (ends (calls_primitive number)) (sym (reads_same.is left)) })
 
     -- where it answers
-    module _ (X : Memory) (row : Look) (is_row : (builds : Builds Body) → library builds number ≡ look_row row) (answer : Answer) (changes : Changes R X few)
+    module _ (X : Memory) (row : Look) (is_row : (builds : Builds Body) → library builds number ≡ look_row row) (lua : HasLuaOnTop R) (answer : Answer) (changes : Changes R X few)
         (answers : looked row (map (value R.strings) few) (heap_of R) ≡ told X answer) where
       pub answered_order : InOrder X
       answered_order = record { codes = changes.codes k.order.codes; listed = subst CellsAreListed (sym changes.rest) k.order.listed }
-
-      place_X : place_of (plain X 0) ≡ Some Q
-      place_X = ap place_of (changes.plain 0) ∙ ready_place W R P k.calls.wait k.keeps k.is_here.word.is k.calls.ready
-
-      pub answered_frame : HasFrame X
-      answered_frame = record { place = Q; is = place_X }
 
       -- with an error
       module _ (V : Memory) (v : Kept) (is : answer ≡ Raises v) (e : V ≡ record X { moving = V.moving }) (items : V.moving.items ≡ v ∷ []) where
@@ -184,16 +208,8 @@ module _ {b : Begun} {R : Memory} {here : Here} {iterates : Bool} {number : ℕ}
         error_leads = tells_row row few M R X V (Raises v) raised taken changes (answers ∙ ap (told X) is) (record { leads = raises_on X V v gives_error })
 
         pub raised_comes : (builds : Builds Body) → Comes (library builds) W b.fuel V left raised
-        raised_comes builds = let rows = library builds in record {
-          count = suc zero;
-          mid = M;
-          rest = left;
-          at = calls_primitive number;
-          goes_on = refl;
-          is = one_step rows (called_step rows);
-          ready = ready_M;
-          does = primitive_is_step rows number M V left left raised (steps_of left (λ s. s) (subst (λ r. Leads r [] M V raised) (sym (is_row builds)) error_leads));
-        }
+        raised_comes builds = second_comes builds
+            (primitive_is_step (library builds) number M V left left raised (steps_of left (λ s. s) (subst (λ r. Leads r [] M V raised) (sym (is_row builds)) error_leads)))
 
       -- with results
       module _ (results : Vec Kept) (given : shape_told answer ≡ is_given) (values : values_told X answer ≡ map (value X.strings) results.items) where
@@ -203,12 +219,18 @@ module _ {b : Begun} {R : Memory} {here : Here} {iterates : Bool} {number : ℕ}
         gives_results : (env : List Value) (slot : ℕ) → args_of env [] ++ drop slot env ≡ map (value X.strings) results.items → Makes X N (give_with [] slot) env [] tt
         gives_results env slot same = record { is = λ fuel. ap (λ vs. made (moved (plain X fuel) vs) [] tt) same }
 
+        results_move : (fuel : ℕ) → plain N fuel ≡ changed (plain R fuel) (heap_of X) (map (value X.strings) results.items)
+        results_move fuel = ap (λ V. moved V (map (value X.strings) results.items)) (changes.plain fuel)
+
+        hands_on : (env : List Value) → Leads hand_over env N N go
+        hands_on env = first (λ _ top. handed top) (sees_lua R N (heap_of X) (map (value X.strings) results.items) results_move lua.sees env) ended
+
         result_tells : Tells X N answer go
         result_tells = record {
           leads = λ env.
               subst (λ s. Leads (after_look (length env) s) (env ++ values_told X answer) X N go) (sym given)
               (subst (λ vs. Leads (after_look (length env) is_given) (env ++ vs) X N go) (sym values)
-              (gives_on X N results.items go gives_results (hands_on N Q (λ fuel. place_X)) env));
+              (gives_on X N results.items go gives_results hands_on env));
         }
 
         result_leads : Leads (look_row row) [] M N go
@@ -225,34 +247,35 @@ module _ {b : Begun} {R : Memory} {here : Here} {iterates : Bool} {number : ℕ}
             let rows = library nothing in
             steps_stay_ready (length all_entries) rows (law nothing nothing_built) (calls_primitive number) go M N left left ready_M (looked_step rows (is_row nothing)) order_N
 
-        -- the frame is woken with them
-        module _ (again : Memory) (wait : KeptWait) (w : IsWaitOfCall iterates wait) (set : WaitsSo X again Running) (kept : again ≡ record X { coros = again.coros })
+        nothing_N : (fuel : ℕ) → moved (plain N fuel) [] ≡ plain X fuel
+        nothing_N fuel = ap (λ vs. moved (plain X fuel) (map (value X.strings) vs)) (sym (ap (λ (W : Memory). W.moving.items) changes.rest ∙ k.still))
+
+        -- where the frame on top does not wait, the results are on their way
+        pub results_move_on : (last : Memory) → last ≡ N → (builds : Builds Body) → Comes (library builds) W b.fuel last left go
+        results_move_on last e builds = second_comes builds
+            (subst (λ (V : Memory). Does (library builds) (calls_primitive number) M left V left go) (sym e) (looked_step (library builds) (is_row builds)))
+
+        -- the Lua frame on top could go on without them too
+        pub ready_X : IsReady (length all_entries) go X
+        ready_X = ready_without X results nothing_N ready_N answered_order
+
+        -- it is woken with them
+        module _ (again : Memory) (here : Here) (wait : KeptWait) (w : WaitsSoAt X here wait) (set : WaitsSo X again Running) (kept : again ≡ record X { coros = again.coros })
             (listed_on : CellsAreListed again) where
           sound_N : IsSound N
           sound_N = ready_is_sound (length all_entries) go N ready_N
 
-          word_N : IsAtWord N here.pc here.word
-          word_N = record { place = Q; is = place_X; at_pc = k.is_here.word.at_pc; there = k.is_here.word.there; near = k.is_here.word.near }
-
-          runs_N : RunsIf N false
-          runs_N = record {
-            is = λ place e. sym (ap (λ (p : Place). is_none p.top.wait) (some_is e place_X) ∙ waits_for_some (value W.strings) iterates k.calls.wait k.calls.waits);
-          }
-
           waits_at : WaitsHere N here.pc here.word
-          waits_at = waits_here sound_N word_N runs_N refl
-
-          nothing_N : (fuel : ℕ) → moved (plain N fuel) [] ≡ plain X fuel
-          nothing_N fuel = ap (λ vs. moved (plain X fuel) (map (value X.strings) vs)) (sym (ap (λ (W : Memory). W.moving.items) changes.rest ∙ none_move))
+          waits_at = waits_with X results (record here { runs = false }) sound_N (record { word = w.word; wait = w.waits }) refl
 
           wakes : Wakes N again wait results.items
-          wakes = wakes_with X results nothing_N again wait Q place_X (same_wait (value N.strings) (value W.strings) iterates wait k.calls.wait w k.calls.waits) set kept
+          wakes = let p = w.word in wakes_with X results nothing_N again wait p.place p.is (w.waited.is p.place p.is) set kept
 
-          pub woken_solid_so : IsSolid again
-          woken_solid_so = solid_given X results nothing_N ready_N answered_order wakes kept listed_on
+          pub solid_again : IsSolid again
+          solid_again = solid_given X results nothing_N ready_N answered_order wakes kept listed_on
 
-          pub woken_with : IsAwake again here.pc here.word wait results.items
-          woken_with = awake waits_at wakes sound_N woken_solid_so.order
+          pub awake_again : IsAwake again here.pc here.word wait results.items
+          awake_again = awake waits_at wakes sound_N solid_again.order
 
           pub results_come : (last : Memory) (to : KeptEnding) → GoesOnSo again last here.word wait results.items (ending_of to) → (builds : Builds Body) → Comes (library builds) W b.fuel last left (ending_of to)
           results_come last to g builds = let rows = library builds in record {
@@ -268,52 +291,127 @@ module _ {b : Begun} {R : Memory} {here : Here} {iterates : Bool} {number : ℕ}
 
 -- of an answer
 
-module _ {b : Begun} {X : Memory} {here : Here} {iterates : Bool} {answer : Answer} (h : IsAnswered b X here iterates answer) (law : LoadingIsSafe) where
-  pub frame_there : HasFrame X
-  frame_there = answered_frame h.is_called law X h.row h.is_row answer h.changes h.answers
-
+module _ {b : Begun} {X : Memory} {answer : Answer} (h : IsAnswered b X answer) (law : LoadingIsSafe) where
   order_there : InOrder X
-  order_there = answered_order h.is_called law X h.row h.is_row answer h.changes h.answers
-
-  pub listed_there : CellsAreListed X
-  listed_there = order_there.listed
-
-  -- an error
+  order_there = answered_order h.is_called law X h.row h.is_row h.lua answer h.changes h.answers
 
   pub order_raised : (V : Memory) → V ≡ record X { moving = V.moving } → InOrder V
   order_raised V e = moving_order X V e order_there
 
   pub comes_raised : (V : Memory) (v : Kept) → answer ≡ Raises v → V ≡ record X { moving = V.moving } → V.moving.items ≡ v ∷ [] → (builds : Builds Body) → Comes (library builds) b.before b.fuel V (b.fuel - 1) raised
-  comes_raised V v is e items = raised_comes h.is_called law X h.row h.is_row answer h.changes h.answers V v is e items
+  comes_raised V v is e items = raised_comes h.is_called law X h.row h.is_row h.lua answer h.changes h.answers V v is e items
 
-  -- results
-  module _ (results : Vec Kept) (given : shape_told answer ≡ is_given) (values : values_told X answer ≡ map (value X.strings) results.items) (again : Memory) (set : WaitsSo X again Running)
-      (kept : again ≡ record X { coros = again.coros }) (listed_on : CellsAreListed again) where
+-- its results
+pub given_so : {b : Begun} {X : Memory} {answer known : Answer} {values : List Kept} → IsAnswered b X answer → (results : Vec Kept) → results.items ≡ values → answer ≡ known → shape_told known ≡ is_given
+    → values_told X known ≡ map (value X.strings) results.items → IsGiven b X values
+given_so {X = X} {answer = answer} h results items is given are = record {
+  answer = answer;
+  is_answered = h;
+  results = results;
+  items = items;
+  given = ap shape_told is ∙ given;
+  are = ap (values_told X) is ∙ are;
+}
+
+module _ {b : Begun} {X : Memory} {values : List Kept} (g : IsGiven b X values) (law : LoadingIsSafe) where
+  abbrev h : IsAnswered b X g.answer
+  h = g.is_answered
+
+  order_with : InOrder X
+  order_with = answered_order h.is_called law X h.row h.is_row h.lua g.answer h.changes h.answers
+
+  pub ready_with : IsReady (length all_entries) go X
+  ready_with = ready_X h.is_called law X h.row h.is_row h.lua g.answer h.changes h.answers g.results g.given g.are
+
+  module _ (again : Memory) (here : Here) (wait : KeptWait) (w : WaitsSoAt X here wait) (set : WaitsSo X again Running) (kept : again ≡ record X { coros = again.coros })
+      (listed_on : CellsAreListed X → CellsAreListed again) where
+    listed_again : CellsAreListed again
+    listed_again = listed_on order_with.listed
+
     pub solid_with : IsSolid again
-    solid_with = woken_solid_so h.is_called law X h.row h.is_row answer h.changes h.answers results given values again (wait_by iterates) (is_wait iterates) set kept listed_on
+    solid_with = solid_again h.is_called law X h.row h.is_row h.lua g.answer h.changes h.answers g.results g.given g.are again here wait w set kept listed_again
 
-    pub awake_with : IsAwake again here.pc here.word (wait_by iterates) results.items
-    awake_with = woken_with h.is_called law X h.row h.is_row answer h.changes h.answers results given values again (wait_by iterates) (is_wait iterates) set kept listed_on
+    pub awake_with : IsAwake again here.pc here.word wait values
+    awake_with = subst (IsAwake again here.pc here.word wait) g.items
+        (awake_again h.is_called law X h.row h.is_row h.lua g.answer h.changes h.answers g.results g.given g.are again here wait w set kept listed_again)
 
-    pub comes_with : (last : Memory) (to : KeptEnding) → GoesOnSo again last here.word (wait_by iterates) results.items (ending_of to) → (builds : Builds Body) → Comes (library builds) b.before b.fuel last (b.fuel - 1) (ending_of to)
-    comes_with = results_come h.is_called law X h.row h.is_row answer h.changes h.answers results given values again (wait_by iterates) (is_wait iterates) set kept listed_on
+    pub comes_with : (last : Memory) (to : KeptEnding) → GoesOnSo again last here.word wait values (ending_of to) → (builds : Builds Body) → Comes (library builds) b.before b.fuel last (b.fuel - 1) (ending_of to)
+    comes_with last to s = results_come h.is_called law X h.row h.is_row h.lua g.answer h.changes h.answers g.results g.given g.are again here wait w set kept listed_again last to
+        (subst (λ came. GoesOnSo again last here.word wait came (ending_of to)) (sym g.items) s)
+
+  pub comes_moving : (last : Memory) → last ≡ record X { moving = last.moving } → last.moving.items ≡ values → (builds : Builds Body) → Comes (library builds) b.before b.fuel last (b.fuel - 1) go
+  comes_moving last e items = results_move_on h.is_called law X h.row h.is_row h.lua g.answer h.changes h.answers last.moving g.given
+      (g.are ∙ ap (map (value X.strings)) (g.items ∙ sym items)) last e
+
+  pub order_moving : (last : Memory) → last ≡ record X { moving = last.moving } → InOrder last
+  order_moving last e = moving_order X last e order_with
 
 -- what is known as the primitive is called
-pub called_so : (b : Begun) (W : Memory) (fuel : ℕ) → b ≡ begins W fuel → (now : Memory) (here : Here) (iterates : Bool) (number : ℕ) (arguments : List Kept) (function count keeps : ℕ)
-    → IsReady (length all_entries) go W → IsHere W here → RunsForm W here.pc (Call function count keeps iterates) → W.moving.items ≡ []
-    → CallsPrimitive W now fuel function count keeps iterates number arguments → now ≡ record W { cells = now.cells; coros = now.coros } → InOrder now
-    → IsCalled b now here iterates number arguments
-called_so b W fuel is now here iterates number arguments function count keeps ready is_here runs still calls rest order =
-    let called : IsCalled (begins W fuel) now here iterates number arguments = record {
-      function = function;
-      count = count;
-      keeps = keeps;
-      ready = ready;
-      is_here = is_here;
-      runs = runs;
-      still = still;
-      calls = calls;
-      rest = rest;
+
+module _ (W : Memory) (fuel : ℕ) (now : Memory) (here : Here) (at : CallAt) (number : ℕ) (arguments : List Kept) (a : IsAtCall W here at) (calls : CallsPrimitive W now fuel at number arguments) where
+  pub called_so : (b : Begun) → b ≡ begins W fuel → now ≡ record W { cells = now.cells; coros = now.coros } → InOrder now → IsCalled b now number arguments
+  called_so b is rest order =
+      let called : IsCalled (begins W fuel) now number arguments = record {
+        ready = a.ready;
+        few = calls.few;
+        still = ap (λ (W : Memory). W.moving.items) rest ∙ a.still;
+        order = order;
+        steps = λ sent e items rows. (does a.runs (calls.steps sent e items a.runs.runs.place.function.code here.pc)).is rows;
+      } in
+      subst (λ b. IsCalled b now number arguments) (sym is) called
+
+  abbrev Q : Place
+  Q = waiting_place W calls.wait at.keeps a.is_here.word.place
+
+  place_now : place_of (plain now 0) ≡ Some Q
+  place_now = let w = a.is_here.word in ready_place W now w.place calls.wait at.keeps w.is calls.ready
+
+  -- the frame that calls takes what comes
+  pub caller_takes : Takes now (Caller here at.iterates)
+  caller_takes = let w = a.is_here.word in record {
+    lua = record { sees = sees now Q (λ fuel. place_now) [] };
+    waits = record {
+      word = record { place = Q; is = place_now; at_pc = w.at_pc; there = w.there; near = w.near };
+      waits = record { is = λ place e. sym (ap (λ (p : Place). is_none p.top.wait) (some_is e place_now) ∙ waits_for_some (value W.strings) at.iterates calls.wait calls.waits) };
+      waited = record {
+        is = λ place e.
+            same_wait (value now.strings) (value W.strings) at.iterates (wait_by at.iterates) calls.wait (is_wait at.iterates) calls.waits
+            ∙ ap (λ (p : Place). p.top.wait) (some_is place_now e);
+      };
+    };
+  }
+
+pub tail_called_so : (b : Begun) (W : Memory) (fuel : ℕ) → b ≡ begins W fuel → (now : Memory) (function count number : ℕ) (arguments : List Kept)
+    → IsAtTailCall W function count → TailCallsPrimitive W now fuel function count number arguments → now ≡ record W { cells = now.cells; coros = now.coros } → InOrder now → IsCalled b now number arguments
+tail_called_so b W fuel is now function count number arguments a calls rest order =
+    let r = a.tail.runs in
+    let called : IsCalled (begins W fuel) now number arguments = record {
+      ready = a.ready;
+      few = calls.few;
+      still = ap (λ (W : Memory). W.moving.items) rest ∙ a.still;
       order = order;
+      steps = λ sent e items rows. (does r (calls.steps sent e items r.runs.place.function.code a.tail.pc)).is rows;
     } in
-    subst (λ b. IsCalled b now here iterates number arguments) (sym is) called
+    subst (λ b. IsCalled b now number arguments) (sym is) called
+
+-- it waits still once the function has answered
+pub still_waits : {R X : Memory} {few : List Kept} (to : Taker) → WaitsIf R to → Changes R X few → WaitsIf X to
+still_waits {R} {X} Below w c = tt
+still_waits {R} {X} (Caller here iterates) w c =
+    let same = ap place_of (c.plain 0) in
+    record {
+      word = record { place = w.word.place; is = same ∙ w.word.is; at_pc = w.word.at_pc; there = w.word.there; near = w.word.near };
+      waits = record { is = λ place e. w.waits.is place (sym same ∙ e) };
+      waited = record { is = λ place e. same_by (value X.strings) (value R.strings) iterates ∙ w.waited.is place (sym same ∙ e) };
+    }
+
+-- an ending that is known, and what it comes to
+pub ends_so : (b : Begun) (V : Memory) (vs : List Kept) (to : Ending) {E : Type 0} (r : Result KeptEnding E) → IfOk r (λ ending. (ending_of ending ≡ to) × (V.moving.items ≡ vs))
+    → (V.moving.items ≡ vs → (builds : Builds Body) → Comes (library builds) b.before b.fuel V (b.fuel - 1) to) → IfOk r (λ ending. CallComes b V (ending_of ending))
+ends_so b V vs to (Ok ending) h f = λ builds are. subst (λ e. Comes (library builds) b.before b.fuel V (b.fuel - 1) e) (sym h.0) (f h.1 builds)
+ends_so b V vs to (Err e) h f = tt
+
+-- what a call comes to, in the words of the world in which it began
+pub comes_since : {b : Begun} {W V : Memory} {fuel left : ℕ} {to : Ending} → b ≡ begins W fuel → left ≡ fuel - 1 → CallComes b V to → (builds : Builds Body) → BuildsSources builds → Comes (library builds) W fuel V left to
+comes_since {b} {W} {V} {fuel} {left} {to} is paid c = λ builds are.
+    subst (λ n. Comes (library builds) W fuel V n to) (sym paid) (subst (λ b. Comes (library builds) b.before b.fuel V (b.fuel - 1) to) is (c builds are))

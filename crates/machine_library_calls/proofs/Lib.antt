@@ -1,3 +1,2 @@
 mod Waiting
 mod Calling
-mod InPlace

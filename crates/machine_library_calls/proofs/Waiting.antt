@@ -3,17 +3,15 @@ use Rattle.std.proofs.Common.{◌≡◌, ℕ, List, [], ◌∷◌, Option, Some,
 use Rattle.int_core.specs.Value.{Value, bind, last}
 use Rattle.machine_core.specs.World.{Wait, LuaFrame, lua, World, Stack, Place, place_of, put_top}
 use Rattle.machine_core.specs.Text.{cut_from, drop_pending, read}
-use Rattle.machine_core.specs.FrameRows.{hand_over, handed}
-use Rattle.machine_core.specs.Moves.{Made, made, TopShape, lua_top, see_top, top_now, top_shape, go, with_own}
+use Rattle.machine_core.specs.Moves.{Made, made, TopShape, lua_top, see_top, top_now, top_shape, with_own}
 use Rattle.table_core.specs.declared.value.Value.{Value as Kept}
 use Rattle.lua_stack.specs.declared.frame.Wait.{Wait as KeptWait}
 use Rattle.lua_stack.specs.Frames.{given_up, wait_of, with_wait}
 use Rattle.lua_heap.specs.declared.world.World.{World as Memory}
 use Rattle.lua_heap.specs.Plain.{plain}
 use Rattle.lua_heap.specs.Reading.{value}
-use Rattle.move_laws.specs.Memory.{Leads, Makes}
+use Rattle.move_laws.specs.Memory.{Makes}
 use Rattle.move_laws.proofs.Places.{place_is}
-use Rattle.move_laws.proofs.Rows.{first, ended}
 use Rattle.move_laws.proofs.Running.{place_put, with_top}
 use Rattle.machine_calls.specs.declared.preparing.Prepared.TheVariants.{GivenUp}
 use Rattle.machine_calls.specs.Preparing.{ReadyFor}
@@ -49,11 +47,15 @@ is_wait false = record { is = λ f env. refl; held = λ texts. tt }
 pub same_wait : (f g : Kept → Value) (iterates : Bool) (one two : KeptWait) → IsWaitOfCall iterates one → IsWaitOfCall iterates two → wait_of f one ≡ wait_of g two
 same_wait f g iterates one two i j = sym (i.is f []) ∙ j.is g []
 
+pub same_by : (f g : Kept → Value) (iterates : Bool) → wait_of f (wait_by iterates) ≡ wait_of g (wait_by iterates)
+same_by f g true = refl
+same_by f g false = refl
+
 pub waits_for_some : (f : Kept → Value) (iterates : Bool) (wait : KeptWait) → IsWaitOfCall iterates wait → is_none (wait_of f wait) ≡ false
 waits_for_some f true wait i = ap is_none (sym (i.is f []))
 waits_for_some f false wait i = ap is_none (sym (i.is f []))
 
--- what moves is for a Lua frame on top
+-- a Lua frame is on top
 
 abbrev pub top_in : World → Option Stack → Option TopShape
 top_in V o = bind o (λ s. Some (top_shape V (last s.frames)))
@@ -64,8 +66,5 @@ top_is V at e = let p = place_is V at e in ap (top_in V) p.stack ∙ ap (λ o. S
 abbrev pub told_top : World → Option TopShape → Option (Made TopShape)
 told_top V o = bind o (λ top. made V [] top)
 
-sees : (W : Memory) (at : Place) → ((fuel : ℕ) → place_of (plain W fuel) ≡ Some at) → (env : List Value) → Makes W W see_top env [] lua_top
+pub sees : (W : Memory) (at : Place) → ((fuel : ℕ) → place_of (plain W fuel) ≡ Some at) → (env : List Value) → Makes W W see_top env [] lua_top
 sees W at e env = record { is = λ fuel. ap (told_top (plain W fuel)) (top_is (plain W fuel) at (e fuel)) }
-
-pub hands_on : (W : Memory) (at : Place) → ((fuel : ℕ) → place_of (plain W fuel) ≡ Some at) → (env : List Value) → Leads hand_over env W W go
-hands_on W at e env = first (λ _ top. handed top) (sees W at e env) ended

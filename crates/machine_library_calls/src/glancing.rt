@@ -2,24 +2,20 @@
 ghost use Rattle.std.specs.Prelude.{◌≡◌, ◌≤◌, ◌-◌, true, IfOk, IfSome, length};
 ghost use Rattle.instruction_forms.specs.declared.form.Form.TheVariants.{Call};
 ghost use Rattle.library_rows.specs.Library.{all_entries};
-ghost use Rattle.load_rows.specs.Loading.{Builds};
-ghost use Rattle.loaded_code.specs.Laws.{library};
 ghost use Rattle.machine_core.specs.Moves.{go};
 ghost use Rattle.machine_moves.specs.Ending.{ending_of};
 ghost use Rattle.machine_step.specs.Places.{RunsForm};
 ghost use Rattle.move_laws.specs.Memory.{InOrder};
-ghost use Rattle.source_builds.specs.Builds.{BuildsSources};
 ghost use Rattle.step_laws.specs.Steps.{IsReady};
-ghost use Rattle.tree_core.specs.Tree.{Body};
-ghost use Rattle.machine_library_calls.specs.Calls.{Begun, Comes};
-ghost use Rattle.machine_library_calls.specs.Glances.{IsSeen, MayGive};
+ghost use Rattle.machine_library_calls.specs.Calls.{Begun, CallComes, IsAtCall, begins};
+ghost use Rattle.machine_library_calls.specs.Glances.{IsSeen};
 
 use crate::answering::take_answer;
-use crate::calls::CallAt;
+use crate::primitives::Taker;
 use lib_base::glance;
 use loaded_code::loading_is_safe;
 use lua_heap::World;
-use machine_call_rows::{arguments_of_call, wait_for_primitive};
+use machine_call_rows::{CallAt, arguments_of_call, wait_for_primitive};
 use machine_moves::{Ending, read_register};
 use machine_primitives::library_function;
 use pure_functions::Answer;
@@ -72,13 +68,16 @@ pub(crate) fn give_result(
     answer: Answer,
 ) -> Result<Ending, AllocError>
     ghost begun: { Begun }
-    requires { MayGive begun world.old budget.old here at.function at.count at.keeps at.iterates answer }
-    ensures comes { IfOk result (λ ending. (builds : Builds Body) → BuildsSources builds → Comes (library builds) begun.before begun.fuel world.new (begun.fuel - 1) (ending_of ending)) }
+    requires began { begun ≡ begins world.old budget.old }
+    requires at { IsAtCall world.old here at }
+    requires seen { IsSeen world.old budget.old at.function at.count answer }
+    ensures comes { IfOk result (λ ending. CallComes begun world.new (ending_of ending)) }
     ensures paid { budget.new ≡ budget.old - 1 }
     ensures order { InOrder world.new }
 {
     loading_is_safe();
     *budget = budget.saturating_sub(1);
-    wait_for_primitive(world, at.keeps, at.iterates);
-    take_answer(world, here, at.iterates, answer)
+    wait_for_primitive(world, at);
+    let iterates = at.iterates;
+    take_answer(world, Taker::Caller { here, iterates }, answer)
 }

@@ -5,7 +5,8 @@
 mod answering;
 mod calls;
 mod glancing;
+mod primitives;
 mod tails;
 
-pub use calls::{CallAt, call_library};
+pub use calls::call_library;
 pub use tails::tail_call_library;

@@ -1,6 +1,6 @@
 -- Lists that go to tables in memory.
 use Rattle.std.proofs.Common.{◌≡◌, ℕ, suc, ◌+◌, ◌<◌, ◌≤◌, List, [], ◌∷◌, ◌++◌, length, drop, Option, Some, None, refl, ap, ap₂, sym, subst, ◌∙◌, Bool, true, false, arith}
-use Rattle.std.specs.Prelude.{ℤ, codes, pos, option_and_then, ◌*◌, ◌/◌, ◌%◌, ◌^◌, ◌-◌, ◌==◌, cond, map, slice_get, slice_set}
+use Rattle.std.specs.Prelude.{ℤ, codes, pos, option_and_then, ◌*◌, ◌/◌, ◌%◌, ◌^◌, ◌-◌, cond, map, slice_get, slice_set}
 use Rattle.std.specs.Option.{option_map}
 use Rattle.std.proofs.lemmas.List.{map-set}
 use Rattle.std.proofs.lemmas.Option.{slice_get-map}
@@ -13,12 +13,12 @@ use Rattle.int_core.specs.Heap.{Heap, Table as Rows, filled, filled_table}
 use Rattle.int_core.specs.Operations.{of_type}
 use Rattle.int_core.specs.Rows.{set}
 use Rattle.instruction_forms.specs.Forms.{fills_behind, fills_registers}
-use Rattle.int_core.specs.Value.{Value, Shape, shape, object, a_table, bind, integer, nil, is_known}
-use Rattle.machine_core.specs.World.{running, World, Place, place_of}
-use Rattle.machine_core.specs.Text.{Arg, arg, read, read_list, read_registers, fill_table, end_list, own, Text, go_by, raise}
-use Rattle.machine_core.specs.InstructionRows.{read_values, then, with_extra}
+use Rattle.int_core.specs.Value.{Value, shape, object, a_table, bind}
+use Rattle.machine_core.specs.World.{World, Place, place_of}
+use Rattle.machine_core.specs.Text.{Arg, arg, read, fill_table, end_list, Text, go_by, raise}
+use Rattle.machine_core.specs.InstructionRows.{then, with_extra}
 use Rattle.machine_core.specs.FrameRows.{expand}
-use Rattle.machine_core.specs.Moves.{Made, made, move, on_own, outside, do_outside, Ending, Row, act, Outcome, trapped, run}
+use Rattle.machine_core.specs.Moves.{Made, made, move, outside, do_outside, Ending, Row, act, Outcome, trapped, run}
 use Rattle.machine_sound.proofs.Lists.{bind_at, get_map, get_within, some_is}
 use Rattle.machine_sound.proofs.OpcodesCalls.{not_zero}
 use Rattle.table_core.specs.Table.{Contents}
@@ -34,43 +34,25 @@ use Rattle.lua_heap.specs.Strings.{AreApart, AreShort}
 use Rattle.lua_heap.specs.Plain.{plain, table, heap}
 use Rattle.lua_heap.specs.Reading.{value, row}
 use Rattle.move_laws.specs.Memory.{HasFrame, IsSafe, IsSound, Leads, Makes, StandsAt}
-use Rattle.move_laws.proofs.Rows.{act_is, safe_after}
+use Rattle.move_laws.proofs.Rows.{safe_after}
 use Rattle.move_laws.proofs.Sounds.{sound_top}
 use Rattle.machine_moves.specs.Code.{IsCodeOnTop}
 use Rattle.machine_moves.specs.Moves.{CanCut}
-use Rattle.machine_objects.specs.Filling.{FrameRuns, Lists, as_table, filled_rows, filling, listing, puts}
+use Rattle.machine_call_rows.specs.Rows.{ReadsValues}
+use Rattle.machine_objects.specs.Filling.{FrameRuns, as_table, counted, filled_rows, filling, puts}
 use Rattle.machine_objects.proofs.Opened.{split_at}
 use Rattle.machine_call_rows.proofs.Beyond.{none_beyond}
 
 -- lists that are read
 
-pub listed_none : (from count : ℕ) (more : ℕ → Shape → Text) → count ≡ 0 → listing from count more ≡ own (read_list from) more
-listed_none from count more z = ap (λ n. listing from n more) z
+pub none_counted : (count : ℕ) → count ≡ 0 → counted count ≡ 0
+none_counted count z = ap counted z
 
-pub listed_some : (from count : ℕ) (more : ℕ → Shape → Text) → (count ≡ 0 → ⊥) → listing from count more ≡ own (read_registers from count) more
-listed_some from count more z =
+pub some_counted : (count : ℕ) → (count ≡ 0 → ⊥) → counted count ≡ suc count
+some_counted count z =
     let n : count ≡ suc (count - 1) = omega (arith, z) in
-    let q : (count == 0) ≡ false = not_zero count (count - 1) n in
     let k : count + 1 ≡ suc count = omega arith in
-    ap (λ b. read_values from (cond b 0 (count + 1)) more) q ∙ ap (λ n. read_values from n more) k
-
-pub list_read : (W : Memory) (from count : ℕ) (vs : List Kept) → count ≡ 0
-    → ((env : List Value) → Makes W W (on_own (read_list from)) env (map (value W.strings) vs) (is_known (integer (pos (length vs))))) → Lists W from count vs
-list_read W from count vs z m = record {
-  told = is_known (integer (pos (length vs)));
-  goes = λ more env fuel.
-      ap (λ t. run (expand t) env (plain W fuel)) (listed_none from count more z)
-      ∙ act_is (on_own (read_list from)) (λ n s. expand (more n s)) env (plain W fuel) (plain W fuel) (map (value W.strings) vs) (is_known (integer (pos (length vs)))) ((m env).is fuel);
-}
-
-pub registers_read : (W : Memory) (from count : ℕ) (vs : List Kept) → (count ≡ 0 → ⊥)
-    → ((env : List Value) → Makes W W (on_own (read_registers from count)) env (map (value W.strings) vs) (is_known nil)) → Lists W from count vs
-registers_read W from count vs z m = record {
-  told = is_known nil;
-  goes = λ more env fuel.
-      ap (λ t. run (expand t) env (plain W fuel)) (listed_some from count more z)
-      ∙ act_is (on_own (read_registers from count)) (λ n s. expand (more n s)) env (plain W fuel) (plain W fuel) (map (value W.strings) vs) (is_known nil) ((m env).is fuel);
-}
+    ap (λ b. cond b 0 (count + 1)) (not_zero count (count - 1) n) ∙ k
 
 -- rows that are written
 
@@ -174,7 +156,7 @@ can_end old new code size s f k z rest =
 
 -- what follows the values
 
-module _ (W : Memory) (id from count last ahead : ℕ) (vs : List Kept) (l : Lists W from count vs) (s : IsSafe (expand (filling from count last (pos ahead))) (object a_table id ∷ []) W) where
+module _ (W : Memory) (id from count last ahead : ℕ) (vs : List Kept) (l : ReadsValues W from (counted count) vs) (s : IsSafe (expand (filling from count last (pos ahead))) (object a_table id ∷ []) W) where
   abbrev pub all_read : List Value
   all_read = object a_table id ∷ map (value W.strings) vs
 
@@ -184,7 +166,7 @@ module _ (W : Memory) (id from count last ahead : ℕ) (vs : List Kept) (l : Lis
   pub safe_filled : (V : Memory) → Makes W V (outside (fill_table (read 0) last 1)) all_read [] true → IsSafe (expand (then end_list (go_by (pos ahead)))) (all_read ++ []) V
   safe_filled V m = safe_after (λ n _. expand (then end_list (go_by (pos ahead)))) safe_listed m
 
-pub leads_listed : (W V : Memory) (id from count last ahead : ℕ) (vs : List Kept) (ending : Ending) → Lists W from count vs
+pub leads_listed : (W V : Memory) (id from count last ahead : ℕ) (vs : List Kept) (ending : Ending) → ReadsValues W from (counted count) vs
     → Leads (expand (puts last (pos ahead) 1)) (object a_table id ∷ map (value W.strings) vs) W V ending → Leads (expand (filling from count last (pos ahead))) (object a_table id ∷ []) W V ending
 leads_listed W V id from count last ahead vs ending l k = record {
   is = λ fuel. l.goes (λ v _. puts last (pos ahead) v) (object a_table id ∷ []) fuel ∙ k.is fuel;

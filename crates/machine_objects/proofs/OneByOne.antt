@@ -6,7 +6,7 @@ use Rattle.int_core.specs.Heap.{Heap, Table as Rows, filled, filled_table}
 use Rattle.int_core.specs.Value.{Value, Shape, object, a_table, bind, nth, range}
 use Rattle.machine_core.specs.World.{World, Place, place_of}
 use Rattle.machine_core.specs.Text.{read, Own, read_register, read_registers, reads, tells, effect, fits, fill_table, Text, own, quick}
-use Rattle.machine_core.specs.InstructionRows.{ends_list, fills_each, fills_from}
+use Rattle.machine_core.specs.InstructionRows.{read_values, ends_list, fills_each, fills_from}
 use Rattle.machine_core.specs.FrameRows.{expand}
 use Rattle.machine_core.specs.Moves.{Made, made, move, on_own, outside, do_own, do_outside, with_own, cells_after, Ending, Outcome, trapped, run}
 use Rattle.list_laws.proofs.Items.{append_nil, get_set_same}
@@ -22,7 +22,7 @@ use Rattle.machine_moves.proofs.Stacks.{at_most}
 use Rattle.machine_calls.proofs.Given.{set_twice}
 use Rattle.machine_rows.proofs.Going.{safe_as}
 use Rattle.machine_objects.specs.Filling.{filling, puts}
-use Rattle.machine_objects.proofs.Filled.{listed_some}
+use Rattle.machine_objects.proofs.Filled.{some_counted}
 
 -- moves of a row on the own activation that change nothing
 
@@ -193,7 +193,7 @@ module _ (id : ℕ) (z : ℤ) where
 one_by_one : (id count from last : ℕ) (z : ℤ) (W : World) → run (expand (fills_from count 0 from last z)) (object a_table id ∷ []) W ≡ run (expand (filling from count last z)) (object a_table id ∷ []) W
 one_by_one id zero from last z W = refl
 one_by_one id (suc n) from last z W =
-    both_at id z n from last W (place_of W) refl ∙ sym (ap (λ t. run (expand t) (object a_table id ∷ []) W) (listed_some from (suc n) (λ v _. puts last z v) (λ e. absurd (cc))))
+    both_at id z n from last W (place_of W) refl ∙ sym (ap (λ k. run (expand (read_values from k (λ v _. puts last z v))) (object a_table id ∷ []) W) (some_counted (suc n) (λ e. absurd (cc))))
 
 pub safe_at_once : (V : Memory) (id count from last ahead : ℕ) → IsSafe (expand (fills_from count 0 from last (pos ahead))) (object a_table id ∷ []) V → IsSafe (expand (filling from count last (pos ahead))) (object a_table id ∷ []) V
 safe_at_once V id count from last ahead s = safe_as s (λ fuel. one_by_one id count from last (pos ahead) (plain V fuel))

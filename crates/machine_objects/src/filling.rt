@@ -10,9 +10,10 @@ ghost use Rattle.machine_core.specs.World.{Place, place_of};
 ghost use Rattle.machine_core.specs.Text.{Arg, arg, fill_table as fills};
 ghost use Rattle.machine_core.specs.FrameRows.{expand, raises};
 ghost use Rattle.machine_core.specs.Moves.{outside};
-ghost use Rattle.move_laws.specs.Memory.{HasFrame, InOrder, IsSafe, IsSound, Leads, Makes, StandsAt};
+ghost use Rattle.move_laws.specs.Memory.{HasFrame, InOrder, IsSafe, IsSound, Leads, Makes, StandsAt, StandsSound};
 ghost use Rattle.machine_moves.specs.Ending.{ending_of};
-ghost use Rattle.machine_objects.specs.Filling.{FrameRuns, Lists, MayList, as_table, filled_rows, filling};
+ghost use Rattle.machine_call_rows.specs.Rows.{MayReadValues, ReadsValues};
+ghost use Rattle.machine_objects.specs.Filling.{FrameRuns, as_table, counted, filled_rows, filling};
 ghost use Rattle.table_core.specs.declared.value.Value.TheVariants.{Int};
 
 use int_core::Allocated;
@@ -25,6 +26,14 @@ use machine_rows::extra_argument;
 use meta_ops::Fault;
 use std::alloc::AllocError;
 use table_core::{Key, Table, TableId, Value};
+
+/// What goes to a table: so many values, or for 0 those up to the end of the open list, to the indexes behind `last`. The frame goes on so far ahead.
+#[derive(Clone, Copy)]
+struct Listed {
+    count: usize,
+    last: usize,
+    ahead: usize,
+}
 
 /// So many values behind the register of a table, or for 0 those up to the end of the open list, go to the table's indexes behind `last`, to which the next
 /// word adds where it is far (Lua 5.4 manual, 3.4.9). A register without a table is an error. A refusal may leave some of the values in the table.
@@ -48,28 +57,29 @@ pub fn fill_table(
     ensures err { OnErr result (world.new.printed ≡ world.old.printed) }
 {
     if !far {
-        return fill_behind(world, pc, table, count, last, 1);
+        let list = Listed {
+            count,
+            last,
+            ahead: 1,
+        };
+        return fill_behind(world, pc, table, list);
     }
     let more = extra_argument(world, pc);
-    fill_behind(world, pc, table, count, last + 256 * more, 2)
+    let list = Listed {
+        count,
+        last: last + 256 * more,
+        ahead: 2,
+    };
+    fill_behind(world, pc, table, list)
 }
 
-/// The values go to the indexes behind `last`, and the frame goes on so far ahead of `pc`.
-fn fill_behind(
-    world: &mut World,
-    pc: usize,
-    table: usize,
-    count: usize,
-    last: usize,
-    ahead: usize,
-) -> Allocated<Ending>
-    requires sound { IsSound world.old }
-    requires at { StandsAt world.old pc }
+/// The values behind the register of a table go there.
+fn fill_behind(world: &mut World, pc: usize, table: usize, list: Listed) -> Allocated<Ending>
+    requires stands { StandsSound world.old pc list.ahead }
     requires runs { FrameRuns world.old }
-    requires room { pc + ahead < 2 ^ 64 }
     requires near { table + 1 < 2 ^ 64 }
-    requires safe { IsSafe (expand (fills_behind table count last (pos ahead))) [] world.old }
-    ensures leads { IfOk result (λ ending. Leads (expand (fills_behind table count last (pos ahead))) [] world.old world.new (ending_of ending)) }
+    requires safe { IsSafe (expand (fills_behind table list.count list.last (pos list.ahead))) [] world.old }
+    ensures leads { IfOk result (λ ending. Leads (expand (fills_behind table list.count list.last (pos list.ahead))) [] world.old world.new (ending_of ending)) }
     ensures order { InOrder world.new }
     ensures err { OnErr result (world.new.printed ≡ world.old.printed) }
 {
@@ -77,7 +87,7 @@ fn fill_behind(
     let Some(id) = table_of(filled) else {
         return refuse(world, filled);
     };
-    fill_from(world, pc, id, table + 1, count, last, ahead)
+    fill_from(world, pc, id, table + 1, list)
 }
 
 /// The table that a value is.
@@ -102,38 +112,34 @@ fn refuse(world: &mut World, filled: Value) -> Allocated<Ending>
     raise(world, &text)
 }
 
-/// The values of so many registers from one on, or for 0 those up to the end of the open list, go to a table.
+/// The values of the registers from one on go to a table.
 fn fill_from(
     world: &mut World,
     pc: usize,
     id: TableId,
     from: usize,
-    count: usize,
-    last: usize,
-    ahead: usize,
+    list: Listed,
 ) -> Allocated<Ending>
-    requires sound { IsSound world.old }
-    requires at { StandsAt world.old pc }
+    requires stands { StandsSound world.old pc list.ahead }
     requires runs { FrameRuns world.old }
-    requires room { pc + ahead < 2 ^ 64 }
-    requires safe { IsSafe (expand (filling from count last (pos ahead))) (object a_table id.0 ∷ []) world.old }
-    ensures leads { IfOk result (λ ending. Leads (expand (filling from count last (pos ahead))) (object a_table id.0 ∷ []) world.old world.new (ending_of ending)) }
+    requires safe { IsSafe (expand (filling from list.count list.last (pos list.ahead))) (object a_table id.0 ∷ []) world.old }
+    ensures leads { IfOk result (λ ending. Leads (expand (filling from list.count list.last (pos list.ahead))) (object a_table id.0 ∷ []) world.old world.new (ending_of ending)) }
     ensures order { InOrder world.new }
     ensures err { OnErr result (world.new.printed ≡ world.old.printed) }
 {
     let size = usize::from(code_on_top(world).stack);
-    let values = listed_values(world, from, count).to_vec(world.alloc)?;
-    fill(world, id, last, &values)?;
+    let values = listed_values(world, from, list.count).to_vec(world.alloc)?;
+    fill(world, id, list.last, &values)?;
     end_list(world, size);
-    go_to(world, pc + ahead);
+    go_to(world, pc + list.ahead);
     Ok(Ending::Go)
 }
 
 /// The values of so many registers from one on, or for 0 those up to the end of the open list.
 fn listed_values(world: &World, from: usize, count: usize) -> &[Value]
     requires sound { IsSound world.now }
-    requires safe { MayList world.now from count }
-    ensures { Lists world.now from count result.now }
+    requires safe { MayReadValues world.now from (counted count) }
+    ensures { ReadsValues world.now from (counted count) result.now }
 {
     if count == 0 {
         return read_list(world, from);

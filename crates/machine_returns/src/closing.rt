@@ -10,12 +10,12 @@ ghost use Rattle.machine_moves.specs.Ending.{ending_of};
 ghost use Rattle.machine_returns.specs.Waking.{IsSolid};
 ghost use Rattle.machine_returns.specs.Closing.{MayClose, MayPass};
 
-use crate::closables::find_close;
+use crate::closables::{ask_to_close, call_to_close};
 use int_core::Allocated;
 use lua_heap::World;
 use lua_stack::Wait;
-use machine_calls::{Prepared, ask_over, call_over};
-use machine_moves::{Ending, close_cells, go_to, put_in_front, see_pending};
+use machine_calls::Prepared;
+use machine_moves::{Ending, close_cells, go_to, see_pending};
 use table_core::Value;
 
 /// The variables of the frame on top are closed from a register on, at the place `pc`: the last one first, by its method. Where none is left the cells that
@@ -36,13 +36,10 @@ pub fn close_variables(
         pass_over(world, pc, register);
         return Ok(Ending::Go);
     };
-    let arguments = put_in_front(world.alloc, &[v], &[Value::Nil])?;
-    let method = find_close(world, v);
-    call_over(
+    call_to_close(
         world,
         budget,
-        method,
-        arguments,
+        v,
         Wait::ForClose,
         Prepared::Closed { register },
     )
@@ -63,12 +60,10 @@ pub fn go_on_closing(world: &mut World, pc: usize, register: u32) -> Allocated<E
         pass_over(world, pc, register);
         return Ok(Ending::Go);
     };
-    let arguments = put_in_front(world.alloc, &[v], &[Value::Nil])?;
-    let method = find_close(world, v);
-    ask_over(
+    ask_to_close(
         world,
-        method,
-        arguments,
+        v,
+        Value::Nil,
         Wait::ForClose,
         Prepared::Closed { register },
     )

@@ -10,13 +10,13 @@ ghost use Rattle.machine_moves.specs.Ending.{ending_of};
 ghost use Rattle.machine_returns.specs.Waking.{IsSolid};
 ghost use Rattle.machine_returns.specs.Failing.{first_or};
 
-use crate::closables::find_close;
+use crate::closables::ask_to_close;
 use crate::leaving::leave_with_error;
 use int_core::Allocated;
 use lua_heap::World;
 use lua_stack::Wait;
-use machine_calls::{Prepared, ask_over};
-use machine_moves::{Ending, put_in_front, see_pending, take_moving};
+use machine_calls::Prepared;
+use machine_moves::{Ending, see_pending, take_moving};
 use table_core::Value;
 
 /// An error reaches the Lua frame on top, which is left with it. A refusal leaves all that stands there as it was.
@@ -50,15 +50,7 @@ pub fn fail_with(world: &mut World, moved: &[Value]) -> Allocated<Ending>
         return leave_with_error(world, first_or(moved, Value::Nil));
     };
     let error = first_or(moved, v);
-    let arguments = put_in_front(world.alloc, &[v], &[error])?;
-    let method = find_close(world, v);
-    ask_over(
-        world,
-        method,
-        arguments,
-        Wait::Leaving(error),
-        Prepared::LeftSo,
-    )
+    ask_to_close(world, v, error, Wait::Leaving(error), Prepared::LeftSo)
 }
 
 /// The first of some values, or another one where there is none.

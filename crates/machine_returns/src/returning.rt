@@ -10,15 +10,15 @@ ghost use Rattle.machine_core.specs.FrameRows.{expand, goes_on_by};
 ghost use Rattle.move_laws.specs.Memory.{CanDo, InOrder, IsSafe, IsSound, Leads, Steps};
 ghost use Rattle.machine_moves.specs.Ending.{ending_of};
 ghost use Rattle.machine_returns.specs.Waking.{IsSolid};
-ghost use Rattle.machine_returns.specs.Returning.{Gives, MayReturn};
+ghost use Rattle.machine_returns.specs.Returning.{Gives, MayReturnSome};
 
-use crate::closables::find_close;
+use crate::closables::{ask_to_close, call_to_close};
 use crate::leaving::leave_with_results;
 use int_core::Allocated;
 use lua_heap::World;
 use lua_stack::Wait;
-use machine_calls::{Prepared, ask_over, call_over};
-use machine_moves::{Ending, put_in_front, read_list, see_pending};
+use machine_calls::Prepared;
+use machine_moves::{Ending, read_list, see_pending};
 use table_core::Value;
 
 /// The frame on top returns the values of one register fewer than `count` from one on, or for 0 those up to the end of the open list. A refusal may leave
@@ -59,9 +59,7 @@ pub fn return_some(
     from: usize,
     count: usize,
 ) -> Allocated<Ending>
-    requires sound { IsSound world.old }
-    requires there { CanDo world.old (reads from count) }
-    requires safe { MayReturn world.old from count }
+    requires { MayReturnSome world.old from count }
     ensures steps { IfOk result (λ ending. (env : List Meant) → Steps (expand (returns from count)) env world.old budget.old world.new budget.new (ending_of ending)) }
     ensures order { InOrder world.new }
     ensures err { OnErr result ((world.new.printed ≡ world.old.printed) × (budget.new ≡ budget.old)) }
@@ -69,13 +67,10 @@ pub fn return_some(
     let Some(v) = see_pending(world, 0) else {
         return leave_with_results(world, from, count);
     };
-    let arguments = put_in_front(world.alloc, &[v], &[Value::Nil])?;
-    let method = find_close(world, v);
-    call_over(
+    call_to_close(
         world,
         budget,
-        method,
-        arguments,
+        v,
         Wait::Returning(count),
         Prepared::ReturnedSo { from, count },
     )
@@ -93,12 +88,10 @@ pub fn go_on_returning(world: &mut World, from: usize, count: usize) -> Allocate
     let Some(v) = see_pending(world, 0) else {
         return leave_with_results(world, from, count);
     };
-    let arguments = put_in_front(world.alloc, &[v], &[Value::Nil])?;
-    let method = find_close(world, v);
-    ask_over(
+    ask_to_close(
         world,
-        method,
-        arguments,
+        v,
+        Value::Nil,
         Wait::Returning(count),
         Prepared::ReturnedSo { from, count },
     )

@@ -20,7 +20,7 @@ use Rattle.machine_sound.proofs.Lists.{some_is}
 use Rattle.machine_sound.proofs.Values.{le_of, le_true}
 use Rattle.table_core.specs.declared.value.Value.{Value as Kept}
 use Rattle.lua_stack.specs.declared.frame.Wait.{Wait as KeptWait}
-use Rattle.lua_stack.specs.declared.frame.Wait.TheVariants.{ForConcat, Returning}
+use Rattle.lua_stack.specs.declared.frame.Wait.TheVariants.{Dropped, ForConcat, ForTruth, ForValue, Returning, Running}
 use Rattle.lua_stack.specs.Frames.{wait_of}
 use Rattle.lua_heap.specs.declared.world.World.{World as Memory}
 use Rattle.lua_heap.specs.Plain.{plain}
@@ -37,8 +37,8 @@ use Rattle.step_laws.proofs.Small.{a_small, b_small}
 use Rattle.step_laws.proofs.Stepping.{answer_is_safe, answer_is_step}
 use Rattle.machine_step.specs.Step.{Passes}
 use Rattle.machine_operations.specs.Joining.{AreValid, rest_row, told_for}
-use Rattle.machine_returns.specs.GoingOn.{GoesOn, MayGoOn, told_so}
-use Rattle.machine_step.specs.Places.{GoesOnSo, IsAwake, WaitsHere, is_handled, left_row}
+use Rattle.machine_returns.specs.GoingOn.{GoesOn, MayGoOn, told_so, waits_for_call}
+use Rattle.machine_step.specs.Places.{Becomes, GoesOnSo, IsAwake, WaitsHere, is_handled, left_row, takes_value}
 
 abbrev runs_again : LuaFrame → LuaFrame
 runs_again t = record t { wait = running }
@@ -160,13 +160,15 @@ went_on g = record { leads = λ place e op o. g.leads place.function.code place.
 abbrev read_so : Memory → List Kept → List Value
 read_so W came = map (value W.strings) came
 
-module _ {W : Memory} {pc : ℕ} {word : Instruction} {wait : KeptWait} {came : List Kept} (a : IsAwake W pc word wait came) (after : After)
-    (is : (op : Opcode) → opcode_of word ≡ Some op → (p : Prototype) (n : ℕ) → rest (wait_of (value W.strings) wait) p n op word ≡ follows p n after) (told : told_so W wait came ≡ map (value W.strings) came) where
+module _ {W : Memory} {pc : ℕ} {word : Instruction} {wait : KeptWait} {came : List Kept} (a : IsAwake W pc word wait came) {after : After} (b : Becomes wait word after) where
+  told : told_so W wait came ≡ read_so W came
+  told = b.told (value W.strings) (read_so W came)
+
   pub may_take : (place : Place) → place_of (plain W 0) ≡ Some place → IsSafe (goes_on_by (follows place.function.code pc after)) (map (value W.strings) came) W
   may_take place e =
       subst (λ (p : Place). IsSafe (goes_on_by (follows p.function.code pc after)) (read_so W came) W) (some_is a.is e)
       (subst (λ n. IsSafe (goes_on_by (follows a.place.function.code n after)) (read_so W came) W) a.at
-      (subst (λ t. IsSafe (goes_on_by t) (read_so W came) W) (is a.opcode a.is_opcode a.place.function.code a.place.top.own.pc)
+      (subst (λ t. IsSafe (goes_on_by t) (read_so W came) W) (b.is (value W.strings) a.opcode a.is_opcode a.place.function.code a.place.top.own.pc)
       (subst (λ vs. IsSafe (left_row W wait a.place a.opcode word) vs W) told a.safe)))
 
   pub took : {new : Memory}
@@ -175,9 +177,25 @@ module _ {W : Memory} {pc : ℕ} {word : Instruction} {wait : KeptWait} {came : 
     leads = λ place e op o.
         let at : place.top.own.pc ≡ pc = sym (ap (λ (p : Place). p.top.own.pc) (some_is a.is e)) ∙ a.at in
         subst (λ vs. Leads (left_row W wait place op word) vs W new go) (sym told)
-        (subst (λ t. Leads (goes_on_by t) (read_so W came) W new go) (sym (is op o place.function.code place.top.own.pc))
+        (subst (λ t. Leads (goes_on_by t) (read_so W came) W new go) (sym (b.is (value W.strings) op o place.function.code place.top.own.pc))
         (subst (λ n. Leads (goes_on_by (follows place.function.code n after)) (read_so W came) W new go) (sym at) (f place e)));
   }
+
+-- by its wait
+
+pub none_takes : (wait : KeptWait) → takes_value wait ≡ true → (wait ≡ ForValue → ⊥) → (wait ≡ ForTruth → ⊥) → (wait ≡ Dropped → ⊥) → ⊥
+none_takes ForValue t a b c = a refl
+none_takes ForTruth t a b c = b refl
+none_takes Dropped t a b c = c refl
+none_takes _ t a b c = absurd (cc)
+
+pub others_called : (wait : KeptWait) → (wait ≡ Running → ⊥) → (wait ≡ ForValue → ⊥) → (wait ≡ ForTruth → ⊥) → (wait ≡ Dropped → ⊥) → ((left : ℕ) → wait ≡ ForConcat left → ⊥) → waits_for_call wait ≡ true
+others_called Running a b c d e = absurd (a refl)
+others_called ForValue a b c d e = absurd (b refl)
+others_called ForTruth a b c d e = absurd (c refl)
+others_called Dropped a b c d e = absurd (d refl)
+others_called (ForConcat left) a b c d e = absurd (e left refl)
+others_called _ a b c d e = refl
 
 handled_so : (op : Opcode) → is_handled (Some op) ≡ true → (w : Instruction) (p : Prototype) (n : ℕ) → value_comes p n op w ≡ to_register_before p n
 handled_so MmBin h w p n = refl

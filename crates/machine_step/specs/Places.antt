@@ -5,19 +5,24 @@ use Rattle.code_core.specs.declared.opcode.Opcode.TheVariants.{MmBin, MmBinI, Mm
 use Rattle.code_core.specs.declared.instruction.Instruction.{Instruction}
 use Rattle.code_core.specs.Instruction.{opcode_of}
 use Rattle.code_core.specs.Check.{IsChecked, at}
+use Rattle.code_core.specs.Prototype.{Prototype}
+use Rattle.int_core.specs.Ask.{values}
+use Rattle.int_core.specs.Value.{Value}
 use Rattle.machine_core.specs.World.{Place, place_of}
-use Rattle.machine_core.specs.InstructionRows.{rest}
+use Rattle.machine_core.specs.InstructionRows.{rest, told_values}
 use Rattle.machine_core.specs.FrameRows.{goes_on_by}
 use Rattle.machine_core.specs.Moves.{Ending, Row}
 use Rattle.machine_sound.specs.Sound.{waits_at, waiting_size}
 use Rattle.table_core.specs.declared.value.Value.{Value as Kept}
 use Rattle.lua_stack.specs.declared.frame.Wait.{Wait as KeptWait}
-use Rattle.lua_stack.specs.declared.frame.Wait.TheVariants.{ForConcat}
+use Rattle.lua_stack.specs.declared.frame.Wait.TheVariants.{Dropped, ForConcat, ForTruth, ForValue}
 use Rattle.lua_stack.specs.Frames.{wait_of}
 use Rattle.lua_heap.specs.declared.world.World.{World as Memory}
 use Rattle.lua_heap.specs.Plain.{plain}
 use Rattle.lua_heap.specs.Reading.{value}
+use Rattle.instruction_forms.specs.declared.form.After.{After}
 use Rattle.instruction_forms.specs.declared.form.Form.{Form}
+use Rattle.instruction_forms.specs.Forms.{follows}
 use Rattle.instruction_forms.specs.Waiting.{form_at}
 use Rattle.move_laws.specs.Memory.{IsSafe, IsSound, Leads}
 use Rattle.machine_operations.specs.Joining.{AreValid}
@@ -69,6 +74,18 @@ pub record IsAwake (W : Memory) (pc : ℕ) (word : Instruction) (wait : KeptWait
 pub record GoesOnSo (old new : Memory) (word : Instruction) (wait : KeptWait) (came : List Kept) (to : Ending) : Type 0 where
   pub leads : (place : Place) → place_of (plain old 0) ≡ Some place → (op : Opcode) → opcode_of word ≡ Some op
       → Leads (left_row old wait place op word) (told_so old wait came) old new to
+
+-- whether a frame waits for the value of an operation
+abbrev pub takes_value : KeptWait → Bool
+takes_value ForValue = true
+takes_value ForTruth = true
+takes_value Dropped = true
+takes_value _ = false
+
+-- and what becomes of that value
+pub record Becomes (wait : KeptWait) (word : Instruction) (after : After) : Type 0 where
+  pub is : (f : Kept → Value) (op : Opcode) → opcode_of word ≡ Some op → (p : Prototype) (n : ℕ) → rest (wait_of f wait) p n op word ≡ follows p n after
+  pub told : (f : Kept → Value) (vs : List Value) → told_values (wait_of f wait) (values vs) ≡ vs
 
 -- MMBIN and its kin, whose value goes to the register of the instruction before it
 abbrev pub is_handled : Option Opcode → Bool

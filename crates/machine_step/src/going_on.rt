@@ -1,12 +1,12 @@
 // A Lua frame that waits, and goes on with what moves (luaV_finishOp of lvm.c of Lua 5.4).
-ghost use Rattle.std.specs.Prelude.{◌≡◌, ◌<◌, IfOk, OnErr};
+ghost use Rattle.std.specs.Prelude.{◌≡◌, true, IfOk, OnErr};
 ghost use Rattle.code_core.specs.Instruction.{opcode_of};
-ghost use Rattle.lua_stack.specs.declared.frame.Wait.TheVariants.{Dropped, ForConcat, ForTruth, ForValue};
+ghost use Rattle.lua_stack.specs.declared.frame.Wait.TheVariants.{ForConcat, ForValue};
 ghost use Rattle.machine_core.specs.Moves.{go};
 ghost use Rattle.machine_moves.specs.Ending.{ending_of};
 ghost use Rattle.machine_returns.specs.Waking.{IsSolid};
 ghost use Rattle.move_laws.specs.Memory.{InOrder, IsSound};
-ghost use Rattle.machine_step.specs.Places.{GoesOnSo, IsAwake, WaitsHere, is_handled};
+ghost use Rattle.machine_step.specs.Places.{Becomes, GoesOnSo, IsAwake, WaitsHere, is_handled, takes_value};
 ghost use Rattle.machine_step.specs.Step.{Passes};
 
 use code_core::{Instruction, Opcode};
@@ -48,53 +48,47 @@ pub fn go_on_with(
 {
     match wait {
         Wait::Running => unreachable!(),
-        Wait::ForCall => go_on_called(world, pc, word, wait, came),
-        Wait::ForIterator => go_on_called(world, pc, word, wait, came),
-        Wait::ForValue => Ok(take_operation(world, pc, word, came)),
-        Wait::ForTruth => Ok(take_truth(world, pc, word, came)),
-        Wait::Dropped => Ok(drop_value(world, pc, word, came)),
+        Wait::ForValue => Ok(take_after(world, pc, word, wait, came)),
+        Wait::ForTruth => Ok(take_after(world, pc, word, wait, came)),
+        Wait::Dropped => Ok(take_after(world, pc, word, wait, came)),
         Wait::ForConcat(left) => join_with(world, pc, word, left, came),
-        Wait::ForClose => go_on_called(world, pc, word, wait, came),
-        Wait::Returning(_) => go_on_called(world, pc, word, wait, came),
-        Wait::Leaving(_) => go_on_called(world, pc, word, wait, came),
+        _ => go_on_called(world, pc, word, wait, came),
     }
 }
 
-/// The value of an operation goes to its register.
-fn take_operation(world: &mut World, pc: usize, word: Instruction, came: &[Value]) -> Ending
+/// The value of an operation goes where the instruction wants it.
+fn take_after(world: &mut World, pc: usize, word: Instruction, wait: Wait, came: &[Value]) -> Ending
     requires order { InOrder world.old }
-    requires awake { IsAwake world.old pc word ForValue came.now }
-    ensures goes { GoesOnSo world.old world.new word ForValue came.now (ending_of result) }
+    requires awake { IsAwake world.old pc word wait came.now }
+    requires takes { takes_value wait ≡ true }
+    ensures goes { GoesOnSo world.old world.new word wait came.now (ending_of result) }
     ensures order { InOrder world.new }
+{
+    take_value(world, pc, after_wait(wait, word), came);
+    Ending::Go
+}
+
+/// What becomes of the value for which a frame waits so at this word.
+fn after_wait(wait: Wait, word: Instruction) -> After
+    requires { takes_value wait ≡ true }
+    ensures { Becomes wait word result }
+{
+    match wait {
+        Wait::ForValue => after_operation(word),
+        Wait::ForTruth => After::Tests(word.k()),
+        Wait::Dropped => After::Next,
+        _ => unreachable!(),
+    }
+}
+
+/// It goes to a register.
+fn after_operation(word: Instruction) -> After
+    ensures { Becomes ForValue word result }
 {
     if is_handled(word) {
-        take_value(world, pc, After::ToRegisterBefore, came);
-        return Ending::Go;
+        return After::ToRegisterBefore;
     }
-    take_value(world, pc, After::ToRegister(usize::from(word.a())), came);
-    Ending::Go
-}
-
-/// The truth of a value decides whether the next instruction is passed over.
-fn take_truth(world: &mut World, pc: usize, word: Instruction, came: &[Value]) -> Ending
-    requires order { InOrder world.old }
-    requires awake { IsAwake world.old pc word ForTruth came.now }
-    ensures goes { GoesOnSo world.old world.new word ForTruth came.now (ending_of result) }
-    ensures order { InOrder world.new }
-{
-    take_value(world, pc, After::Tests(word.k()), came);
-    Ending::Go
-}
-
-/// Nothing becomes of a value.
-fn drop_value(world: &mut World, pc: usize, word: Instruction, came: &[Value]) -> Ending
-    requires order { InOrder world.old }
-    requires awake { IsAwake world.old pc word Dropped came.now }
-    ensures goes { GoesOnSo world.old world.new word Dropped came.now (ending_of result) }
-    ensures order { InOrder world.new }
-{
-    take_value(world, pc, After::Next, came);
-    Ending::Go
+    After::ToRegister(usize::from(word.a()))
 }
 
 /// The operands that are left are joined with the value that came.

@@ -9,7 +9,7 @@ ghost use Rattle.machine_step.specs.Step.{Goes};
 use instruction_forms::Form;
 use int_core::Allocated;
 use lua_heap::World;
-use machine_call_rows::{call, tail_call};
+use machine_call_rows::{CallAt, call, tail_call};
 use machine_loops::{go_round, jump, loop_over, start_loop};
 use machine_moves::Ending;
 use machine_objects::{extra_arguments, fill_table, new_function};
@@ -88,7 +88,15 @@ pub(crate) fn run_instruction(
             count,
             keeps,
             iterates,
-        } => call(world, budget, function, count, keeps, iterates),
+        } => {
+            let at = CallAt {
+                function,
+                count,
+                keeps,
+                iterates,
+            };
+            call(world, budget, at)
+        }
         Form::TailCall { function, count } => tail_call(world, budget, function, count),
         Form::Return { from, count } => return_values(world, budget, from, count),
         Form::ReturnSome { from, count } => return_some(world, budget, from, count),

@@ -1,4 +1,4 @@
 use Rattle.machine_library_calls.proofs.calls.call_with_arguments.Given as goal
 
-abbrev pub ghost-go_on_calling : goal.ghost-go_on_calling
-ghost-go_on_calling g a = g.begun
+abbrev pub ghost-call_for : goal.ghost-call_for
+ghost-call_for g a = g.begun

@@ -6,7 +6,8 @@ use Rattle.machine_core.specs.Moves.{go}
 use Rattle.machine_core.specs.Text.{read_register}
 use Rattle.lib_base.specs.Functions.{function_row}
 use Rattle.move_laws.proofs.Rows.{can_do}
-use Rattle.machine_call_rows.proofs.Read.{call_text, may_read, with_arguments}
+use Rattle.machine_call_rows.specs.Rows.{with_arguments}
+use Rattle.machine_call_rows.proofs.Read.{call_text, may_read}
 use Rattle.machine_step.proofs.ByForm.{safe, small}
 use Rattle.step_laws.proofs.Ready.{ready_is_sound}
 use Rattle.machine_library_calls.proofs.glancing.see_result.Goals as goal

@@ -19,6 +19,9 @@ extra_argument-more-requires-clause-there c =
     let s = subst (λ b. IsSafe (expand (far_text at.place.function.code c.args.pc c.args.table c.args.count c.args.last b)) [] c.args.world.now) far (c.requires.safe at.place at.is) in
     record { place = at.place; is = at.is; there = has_extra at.place.function.code c.args.pc (λ ax. fills_behind c.args.table c.args.count (c.args.last + 256 * ax) (pos 2)) s }
 
+pub fill_behind-requires-clause-stands : goal.fill_behind-requires-clause-stands
+fill_behind-requires-clause-stands c = let r = c.requires.room in record { sound = c.requires.sound; at = c.requires.at; room = omega (arith, r) }
+
 pub fill_behind-requires-clause-safe : goal.fill_behind-requires-clause-safe
 fill_behind-requires-clause-safe c =
     let at = c.requires.at in
@@ -31,15 +34,18 @@ returns-then-not-far-clause-leads c =
     if_ok c.fill_behind.result c.fill_behind.ensures.leads c.fill_behind.ensures.leads (λ ending l _ p is.
     subst (λ b. Leads (expand (far_text p.function.code c.args.pc c.args.table c.args.count c.args.last b)) [] c.args.world.now c.fill_behind.new.world (ending_of ending)) (sym far) l)
 
-pub overflow_mul-more : goal.overflow_mul-more
-overflow_mul-more c = let x = c.extra_argument-more.ensures in let s = extra_small x.place.function.code c.args.pc c.extra_argument-more.result x.extra in omega (arith, s)
+pub overflow_mul-list : goal.overflow_mul-list
+overflow_mul-list c = let x = c.extra_argument-more.ensures in let s = extra_small x.place.function.code c.args.pc c.extra_argument-more.result x.extra in omega (arith, s)
 
-pub overflow_add-last : goal.overflow_add-last
-overflow_add-last c =
+pub overflow_add-list : goal.overflow_add-list
+overflow_add-list c =
     let x = c.extra_argument-more.ensures in
     let s = extra_small x.place.function.code c.args.pc c.extra_argument-more.result x.extra in
     let l = c.requires.small in
     omega (arith, s, l)
+
+pub fill_behind-requires-2-clause-stands : goal.fill_behind-requires-2-clause-stands
+fill_behind-requires-2-clause-stands c = record { sound = c.requires.sound; at = c.requires.at; room = c.requires.room }
 
 pub fill_behind-requires-2-clause-safe : goal.fill_behind-requires-2-clause-safe
 fill_behind-requires-2-clause-safe c =

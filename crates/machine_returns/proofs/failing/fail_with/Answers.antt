@@ -12,10 +12,10 @@ use Rattle.lua_heap.specs.Reading.{value as meant}
 use Rattle.lua_stack.specs.declared.frame.Wait.TheVariants.{Leaving}
 use Rattle.machine_calls.specs.declared.preparing.Prepared.TheVariants.{LeftSo}
 use Rattle.move_laws.proofs.Rows.{first}
-use Rattle.machine_moves.specs.Ending.{ending_of}
+use Rattle.machine_returns.specs.Closing.{NamesClose}
 use Rattle.machine_returns.specs.Failing.{first_or}
 use Rattle.machine_returns.proofs.Tops.{can_see, can_leave}
-use Rattle.machine_returns.proofs.Closed.{seen_some, seen_none, closes_by_asking, where_ok}
+use Rattle.machine_returns.proofs.Closed.{seen_some, seen_none, where_ok}
 use Rattle.machine_returns.proofs.failing.fail_with.Goals as goal
 
 abbrev seen : ℕ → Shape → Text
@@ -44,8 +44,8 @@ returns-in_default-clause-leads c =
     first (λ v s. expand_by by_asking (seen v s)) (seen_none W 0 c.see_pending.result c.see_pending.ensures c.in_default.is env)
     (l by_asking (env ++ []) (read 0) (none_seen (meant W.strings) c.args.moved.now refl ∙ sym (ap (meant W.strings) c.first_or.ensures))))
 
-pub ask_over-requires-clause-ready : goal.ask_over-requires-clause-ready
-ask_over-requires-clause-ready c = can_leave c.args.world.now c.requires.frame.place c.requires.solid c.requires.frame.is
+pub ask_to_close-requires-clause-ready : goal.ask_to_close-requires-clause-ready
+ask_to_close-requires-clause-ready c = can_leave c.args.world.now c.requires.frame.place c.requires.solid c.requires.frame.is
 
 pub returns-clause-leads : goal.returns-clause-leads
 returns-clause-leads c =
@@ -56,8 +56,8 @@ returns-clause-leads c =
     let env = map f moved in
     let error = c.first_or-error.result in
     let is : f (first_or moved v) ≡ f error = sym (ap f c.first_or-error.ensures) in
-    where_ok c.ask_over.result c.ask_over.ensures.leads (λ ending asks.
+    let names : NamesClose W (env ++ f v ∷ []) (read (length env)) (read 0) (written nil) (leaving (read 0)) v error (Leaving error) LeftSo =
+    record { closes = nth_mid env [] (f v); fails = one_seen f moved v ∙ is; waits = λ _. ap leaving (still_first f moved v _ ∙ is); copies = λ _. tt } in
+    where_ok c.ask_to_close.result c.ask_to_close.ensures.leads (λ ending asks.
     first (λ v s. expand_by by_asking (seen v s)) (seen_some W 0 c.see_pending.result v c.see_pending.ensures c.in-Some.is env)
-    (closes_by_asking W c.ask_over.new.world v error c.find_close-method.result c.in_ok-arguments.arguments.items (Leaving error) LeftSo (ending_of ending)
-    (env ++ f v ∷ []) (read (length env)) (read 0) (written nil) (leaving (read 0))
-    c.find_close-method.ensures.finds asks c.in_ok-arguments.ensures (nth_mid env [] (f v)) (one_seen f moved v ∙ is) (ap leaving (still_first f moved v _ ∙ is)) tt))
+    (asks.leads (env ++ f v ∷ []) (read (length env)) (read 0) (written nil) (leaving (read 0)) names))

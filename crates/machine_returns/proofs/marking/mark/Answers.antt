@@ -1,15 +1,18 @@
-use Rattle.std.proofs.Common.{rules, ◌≡◌, ◌∙◌, ℕ, [], ◌∷◌, Bool, true, false, refl, sym, subst}
+use Rattle.std.proofs.Common.{rules, ◌≡◌, ◌∙◌, ℕ, List, [], ◌∷◌, Bool, true, false, refl, sym, subst}
 use Rattle.std.specs.Prelude.{cond, pos}
 use Rattle.code_core.specs.Prototype.{Prototype}
-use Rattle.int_core.specs.Value.{Shape, Value as Meant, holds}
+use Rattle.int_core.specs.Value.{Shape, Value as Meant, holds, shape}
+use Rattle.instruction_forms.specs.Forms.{text_of}
+use Rattle.instruction_forms.specs.declared.form.Form.TheVariants.{Mark}
+use Rattle.table_core.specs.declared.value.Value.{Value as Kept}
+use Rattle.lua_heap.specs.declared.world.World.{World as Memory}
 use Rattle.lua_heap.specs.Reading.{value as meant}
-use Rattle.machine_core.specs.Text.{Text, closable, go_by, read}
+use Rattle.machine_core.specs.Text.{Arg, Text, arg, closable, go_by, read, read_register}
 use Rattle.machine_core.specs.InstructionRows.{variable_name}
 use Rattle.machine_core.specs.FrameRows.{at_once, expand, raises}
-use Rattle.machine_core.specs.Moves.{go, is_closable}
+use Rattle.machine_core.specs.Moves.{Ending, Row, go, is_closable, on_own}
 use Rattle.move_laws.specs.Memory.{IsSafe, Leads, Makes}
 use Rattle.move_laws.proofs.Rows.{first, safe_after}
-use Rattle.machine_moves.specs.Ending.{ending_of}
 use Rattle.machine_returns.specs.Marking.{marked}
 use Rattle.machine_returns.specs.Names.{open_text}
 use Rattle.machine_returns.proofs.Closed.{where_ok}
@@ -21,6 +24,26 @@ by_truth p pc register ahead v truth = cond truth (closable (read v) (variable_n
 
 abbrev seen : Prototype → (pc register ahead v : ℕ) → Shape → Text
 seen p pc register ahead v s = by_truth p pc register ahead v (holds s)
+
+abbrev by_method : Prototype → (pc register ahead : ℕ) → Bool → Row
+by_method p pc register ahead b = cond b (expand (marked register ahead)) (raises (open_text p pc register))
+
+-- a value that counts as true, by whether it can be closed
+module _ {W : Memory} (v : Kept) {told can : Bool} (p : Prototype) (pc register ahead : ℕ) (reads : (env : List Meant) → Makes W W (on_own (read_register register)) env (meant W.strings v ∷ []) (shape (meant W.strings v)))
+    (yes : holds (shape (meant W.strings v)) ≡ true) (closes : (env : List Meant) (x : Arg) → arg env x ≡ meant W.strings v → Makes W W (is_closable x) env [] told) (is : told ≡ can) where
+  tells : Makes W W (is_closable (read 0)) (meant W.strings v ∷ []) [] can
+  tells = subst (Makes W W (is_closable (read 0)) (meant W.strings v ∷ []) []) is (closes (meant W.strings v ∷ []) (read 0) refl)
+
+  leads_so : {new : Memory} {ending : Ending} → Leads (by_method p pc register ahead can) (meant W.strings v ∷ []) W new ending → Leads (expand (text_of p pc (Mark register ahead))) [] W new ending
+  leads_so {new} {ending} l =
+      first (λ v s. expand (seen p pc register ahead v s)) (reads [])
+      (subst (λ b. Leads (expand (by_truth p pc register ahead 0 b)) (meant W.strings v ∷ []) W new ending) (sym yes)
+      (first (λ _ b. by_method p pc register ahead b) tells l))
+
+  safe_so : IsSafe (expand (text_of p pc (Mark register ahead))) [] W → IsSafe (by_method p pc register ahead can) (meant W.strings v ∷ []) W
+  safe_so s =
+      let t = subst (λ b. IsSafe (expand (by_truth p pc register ahead 0 b)) (meant W.strings v ∷ []) W) yes (safe_after (λ v s. expand (seen p pc register ahead v s)) s (reads [])) in
+      safe_after (λ _ b. by_method p pc register ahead b) t tells
 
 pub go_to-requires : goal.go_to-requires
 go_to-requires c =
@@ -48,41 +71,22 @@ refuse-requires-clause-at c = c.requires.stands.at
 
 pub returns-then-not-is_closable-clause-leads : goal.returns-then-not-is_closable-clause-leads
 returns-then-not-is_closable-clause-leads c =
-    let W = c.args.world.now in
-    let v : Meant = meant W.strings c.read_register-v.result in
     let yes : c.counts_as_true.result ≡ true = search rules in
     let no : c.is_closable.result ≡ false = search rules in
-    let refused = subst (Makes W W (is_closable (read 0)) (v ∷ []) []) no (c.is_closable.ensures (v ∷ []) (read 0) refl) in
     where_ok c.refuse.result c.refuse.ensures.leads (λ ending l p is.
-    first (λ v s. expand (seen p.function.code c.args.pc c.args.register c.args.ahead v s)) (c.read_register-v.ensures [])
-    (subst (λ b. Leads (expand (by_truth p.function.code c.args.pc c.args.register c.args.ahead 0 b)) (v ∷ []) W c.refuse.new.world (ending_of ending)) (sym yes ∙ c.counts_as_true.ensures W.strings)
-    (first (λ _ b. cond b (expand (marked c.args.register c.args.ahead)) (raises (open_text p.function.code c.args.pc c.args.register))) refused (l p is (v ∷ [])))))
+    leads_so c.read_register-v.result p.function.code c.args.pc c.args.register c.args.ahead c.read_register-v.ensures (sym (c.counts_as_true.ensures c.args.world.now.strings) ∙ yes) c.is_closable.ensures no (l p is _))
 
 pub mark_register-requires : goal.mark_register-requires
 mark_register-requires c =
-    let W = c.args.world.now in
-    let p = c.requires.stands.at.place in
-    let v : Meant = meant W.strings c.read_register-v.result in
+    let at = c.requires.stands.at in
     let yes : c.counts_as_true.result ≡ true = search rules in
     let can : c.is_closable.result ≡ true = search rules in
-    let taken = subst (Makes W W (is_closable (read 0)) (v ∷ []) []) can (c.is_closable.ensures (v ∷ []) (read 0) refl) in
-    let s = safe_after (λ v s. expand (seen p.function.code c.args.pc c.args.register c.args.ahead v s)) (c.requires.safe p c.requires.stands.at.is) (c.read_register-v.ensures []) in
-    let t = subst (λ b. IsSafe (expand (by_truth p.function.code c.args.pc c.args.register c.args.ahead 0 b)) (v ∷ []) W) (sym (c.counts_as_true.ensures W.strings) ∙ yes) s in
-    record {
-      order = c.requires.stands.sound.order;
-      at = c.requires.stands.at;
-      room = c.requires.stands.room;
-      safe = record { env = v ∷ []; safe = safe_after (λ _ b. cond b (expand (marked c.args.register c.args.ahead)) (raises (open_text p.function.code c.args.pc c.args.register))) t taken };
-    }
+    let s = safe_so c.read_register-v.result at.place.function.code c.args.pc c.args.register c.args.ahead c.read_register-v.ensures (sym (c.counts_as_true.ensures c.args.world.now.strings) ∙ yes) c.is_closable.ensures can (c.requires.safe at.place at.is) in
+    record { order = c.requires.stands.sound.order; at = at; room = c.requires.stands.room; safe = record { env = _; safe = s } }
 
 pub returns-clause-leads : goal.returns-clause-leads
 returns-clause-leads c =
-    let W = c.args.world.now in
-    let v : Meant = meant W.strings c.read_register-v.result in
     let yes : c.counts_as_true.result ≡ true = search rules in
     let can : c.is_closable.result ≡ true = search rules in
-    let taken = subst (Makes W W (is_closable (read 0)) (v ∷ []) []) can (c.is_closable.ensures (v ∷ []) (read 0) refl) in
     where_ok c.mark_register.result c.mark_register.ensures.leads (λ ending l p is.
-    first (λ v s. expand (seen p.function.code c.args.pc c.args.register c.args.ahead v s)) (c.read_register-v.ensures [])
-    (subst (λ b. Leads (expand (by_truth p.function.code c.args.pc c.args.register c.args.ahead 0 b)) (v ∷ []) W c.mark_register.new.world (ending_of ending)) (sym yes ∙ c.counts_as_true.ensures W.strings)
-    (first (λ _ b. cond b (expand (marked c.args.register c.args.ahead)) (raises (open_text p.function.code c.args.pc c.args.register))) taken (l (v ∷ [])))))
+    leads_so c.read_register-v.result p.function.code c.args.pc c.args.register c.args.ahead c.read_register-v.ensures (sym (c.counts_as_true.ensures c.args.world.now.strings) ∙ yes) c.is_closable.ensures can (l _))

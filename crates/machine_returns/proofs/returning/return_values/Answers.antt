@@ -14,17 +14,18 @@ use Rattle.machine_returns.proofs.returning.return_values.Goals as goal
 abbrev returned : (from count : ℕ) → ℕ → Shape → Text
 returned from count n s = returns from (cond (count == 0) (counted s) (count - 1))
 
-pub return_some-requires-clause-there : goal.return_some-requires-clause-there
-return_some-requires-clause-there c = c.count_given-given.ensures.there
-
-pub return_some-requires-clause-safe : goal.return_some-requires-clause-safe
-return_some-requires-clause-safe c =
+pub return_some-requires : goal.return_some-requires
+return_some-requires c =
     let W = c.args.world.now in
     let g = c.count_given-given.ensures in
     record {
-      env = g.values;
+      sound = c.requires.sound;
+      there = g.there;
       safe = record {
-        never = λ fuel t. (c.requires.safe no_code 0).never fuel (g.goes (returned c.args.from c.args.count) [] fuel ∙ ap (λ n. run (expand (returns c.args.from n)) g.values (plain W fuel)) g.is ∙ t);
+        env = g.values;
+        safe = record {
+          never = λ fuel t. (c.requires.safe no_code 0).never fuel (g.goes (returned c.args.from c.args.count) [] fuel ∙ ap (λ n. run (expand (returns c.args.from n)) g.values (plain W fuel)) g.is ∙ t);
+        };
       };
     }
 

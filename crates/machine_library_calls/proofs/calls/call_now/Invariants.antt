@@ -1,4 +1,0 @@
-use Rattle.machine_library_calls.proofs.calls.call_now.Given as goal
-
-abbrev pub ghost-take_answer : goal.ghost-take_answer
-ghost-take_answer g a = g.begun

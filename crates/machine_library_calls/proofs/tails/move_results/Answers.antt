@@ -1,7 +1,0 @@
-use Rattle.std.proofs.Common.{rules, ◌≡◌, refl}
-use Rattle.machine_library_calls.proofs.tails.move_results.Goals as goal
-
-pub returns-clause-moves : goal.returns-clause-moves
-returns-clause-moves c =
-    let items : c.in_ok-moved.moved.items ≡ c.args.values.now = search rules in
-    (refl, items)
