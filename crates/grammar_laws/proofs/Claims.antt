@@ -119,19 +119,12 @@ Claim _ p n m = Holds p n m
 
 -- what stands before a part: its weight, its functions, and that it is counted
 
-abbrev weight_before : Option Piece → ℕ
-weight_before (Some (an_exp e)) = weight e
-weight_before (Some (some_exps es)) = weight_of_exps (tree.exps es)
-weight_before (Some (some_fields fs)) = weight_of_fields (tree.fields fs)
-weight_before (Some (some_arms as')) = weight_of_arms (tree.arms as')
-weight_before _ = 0
-
-abbrev functions_before : Option Piece → ℕ
-functions_before (Some (an_exp e)) = functions e
-functions_before (Some (some_exps es)) = functions_in_exps (tree.exps es)
-functions_before (Some (some_fields fs)) = functions_in_fields (tree.fields fs)
-functions_before (Some (some_arms as')) = functions_in_arms (tree.arms as')
-functions_before _ = 0
+abbrev counted_before : Option Piece → ℕ × ℕ
+counted_before (Some (an_exp e)) = (weight e, functions e)
+counted_before (Some (some_exps es)) = (weight_of_exps (tree.exps es), functions_in_exps (tree.exps es))
+counted_before (Some (some_fields fs)) = (weight_of_fields (tree.fields fs), functions_in_fields (tree.fields fs))
+counted_before (Some (some_arms as')) = (weight_of_arms (tree.arms as'), functions_in_arms (tree.arms as'))
+counted_before _ = (0, 0)
 
 abbrev pub carried : Part → ℕ
 carried (items ss height) = weight_of_stats (tree.stats ss)
@@ -141,11 +134,11 @@ carried (more_names xs) = length xs
 carried (local_function line) = 1
 carried (local_names line) = 1
 carried (more_declared ds) = length ds
-carried part = weight_before (front part)
+carried part = (counted_before (front part)).0
 
 abbrev pub written : Part → ℕ
 written (items ss height) = functions_in_stats (tree.stats ss)
-written part = functions_before (front part)
+written part = (counted_before (front part)).1
 
 abbrev pub IsReady : Part → Type 0
 IsReady part = FrontMeets all_counted part

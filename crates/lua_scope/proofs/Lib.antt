@@ -1,6 +1,7 @@
 pub mod Meeting
 pub mod Rows
 pub mod Looping
+pub mod Declaring
 pub mod Indexing
 pub mod Lookups
 pub mod Sought

@@ -71,6 +71,7 @@ fn place_exp(nesting: &mut Nesting, alloc: Global, exp: &mut Exp) -> Allocated<(
 
 /// Sets the places in a list of expressions.
 #[cycle(placing)]
+#[tactic(auto, using(crate::proofs::Going::begins))]
 fn place_exps(nesting: &mut Nesting, alloc: Global, list: &mut Vec<Exp>) -> Allocated<()>
     ensures after { OnOk result (nesting.new ≡ after_exps nesting.old (exps (plain_exps list.old.items))) }
     ensures settled { OnOk result (exps (plain_exps list.new.items) ≡ settled_exps nesting.old (exps (plain_exps list.old.items))) }
@@ -83,6 +84,7 @@ fn place_exps(nesting: &mut Nesting, alloc: Global, list: &mut Vec<Exp>) -> Allo
 
 /// Sets the places in the fields of a table.
 #[cycle(placing)]
+#[tactic(auto, using(crate::proofs::Going::begins))]
 fn place_fields(nesting: &mut Nesting, alloc: Global, list: &mut Vec<Field>) -> Allocated<()>
     ensures after { OnOk result (nesting.new ≡ after_fields nesting.old (fields (map plain_field list.old.items))) }
     ensures settled { OnOk result (fields (map plain_field list.new.items) ≡ settled_fields nesting.old (fields (map plain_field list.old.items))) }
@@ -152,6 +154,7 @@ fn place_inner(nesting: &mut Nesting, alloc: Global, block: &mut Block) -> Alloc
 
 /// Sets the places in statements, behind which their variables are in scope.
 #[cycle(placing)]
+#[tactic(auto, using(crate::proofs::Going::begins))]
 fn place_stats(nesting: &mut Nesting, alloc: Global, list: &mut Vec<Stat>) -> Allocated<()>
     ensures after { OnOk result (nesting.new ≡ after_stats nesting.old (stats (map plain_stat list.old.items))) }
     ensures settled { OnOk result (stats (map plain_stat list.new.items) ≡ settled_stats nesting.old (stats (map plain_stat list.old.items))) }
@@ -164,6 +167,7 @@ fn place_stats(nesting: &mut Nesting, alloc: Global, list: &mut Vec<Stat>) -> Al
 
 /// Sets the places in the tests and blocks of an `if`.
 #[cycle(placing)]
+#[tactic(auto, using(crate::proofs::Going::begins))]
 fn place_arms(nesting: &mut Nesting, alloc: Global, list: &mut Vec<Arm>) -> Allocated<()>
     ensures after { OnOk result (nesting.new ≡ after_arms nesting.old (arms (map plain_arm list.old.items))) }
     ensures settled { OnOk result (arms (map plain_arm list.new.items) ≡ settled_arms nesting.old (arms (map plain_arm list.old.items))) }
@@ -291,6 +295,7 @@ fn declare_name(nesting: &mut Nesting, alloc: Global, name: &mut Name) -> Alloca
 }
 
 /// Brings variables into scope one after the other, and sets their places.
+#[tactic(auto, using(crate::proofs::Going::begins))]
 fn declare_names(nesting: &mut Nesting, alloc: Global, names: &mut Vec<Name>) -> Allocated<()>
     ensures after { OnOk result (nesting.new ≡ declare_all nesting.old (map plain_variable names.old.items)) }
     ensures placed { OnOk result (names.new.items ≡ placed_names nesting.old names.old.items) }
@@ -302,6 +307,7 @@ fn declare_names(nesting: &mut Nesting, alloc: Global, names: &mut Vec<Name>) ->
 }
 
 /// Brings the variables of a `local` into scope one after the other, and sets their places.
+#[tactic(auto, using(crate::proofs::Going::begins))]
 fn declare_locals(nesting: &mut Nesting, alloc: Global, names: &mut Vec<Declared>) -> Allocated<()>
     ensures after { OnOk result (nesting.new ≡ declare_all nesting.old (map declared_variable names.old.items)) }
     ensures placed { OnOk result (names.new.items ≡ placed_declared nesting.old names.old.items) }
