@@ -1,3 +1,4 @@
+pub mod Functions
 pub mod Here
 pub mod Apart
 pub mod Advancing

@@ -15,13 +15,12 @@ ghost use Rattle.running_frame.specs.Apart.{IsApart};
 use crate::crossing::cross_stack;
 use crate::frames::run_frame_on_top;
 use crate::place::{Here, find_here};
-use crate::surroundings::{Body, Surroundings};
+use crate::surroundings::{Function, Surroundings};
 use crate::taking::is_taken;
 use code_core::Opcode;
 use frame_calls::Functions;
 use lua_heap::law::checked_code_is_there;
 use lua_heap::{Coro, World};
-use machine_arms_tables::Closure;
 use machine_moves::running;
 
 /// Runs the Lua frame on top as long as it goes on by itself, and the functions that it calls: some steps of the machine, none where the frame waits. The world
@@ -150,12 +149,6 @@ fn run_top(world: &mut World, budget: &mut u64) -> Option<Here>
         Coro::Running(stack) => {
             let function = world.funcs.get(stack.function().0);
             let code = world.codes.get(function.code);
-            let closure = Closure {
-                words: &code.words,
-                constants: &code.constants,
-                upvalues: &function.cells,
-            };
-            let size = code.stack as usize;
             let around = Surroundings {
                 functions: Functions {
                     funcs: &world.funcs,
@@ -167,7 +160,10 @@ fn run_top(world: &mut World, budget: &mut u64) -> Option<Here>
             };
             run_frame_on_top(
                 stack,
-                Body { closure, size },
+                Function {
+                    object: function,
+                    proto: code,
+                },
                 around,
                 &mut world.tables,
                 &mut world.cells,

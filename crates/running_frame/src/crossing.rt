@@ -4,6 +4,7 @@ ghost use Rattle.lua_heap.specs.Plain.{plain};
 ghost use Rattle.machine_arms_tables.specs.Frame.{code};
 ghost use Rattle.machine_focus.specs.Focus.{Reaches};
 ghost use Rattle.machine_loop.specs.Running.{Running};
+ghost use Rattle.running_frame.specs.Functions.{code_in};
 ghost use Rattle.frame_calls.specs.Calling.{MayLeave};
 ghost use Rattle.frame_calls.specs.Standing.{MayRun, RunsAt};
 ghost use Rattle.running_frame.specs.Advancing.{Advances};
@@ -16,13 +17,12 @@ use crate::inherited::read_inherited;
 use crate::place::is_none;
 use crate::stack::run_round;
 use crate::storing::store_open;
-use crate::surroundings::{Body, Surroundings};
+use crate::surroundings::{Body, Function, Surroundings, body_of, closure_of};
 use code_core::{Instruction, Opcode, fetch};
 use frame_calls::{Stop, closed_from, cross_over_at};
 use lua_heap::Cell;
 use lua_heap::law::checked_code_is_there;
 use lua_stack::Stack;
-use machine_arms_tables::Closure;
 use machine_loop::Memo;
 use meta_ops::Heap;
 use object_pool::Pool;
@@ -101,15 +101,12 @@ fn cross_next(
     around.strings.len();
     let function = around.functions.funcs.get(stack.function().0);
     let code = around.functions.codes.get(function.code);
-    let closure = Closure {
-        words: &code.words,
-        constants: &code.constants,
-        upvalues: &function.cells,
-    };
-    let size = code.stack as usize;
     cross_frame(
         stack,
-        Body { closure, size },
+        Function {
+            object: function,
+            proto: code,
+        },
         around,
         tables,
         cells,
@@ -122,7 +119,7 @@ fn cross_next(
 #[inline(always)]
 fn cross_frame(
     stack: &mut Stack,
-    body: Body,
+    function: Function,
     around: Surroundings,
     tables: &mut Pool<Table>,
     cells: &mut Pool<Cell>,
@@ -130,8 +127,8 @@ fn cross_frame(
     budget: &mut u64,
 ) -> Option<()>
     ghost g: { Running }
-    requires may { MayRun g (code body.closure around.strings.now) stack.old tables.old.objects cells.old.objects budget.old }
-    requires around { IsAround g around body.size }
+    requires may { MayRun g (code_in function.object.now function.proto.now around.strings.now) stack.old tables.old.objects cells.old.objects budget.old }
+    requires around { IsAround g around function.proto.now.stack }
     requires nothing { KnowsNothing memo.now }
     ensures { Advances g stack.old stack.new tables.old.objects tables.new.objects cells.old.objects cells.new.objects budget.old budget.new }
 {
@@ -140,14 +137,14 @@ fn cross_frame(
     if !runs {
         return None;
     }
-    run_and_cross(stack, body, around, tables, cells, memo, budget, start)
+    run_and_cross(stack, function, around, tables, cells, memo, budget, start)
 }
 
 /// Does so where it runs, from its place on.
 #[inline(always)]
 fn run_and_cross(
     stack: &mut Stack,
-    body: Body,
+    function: Function,
     around: Surroundings,
     tables: &mut Pool<Table>,
     cells: &mut Pool<Cell>,
@@ -156,29 +153,20 @@ fn run_and_cross(
     start: usize,
 ) -> Option<()>
     ghost g: { Running }
-    requires runs { RunsAt g (code body.closure around.strings.now) stack.old tables.old.objects cells.old.objects budget.old start }
-    requires around { IsAround g around body.size }
+    requires runs { RunsAt g (code_in function.object.now function.proto.now around.strings.now) stack.old tables.old.objects cells.old.objects budget.old start }
+    requires around { IsAround g around function.proto.now.stack }
     requires nothing { KnowsNothing memo.now }
     ensures { Advances g stack.old stack.new tables.old.objects tables.new.objects cells.old.objects cells.new.objects budget.old budget.new }
 {
-    let pc = run_round(
-        stack,
-        body.closure,
-        around,
-        tables,
-        cells,
-        memo,
-        budget,
-        start,
-    );
-    leave_or_go_on(stack, body, around, tables, cells, budget, pc)
+    let pc = run_round(stack, function, around, tables, cells, memo, budget, start);
+    leave_or_go_on(stack, function, around, tables, cells, budget, pc)
 }
 
 /// Leaves the frame, which is what most frames stop for, or does what it can without.
 #[inline(always)]
 fn leave_or_go_on(
     stack: &mut Stack,
-    body: Body,
+    function: Function,
     around: Surroundings,
     tables: &mut Pool<Table>,
     cells: &Pool<Cell>,
@@ -186,22 +174,26 @@ fn leave_or_go_on(
     pc: usize,
 ) -> Option<()>
     ghost g: { Running }
-    requires runs { RunsAt g (code body.closure around.strings.now) stack.old tables.old.objects cells.now.objects budget.old pc }
-    requires around { IsAround g around body.size }
+    requires runs { RunsAt g (code_in function.object.now function.proto.now around.strings.now) stack.old tables.old.objects cells.now.objects budget.old pc }
+    requires around { IsAround g around function.proto.now.stack }
     ensures { Advances g stack.old stack.new tables.old.objects tables.new.objects cells.now.objects cells.now.objects budget.old budget.new }
 {
-    let word = fetch(body.closure.words, pc);
+    let closure = closure_of(function);
+    let word = fetch(closure.words, pc);
     let stop = Stop {
         functions: around.functions,
-        words: body.closure.words,
-        size: body.size,
+        words: closure.words,
+        size: function.proto.stack as usize,
         pc,
         word,
         closed: None,
     };
-    match leave_frame(stack, stop, body.closure.upvalues, cells, around.co, budget) {
+    match leave_frame(stack, stop, closure.upvalues, cells, around.co, budget) {
         Some(()) => Some(()),
-        None => read_or_ask(stack, body, around, tables, cells, budget, pc),
+        None => {
+            let body = body_of(function);
+            read_or_ask(stack, body, around, tables, cells, budget, pc)
+        }
     }
 }
 

@@ -2,6 +2,7 @@
 ghost use Rattle.std.specs.Prelude.{◌≡◌, IfNone, IfSome, None};
 ghost use Rattle.machine_arms_tables.specs.Frame.{code};
 ghost use Rattle.machine_loop.specs.Running.{Running};
+ghost use Rattle.running_frame.specs.Functions.{code_in};
 ghost use Rattle.frame_calls.specs.Calling.{MayLeave};
 ghost use Rattle.frame_calls.specs.Standing.{MayRun};
 ghost use Rattle.running_frame.specs.Apart.{IsHereIn};
@@ -17,7 +18,7 @@ use crate::filling::fill_one;
 use crate::place::Here;
 use crate::stack::run_stack;
 use crate::storing::store_open;
-use crate::surroundings::{Body, Surroundings};
+use crate::surroundings::{Function, Surroundings, closure_of};
 use frame_calls::{Stop, cross};
 use lua_heap::Cell;
 use lua_stack::Stack;
@@ -29,26 +30,27 @@ use table_core::Table;
 /// Runs the frame on top, and tells where it stops. `None` where another frame is on top now, of a function that it called or to which it returned.
 pub(crate) fn run_frame_on_top(
     stack: &mut Stack,
-    body: Body,
+    function: Function,
     around: Surroundings,
     tables: &mut Pool<Table>,
     cells: &mut Pool<Cell>,
     budget: &mut u64,
 ) -> Option<Here>
     ghost g: { Running }
-    requires may { MayRun g (code body.closure around.strings.now) stack.old tables.old.objects cells.old.objects budget.old }
-    requires around { IsAround g around body.size }
+    requires may { MayRun g (code_in function.object.now function.proto.now around.strings.now) stack.old tables.old.objects cells.old.objects budget.old }
+    requires around { IsAround g around function.proto.now.stack }
     ensures goes { Advances g stack.old stack.new tables.old.objects tables.new.objects cells.old.objects cells.new.objects budget.old budget.new }
-    ensures here { IfSome result (λ here. IsHereIn g (code body.entry.closure around.entry.strings.now) stack.new here) }
+    ensures here { IfSome result (λ here. IsHereIn g (code_in function.entry.object.now function.entry.proto.now around.entry.strings.now) stack.new here) }
 {
-    let halt = run_stack(stack, body.closure, around, tables, cells, budget);
+    let halt = run_stack(stack, function, around, tables, cells, budget);
     if !halt.here.runs {
         return Some(halt.here);
     }
+    let closure = closure_of(function);
     let stop = Stop {
         functions: around.functions,
-        words: body.closure.words,
-        size: body.size,
+        words: closure.words,
+        size: function.proto.stack as usize,
         pc: halt.here.pc,
         word: halt.here.word,
         closed: halt.closed,
@@ -56,7 +58,7 @@ pub(crate) fn run_frame_on_top(
     match cross(stack, stop, budget) {
         Some(()) => None,
         None => {
-            let done = write(stack, &stop, body.closure, &around, tables, cells, budget);
+            let done = write(stack, &stop, closure, &around, tables, cells, budget);
             stays_unless(done, halt.here)
         }
     }

@@ -3,6 +3,7 @@ ghost use Rattle.std.specs.Prelude.{◌≡◌, IfNone, IfSome, true};
 ghost use Rattle.machine_arms_tables.specs.Frame.{code};
 ghost use Rattle.machine_loop.specs.Knowing.{AllHold};
 ghost use Rattle.machine_loop.specs.Running.{ClosesNothing, Running};
+ghost use Rattle.running_frame.specs.Functions.{code_in};
 ghost use Rattle.running_frame.specs.Advancing.{Advances};
 ghost use Rattle.running_frame.specs.Inheriting.{GoesWith, RunsWith, metatable_number};
 ghost use Rattle.frame_calls.specs.Standing.{IsClosedFrom, MayRun, RunsAt};
@@ -12,7 +13,7 @@ use crate::closing::pass_close;
 use crate::inherited::read_inherited;
 use crate::place::{Here, here_at, is_none};
 use crate::remembering::remember;
-use crate::surroundings::Surroundings;
+use crate::surroundings::{Function, Surroundings, closure_of};
 use crate::upvalues::{read_once, read_open};
 use frame_calls::closed_from;
 use lua_heap::{Cell, Strings};
@@ -37,36 +38,38 @@ pub(crate) struct Halt {
 /// Runs the frame on top, where it does not wait, up to an instruction that takes more than the frame and the variables of those below.
 pub(crate) fn run_stack(
     stack: &mut Stack,
-    closure: Closure,
+    function: Function,
     around: Surroundings,
     tables: &mut Pool<Table>,
     cells: &mut Pool<Cell>,
     budget: &mut u64,
 ) -> Halt
     ghost g: { Running }
-    requires may { MayRun g (code closure around.strings.now) stack.old tables.old.objects cells.old.objects budget.old }
+    requires may { MayRun g (code_in function.object.now function.proto.now around.strings.now) stack.old tables.old.objects cells.old.objects budget.old }
     requires own { around.co.0 ≡ g.around.context.coroutine }
     requires meta { metatable_number around.string_meta ≡ g.string_metatable }
     ensures goes { Advances g stack.old stack.new tables.old.objects tables.new.objects cells.old.objects cells.new.objects budget.old budget.new }
-    ensures here { IsHereIn g (code closure.entry around.entry.strings.now) stack.new result.here }
-    ensures runs { result.here.runs ≡ true → RunsAt g (code closure.entry around.entry.strings.now) stack.new tables.new.objects cells.new.objects budget.new result.here.pc }
+    ensures here { IsHereIn g (code_in function.entry.object.now function.entry.proto.now around.entry.strings.now) stack.new result.here }
+    ensures runs { result.here.runs ≡ true → RunsAt g (code_in function.entry.object.now function.entry.proto.now around.entry.strings.now) stack.new tables.new.objects cells.new.objects budget.new result.here.pc }
     ensures closed { IfSome result.closed (λ register. IsClosedFrom stack.new register) }
 {
     let start = stack.pc();
     let runs = is_none(stack.wait());
     if !runs {
-        let here = here_at(closure.words, start, false);
+        let here = here_at(&function.proto.words, start, false);
         return Halt { here, closed: None };
     }
     let closed = closed_from(stack);
-    let here = run_on_top(stack, closure, around, tables, cells, budget, closed, start);
+    let here = run_on_top(
+        stack, function, around, tables, cells, budget, closed, start,
+    );
     Halt { here, closed }
 }
 
 /// Runs the frame on top, which does not wait.
 fn run_on_top(
     stack: &mut Stack,
-    closure: Closure,
+    function: Function,
     around: Surroundings,
     tables: &mut Pool<Table>,
     cells: &mut Pool<Cell>,
@@ -75,16 +78,18 @@ fn run_on_top(
     start: usize,
 ) -> Here
     ghost g: { Running }
-    requires runs { RunsAt g (code closure around.strings.now) stack.old tables.old.objects cells.old.objects budget.old start }
+    requires runs { RunsAt g (code_in function.object.now function.proto.now around.strings.now) stack.old tables.old.objects cells.old.objects budget.old start }
     requires closed { IfSome closed (λ register. ClosesNothing g.around cells.old.objects register) }
     requires own { around.co.0 ≡ g.around.context.coroutine }
     requires meta { metatable_number around.string_meta ≡ g.string_metatable }
     ensures goes { Advances g stack.old stack.new tables.old.objects tables.new.objects cells.old.objects cells.new.objects budget.old budget.new }
-    ensures here { IsHereIn g (code closure.entry around.entry.strings.now) stack.new result }
-    ensures runs { RunsAt g (code closure.entry around.entry.strings.now) stack.new tables.new.objects cells.new.objects budget.new result.pc }
+    ensures here { IsHereIn g (code_in function.entry.object.now function.entry.proto.now around.entry.strings.now) stack.new result }
+    ensures runs { RunsAt g (code_in function.entry.object.now function.entry.proto.now around.entry.strings.now) stack.new tables.new.objects cells.new.objects budget.new result.pc }
 {
-    let pc = run_rounds(stack, closure, around, tables, cells, budget, closed, start);
-    here_at(closure.words, pc, true)
+    let pc = run_rounds(
+        stack, function, around, tables, cells, budget, closed, start,
+    );
+    here_at(&function.proto.words, pc, true)
 }
 
 /// Runs it from the place `start` on, where the loop over instructions stopped before, and tells where it stops. That loop has the frame's own registers alone,
@@ -92,7 +97,7 @@ fn run_on_top(
 /// two rounds of it, and a CLOSE is passed there. Nothing that is done here changes a frame below, so values that stand there are remembered.
 fn run_rounds(
     stack: &mut Stack,
-    closure: Closure,
+    function: Function,
     around: Surroundings,
     tables: &mut Pool<Table>,
     cells: &mut Pool<Cell>,
@@ -101,13 +106,14 @@ fn run_rounds(
     start: usize,
 ) -> usize
     ghost g: { Running }
-    requires runs { RunsAt g (code closure around.strings.now) stack.old tables.old.objects cells.old.objects budget.old start }
+    requires runs { RunsAt g (code_in function.object.now function.proto.now around.strings.now) stack.old tables.old.objects cells.old.objects budget.old start }
     requires closed { IfSome closed (λ register. ClosesNothing g.around cells.old.objects register) }
     requires own { around.co.0 ≡ g.around.context.coroutine }
     requires meta { metatable_number around.string_meta ≡ g.string_metatable }
     ensures goes { Advances g stack.old stack.new tables.old.objects tables.new.objects cells.old.objects cells.new.objects budget.old budget.new }
-    ensures runs { RunsAt g (code closure.entry around.entry.strings.now) stack.new tables.new.objects cells.new.objects budget.new result }
+    ensures runs { RunsAt g (code_in function.entry.object.now function.entry.proto.now around.entry.strings.now) stack.new tables.new.objects cells.new.objects budget.new result }
 {
+    let closure = closure_of(function);
     let mut pc = start;
     let mut again = false;
     let mut memo = Memo {
@@ -123,7 +129,7 @@ fn run_rounds(
         };
         let at = run_once(
             stack,
-            closure,
+            function,
             around.strings,
             tables,
             cells,
@@ -229,7 +235,7 @@ fn read_between(
 #[inline(always)]
 pub(crate) fn run_round(
     stack: &mut Stack,
-    closure: Closure,
+    function: Function,
     around: Surroundings,
     tables: &mut Pool<Table>,
     cells: &mut Pool<Cell>,
@@ -238,17 +244,17 @@ pub(crate) fn run_round(
     start: usize,
 ) -> usize
     ghost g: { Running }
-    requires runs { RunsAt g (code closure around.strings.now) stack.old tables.old.objects cells.old.objects budget.old start }
-    requires known { AllHold g.around closure.upvalues.now cells.old.objects memo.now }
+    requires runs { RunsAt g (code_in function.object.now function.proto.now around.strings.now) stack.old tables.old.objects cells.old.objects budget.old start }
+    requires known { AllHold g.around function.object.now.cells.items cells.old.objects memo.now }
     requires own { around.co.0 ≡ g.around.context.coroutine }
     ensures goes { Advances g stack.old stack.new tables.old.objects tables.new.objects cells.old.objects cells.new.objects budget.old budget.new }
-    ensures runs { RunsAt g (code closure.entry around.entry.strings.now) stack.new tables.new.objects cells.new.objects budget.new result }
+    ensures runs { RunsAt g (code_in function.entry.object.now function.entry.proto.now around.entry.strings.now) stack.new tables.new.objects cells.new.objects budget.new result }
 {
     let mut pc = start;
     for round in 0..ROUNDS {
         let at = run_once(
             stack,
-            closure,
+            function,
             around.strings,
             tables,
             cells,
@@ -256,6 +262,7 @@ pub(crate) fn run_round(
             budget,
             pc,
         );
+        let closure = closure_of(function);
         let is_last = round == ROUNDS - 1;
         let Some(to) = read_once(stack, closure, cells, around.co, is_last, at) else {
             return at;
@@ -269,7 +276,7 @@ pub(crate) fn run_round(
 #[inline(always)]
 fn run_once(
     stack: &mut Stack,
-    closure: Closure,
+    function: Function,
     strings: &Strings,
     tables: &mut Pool<Table>,
     cells: &mut Pool<Cell>,
@@ -278,11 +285,12 @@ fn run_once(
     start: usize,
 ) -> usize
     ghost g: { Running }
-    requires runs { RunsAt g (code closure strings.now) stack.old tables.old.objects cells.old.objects budget.old start }
-    requires known { AllHold g.around closure.upvalues.now cells.old.objects memo.now }
+    requires runs { RunsAt g (code_in function.object.now function.proto.now strings.now) stack.old tables.old.objects cells.old.objects budget.old start }
+    requires known { AllHold g.around function.object.now.cells.items cells.old.objects memo.now }
     ensures goes { Advances g stack.old stack.new tables.old.objects tables.new.objects cells.old.objects cells.new.objects budget.old budget.new }
-    ensures runs { RunsAt g (code closure.entry strings.now) stack.new tables.new.objects cells.new.objects budget.new result }
+    ensures runs { RunsAt g (code_in function.entry.object.now function.entry.proto.now strings.now) stack.new tables.new.objects cells.new.objects budget.new result }
 {
+    let closure = closure_of(function);
     let registers = stack.registers_mut();
     let pc = run_frame(
         closure, strings, tables, cells, registers, memo, start, budget,

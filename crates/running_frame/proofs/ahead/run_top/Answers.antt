@@ -53,8 +53,7 @@ run_frame_on_top-requires g c =
     let same = cells_are g.g W h c.function.result.0 f n c.get-function.ensures in
     let runs =
     may_run g.g.around.primitives g.g.around.rows W h.place h.is h.still c.running-co.result s r code f.code.0 f.cells.items fuel h.safe h.after h.order says same c.len.ensures.apart c.len.ensures.short in (
-      rw (c.deref.ensures.value, c.deref-in-Running.ensures.value, c.deref-in-Running-2.ensures.value)
-          (of_held (λ g. MayRun g (record { words = code.words.items; constants = code.constants.items; upvalues = f.cells.items; texts = W.strings }) s W.tables.objects W.cells.objects fuel) g.g h runs),
+      (of_held (λ g. MayRun g (record { words = code.words.items; constants = code.constants.items; upvalues = f.cells.items; texts = W.strings }) s W.tables.objects W.cells.objects fuel) g.g h runs),
       record {
         functions = subst (λ (g : Running). AreFunctions g.around.context.base.functions (program_in W)) (sym h.held) (are_functions g.g.around.primitives W h.after h.order c.checked_code_is_there.ensures);
         wants = says.stack ∙ ap (λ (g : Running). g.around.context.closure.code.own.stack) (sym h.held);
@@ -100,8 +99,8 @@ returns-clause-here g c =
     let r = found c.running-co.ensures c.get_mut.ensures.value c.in-Running.is in
     let n : c.function.result.0 ≡ h.place.top.function = of_top W c.running-co.result s h.place (λ f t. c.function.result.0 ≡ t.function) r h.is c.function.ensures in
     let says = code_says g.g W h c.function.result.0 f n c.get-function.ensures c.checked_code_is_there.ensures code c.get-code.ensures in
-    let k : LoopCode = record { words = c.deref.result.now; constants = c.deref-in-Running.result.now; upvalues = c.deref-in-Running-2.result.now; texts = W.strings } in
+    let k : LoopCode = record { words = code.words.items; constants = code.constants.items; upvalues = f.cells.items; texts = W.strings } in
     IfSome_then c.run_frame_on_top.result c.run_frame_on_top.ensures.here
     (λ here x.
     here_in g.g.around.primitives g.g.around.rows W h.place h.is h.still c.running-co.result s r tables cells (with_stack (with_parts W tables cells) c.running-co.result u) u code f.code.0 k here (record { rest = refl; objects = refl }) says
-    c.deref.ensures.value (subst (λ g. IsHereIn g k u here) h.held x))
+    refl (subst (λ g. IsHereIn g k u here) h.held x))

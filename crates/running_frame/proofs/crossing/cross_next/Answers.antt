@@ -17,8 +17,7 @@ get-code-requires g c =
 
 pub cross_frame-requires : goal.cross_frame-requires
 cross_frame-requires g c = (
-  rw (c.deref.ensures.value, c.deref-2.ensures.value, c.deref-3.ensures.value)
-      (may_run_so g.outside c.args.around.strings.now c.args.around.functions.funcs.now c.args.around.functions.codes.now c.args.tables.now c.args.cells.now c.args.stack.now c.requires.0 c.function.result.0 c.function.ensures c.get-function.result.now c.get-function.ensures c.checked_code_is_there.ensures
+  (may_run_so g.outside c.args.around.strings.now c.args.around.functions.funcs.now c.args.around.functions.codes.now c.args.tables.now c.args.cells.now c.args.stack.now c.requires.0 c.function.result.0 c.function.ensures c.get-function.result.now c.get-function.ensures c.checked_code_is_there.ensures
       c.get-code.result.now c.get-code.ensures c.len.ensures.apart c.len.ensures.short c.args.budget.now),
   (
     record {

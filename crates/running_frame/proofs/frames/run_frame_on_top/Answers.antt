@@ -4,6 +4,8 @@ use Rattle.std.proofs.lemmas.Option.{IfSome_then}
 use Rattle.lua_heap.specs.Reading.{value}
 use Rattle.lua_stack.specs.Frames.{KeptStack}
 use Rattle.machine_arms_tables.specs.Frame.{code}
+use Rattle.running_frame.specs.Functions.{code_in}
+use Rattle.frame_calls.specs.Standing.{RunsAt}
 use Rattle.frame_calls.specs.Calling.{program_of}
 use Rattle.running_frame.proofs.Advanced.{advances_then}
 use Rattle.frame_calls.proofs.CrossedOver.{crossed_over_or_not}
@@ -29,11 +31,12 @@ cross-requires g c =
 pub returns-in-Some-clause-goes : goal.returns-in-Some-clause-goes
 returns-in-Some-clause-goes g c =
     let h = c.run_stack-halt in
-    let r = h.ensures.runs (runs_where h.result.here.runs c.if-not-halt.false) in
+    let r : RunsAt g.g (code c.closure_of-closure.result c.args.around.strings.now) h.new.stack h.new.tables.objects h.new.cells.objects h.new.budget h.result.here.pc =
+    rw (c.closure_of-closure.ensures.words, c.closure_of-closure.ensures.constants, c.closure_of-closure.ensures.upvalues) (h.ensures.runs (runs_where h.result.here.runs c.if-not-halt.false)) in
     advances_then h.ensures.goes (record {
       reaches =
-          crossed_over_or_not g.g (code c.args.body.closure c.args.around.strings.now) h.new.stack h.new.tables.objects h.new.cells.objects h.new.budget h.result.here.pc r
-          c.cross.new.stack c.args.body.size (program_of c.args.around.functions) h.result.here.word c.cross.new.budget c.requires.1.functions c.requires.1.wants h.ensures.here.word
+          crossed_over_or_not g.g (code c.closure_of-closure.result c.args.around.strings.now) h.new.stack h.new.tables.objects h.new.cells.objects h.new.budget h.result.here.pc r
+          c.cross.new.stack c.args.function.proto.now.stack (program_of c.args.around.functions) h.result.here.word c.cross.new.budget c.requires.1.functions c.requires.1.wants (rw c.closure_of-closure.ensures.words h.ensures.here.word)
           c.cross.result c.cross.ensures.crosses c.cross.ensures.kept;
       opened = refl;
       listed = c.cross.ensures.listed;
@@ -58,12 +61,13 @@ returns-in-None-clause-goes g c =
     let h = c.run_stack-halt in
     let x = c.requires.1 in
     let kept = subst (λ o. IfNone o ((c.cross.new.stack ≡ h.new.stack) × (c.cross.new.budget ≡ h.new.budget))) c.in-None.is c.cross.ensures.kept in
-    let r = h.ensures.runs (runs_where h.result.here.runs c.if-not-halt.false) in
+    let r : RunsAt g.g (code c.closure_of-closure.result c.args.around.strings.now) h.new.stack h.new.tables.objects h.new.cells.objects h.new.budget h.result.here.pc =
+    rw (c.closure_of-closure.ensures.words, c.closure_of-closure.ensures.constants, c.closure_of-closure.ensures.upvalues) (h.ensures.runs (runs_where h.result.here.runs c.if-not-halt.false)) in
     advances_then h.ensures.goes (record {
       reaches =
-          written_or_not g.g (code c.args.body.closure c.args.around.strings.now) h.new.stack h.new.tables.objects h.new.cells.objects h.new.budget h.result.here.pc r
-          c.cross.new.stack c.write-done.new.stack c.write-done.new.tables.objects (metatable_number c.args.around.string_meta) (program_of c.args.around.functions) c.cross.new.budget c.write-done.new.budget c.args.around.co.0 c.args.body.size h.result.here.word
-          x.functions kept.0 kept.1 x.meta x.own x.wants h.ensures.here.word c.write-done.result c.write-done.ensures.writes c.write-done.ensures.kept;
+          written_or_not g.g (code c.closure_of-closure.result c.args.around.strings.now) h.new.stack h.new.tables.objects h.new.cells.objects h.new.budget h.result.here.pc r
+          c.cross.new.stack c.write-done.new.stack c.write-done.new.tables.objects (metatable_number c.args.around.string_meta) (program_of c.args.around.functions) c.cross.new.budget c.write-done.new.budget c.args.around.co.0 c.args.function.proto.now.stack h.result.here.word
+          x.functions kept.0 kept.1 x.meta x.own x.wants (rw c.closure_of-closure.ensures.words h.ensures.here.word) c.write-done.result c.write-done.ensures.writes c.write-done.ensures.kept;
       opened = refl;
       listed = c.write-done.ensures.listed ∙ c.cross.ensures.listed;
     })
@@ -75,5 +79,5 @@ returns-in-None-clause-here g c =
     IfSome_then c.stays_unless.result c.stays_unless.ensures
     (λ at e.
     let same = subst (λ o. IfNone o (ReadSame c.cross.new.stack c.write-done.new.stack × (c.write-done.new.budget ≡ c.cross.new.budget) × (c.write-done.new.tables.objects ≡ h.new.tables.objects))) e.1 c.write-done.ensures.kept in
-    subst (λ here. IsHereIn g.g (code c.args.body.closure c.args.around.strings.now) c.write-done.new.stack here) (sym e.0)
-    (here_still g.g (code c.args.body.closure c.args.around.strings.now) h.new.stack c.cross.new.stack c.write-done.new.stack h.result.here h.ensures.here (runs_where h.result.here.runs c.if-not-halt.false) kept.0 same.0))
+    subst (λ here. IsHereIn g.g (code_in c.args.function.object.now c.args.function.proto.now c.args.around.strings.now) c.write-done.new.stack here) (sym e.0)
+    (here_still g.g (code_in c.args.function.object.now c.args.function.proto.now c.args.around.strings.now) h.new.stack c.cross.new.stack c.write-done.new.stack h.result.here h.ensures.here (runs_where h.result.here.runs c.if-not-halt.false) kept.0 same.0))

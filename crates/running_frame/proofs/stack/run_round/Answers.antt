@@ -1,5 +1,5 @@
 use Rattle.std.proofs.Common.{◌≡◌, sym, subst, rules}
-use Rattle.machine_arms_tables.specs.Frame.{code}
+use Rattle.running_frame.specs.Functions.{code_in}
 use Rattle.lua_stack.specs.Frames.{KeptStack}
 use Rattle.machine_loop.proofs.Recalled.{still_hold}
 use Rattle.running_frame.specs.Inheriting.{GoesWith}
@@ -14,7 +14,7 @@ loop-round-init g c = record { goes = advances_none g.g c.args.stack.now c.args.
 
 pub run_once-at-requires : goal.run_once-at-requires
 run_once-at-requires g c =
-    (c.loop-round.invariant.runs, still_hold g.g.around c.args.closure.upvalues.now c.args.cells.now.objects c.loop-round.cells.objects c.loop-round.invariant.goes.opened c.args.memo.now c.requires.1.0)
+    (c.loop-round.invariant.runs, still_hold g.g.around c.args.function.object.now.cells.items c.args.cells.now.objects c.loop-round.cells.objects c.loop-round.invariant.goes.opened c.args.memo.now c.requires.1.0)
 
 pub read_once-requires : goal.read_once-requires
 read_once-requires g c =
@@ -22,7 +22,9 @@ read_once-requires g c =
       record {
         tables = c.run_once-at.new.tables.objects;
         fuel = c.run_once-at.new.budget;
-        runs = subst (λ texts. RunsAt g.g (code c.args.closure texts) c.run_once-at.new.stack c.run_once-at.new.tables.objects c.run_once-at.new.cells.objects c.run_once-at.new.budget c.run_once-at.result) (sym x.may.closure.texts_are) x;
+        runs =
+            rw (c.closure_of-closure.ensures.words, c.closure_of-closure.ensures.constants, c.closure_of-closure.ensures.upvalues)
+            (subst (λ texts. RunsAt g.g (code_in c.args.function.object.now c.args.function.proto.now texts) c.run_once-at.new.stack c.run_once-at.new.tables.objects c.run_once-at.new.cells.objects c.run_once-at.new.budget c.run_once-at.result) (sym x.may.closure.texts_are) x);
       },
       c.requires.1.1,
     )
@@ -36,12 +38,12 @@ returns-in_default-clause-goes g c =
 pub returns-in_default-clause-runs : goal.returns-in_default-clause-runs
 returns-in_default-clause-runs g c =
     let kept : c.read_once.new.stack ≡ c.run_once-at.new.stack = search rules in
-    subst (λ (s : KeptStack). RunsAt g.g (code c.args.closure c.args.around.strings.now) s c.run_once-at.new.tables.objects c.run_once-at.new.cells.objects c.run_once-at.new.budget c.run_once-at.result) (sym kept) c.run_once-at.ensures.runs
+    subst (λ (s : KeptStack). RunsAt g.g (code_in c.args.function.object.now c.args.function.proto.now c.args.around.strings.now) s c.run_once-at.new.tables.objects c.run_once-at.new.cells.objects c.run_once-at.new.budget c.run_once-at.result) (sym kept) c.run_once-at.ensures.runs
 
 pub loop-round-preserved : goal.loop-round-preserved
 loop-round-preserved g c =
     let r = c.run_once-at.ensures in
     let fuel = c.run_once-at.new.budget in
-    let o : GoesWith g.g (code c.args.closure c.args.around.strings.now) c.run_once-at.new.stack c.read_once.new.stack c.run_once-at.new.tables.objects c.run_once-at.new.cells.objects c.run_once-at.result c.in-Some.to =
-    over_goes r.runs.may.closure.texts_are c.in-Some.ensures.goes in
+    let o : GoesWith g.g (code_in c.args.function.object.now c.args.function.proto.now c.args.around.strings.now) c.run_once-at.new.stack c.read_once.new.stack c.run_once-at.new.tables.objects c.run_once-at.new.cells.objects c.run_once-at.result c.in-Some.to =
+    over_goes r.runs.may.closure.texts_are (rw (c.closure_of-closure.ensures.words, c.closure_of-closure.ensures.constants, c.closure_of-closure.ensures.upvalues) at c.in-Some.ensures.goes) in
     record { goes = advances_then (advances_then c.loop-round.invariant.goes r.goes) (advances_with o fuel r.runs); runs = o.runs fuel r.runs }

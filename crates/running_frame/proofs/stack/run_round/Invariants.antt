@@ -1,4 +1,4 @@
-use Rattle.machine_arms_tables.specs.Frame.{code}
+use Rattle.running_frame.specs.Functions.{code_in}
 use Rattle.running_frame.specs.Advancing.{Advances}
 use Rattle.frame_calls.specs.Standing.{RunsAt}
 use Rattle.running_frame.proofs.stack.run_round.Given as goal
@@ -12,5 +12,5 @@ ghost-read_once g a = g.g
 abbrev pub invariant-loop-round : goal.invariant-loop-round
 invariant-loop-round g l = record {
   goes : Advances g.g l.initial.stack l.stack l.initial.tables.objects l.tables.objects l.initial.cells.objects l.cells.objects l.initial.budget l.budget;
-  runs : RunsAt g.g (code l.closure l.around.strings.now) l.stack l.tables.objects l.cells.objects l.budget l.pc;
+  runs : RunsAt g.g (code_in l.function.object.now l.function.proto.now l.around.strings.now) l.stack l.tables.objects l.cells.objects l.budget l.pc;
 }

@@ -1,5 +1,5 @@
 use Rattle.std.proofs.Common.{◌≡◌, [], ◌∷◌, ◌++◌, sym, ap, subst, ◌∙◌, arith}
-use Rattle.machine_arms_tables.specs.Frame.{code}
+use Rattle.running_frame.specs.Functions.{code_in}
 use Rattle.lua_heap.specs.Reading.{value}
 use Rattle.lua_stack.specs.Frames.{KeptStack, frames}
 use Rattle.machine_core.specs.World.{lua}
@@ -18,7 +18,7 @@ here_at-here-requires g c =
     let below = g.g.around.context.below in
     let e = c.pc-start.ensures v below m.top m.is in
     let l = m.within in
-    omega (arith, e, l)
+    rw c.deref.ensures.value (omega (arith, e, l))
 
 pub returns-then-not-runs-clause-here : goal.returns-then-not-runs-clause-here
 returns-then-not-runs-clause-here g c =
@@ -30,7 +30,7 @@ returns-then-not-runs-clause-here g c =
       is = m.is;
       function = m.function;
       at_pc = sym (c.here_at-here.ensures.place ∙ c.pc-start.ensures v below m.top m.is);
-      word = c.here_at-here.ensures.word;
+      word = rw c.deref.ensures.value at c.here_at-here.ensures.word;
       runs = c.here_at-here.ensures.runs ∙ sym c.if-not-runs.true ∙ c.is_none-runs.ensures g.g.around.texts ∙ ap is_none (c.wait.ensures v below m.top m.is);
     }
 
@@ -42,7 +42,7 @@ run_on_top-here-requires g c =
     let m = c.requires.0 in
     let v = value g.g.around.texts in
     let below = g.g.around.context.below in
-    let k = code c.args.closure c.args.around.strings.now in
+    let k = code_in c.args.function.object.now c.args.function.proto.now c.args.around.strings.now in
     let ts = c.args.tables.now.objects in
     let cs = c.args.cells.now.objects in
     let kept = sym c.closed_from-closed.ensures.kept in
