@@ -42,10 +42,10 @@ use Rattle.graph_core.specs.Objects.{part_of}
 use Rattle.eris_write.specs.Images.{fields_in, record_bytes, records_bytes, sort_code}
 use Rattle.eris_write.specs.Output.{Puts}
 use Rattle.eris_write.specs.Refusals.{coroutine_refusal}
-use Rattle.eris_write.specs.Frames.{frame_bytes, bytes_at, wait_bytes, wait_byte}
+use Rattle.eris_write.specs.Frames.{frame_bytes, bytes_at, wait_bytes}
 use Rattle.eris_write.specs.Writing.{Writes, texts_in, inside_in, naming_in, read_in, item_in, item_bytes}
 use Rattle.eris_write.proofs.Putting.{or_none as or_no_other, puts_both, puts_then, puts_as, puts_is, writes_both, writes_as}
-use Rattle.eris_write.proofs.Spelled.{all_both, list_spelled, word_spelled, code_spelled, function_spelled, reference_spelled, closed_spelled, open_spelled, closing_spelled, error_spelled, lua_spelled, wait_number_is, wait_spelled, fresh_spelled, suspended_spelled, dead_spelled, failed_spelled, no_coroutine_spelled, xpcall_spelled, record_is}
+use Rattle.eris_write.proofs.Spelled.{all_both, list_spelled, word_spelled, code_spelled, function_spelled, reference_spelled, closed_spelled, open_spelled, closing_spelled, error_spelled, lua_spelled, wait_spelled, fresh_spelled, suspended_spelled, dead_spelled, failed_spelled, no_coroutine_spelled, xpcall_spelled, record_is}
 use Rattle.eris_write.proofs.Written.{value_fields, one_on}
 use Rattle.graph_core.proofs.Framed.{not_there}
 
@@ -207,7 +207,7 @@ abbrev lua_bytes : Reader → (function : List ℕ) (pc wait : ℕ) → (varargs
 lua_bytes R function pc wait varargs registers pending rest =
     (1 ∷ []) ++ (function ++ (little_bytes 4 pc ++ ((wait ∷ []) ++ ((list (item_format R)).spell varargs ++ ((list (item_format R)).spell registers ++ ((list word).spell pending ++ rest))))))
 
-lua_same : (R : Reader) (w : Writer) (t : KeptLua) (k : ℕ) → k ≡ wait_byte t.wait → t.opened ≡ 0
+lua_same : (R : Reader) (w : Writer) (t : KeptLua) (k : ℕ) → k ≡ wait_number R (wait_item (naming_in w) (wait_of (read_in w) t.wait)) → t.opened ≡ 0
     → lua_bytes R (item_bytes w (kept.Func t.function) R) t.pc k (map (item_in w) t.varargs) (map (item_in w) t.registers) t.pending (wait_bytes w t.wait R) ≡ frame_bytes w (kept_lua t) R
 lua_same R w t k e o =
     let N = naming_in w in
@@ -215,14 +215,14 @@ lua_same R w t k e o =
     let vs = map (item N) (map (read_in w) t.varargs) in
     let rs = map (item N) (map (read_in w) t.registers) in
     let wt = wait_item N (wait_of (read_in w) t.wait) in
-    ap (λ k. lua_bytes R f t.pc k (map (item_in w) t.varargs) (map (item_in w) t.registers) t.pending (wait_bytes w t.wait R)) (e ∙ sym (wait_number_is R w t.wait))
+    ap (λ k. lua_bytes R f t.pc k (map (item_in w) t.varargs) (map (item_in w) t.registers) t.pending (wait_bytes w t.wait R)) e
     ∙ (ap (λ l. lua_bytes R f t.pc (wait_number R wt) l (map (item_in w) t.registers) t.pending (wait_bytes w t.wait R)) (sym (map_twice (item N) (read_in w) t.varargs))
     ∙ (ap (λ l. lua_bytes R f t.pc (wait_number R wt) vs l t.pending (wait_bytes w t.wait R)) (sym (map_twice (item N) (read_in w) t.registers))
     ∙ (ap (λ l. lua_bytes R f t.pc (wait_number R wt) vs rs t.pending l) (sym (wait_spelled R w t.wait))
     ∙ (sym (lua_spelled R (item N (object a_function t.function.0)) t.pc wt vs rs t.pending)
     ∙ ap (λ n. (frame_format R).spell (lua_item (record { function = item N (object a_function t.function.0); pc = t.pc; wait = wt; varargs = vs; registers = rs; pending = t.pending; opened = n }))) (sym o)))))
 
-pub lua_written : (w : Writer) (t : KeptLua) (k : ℕ) (a b c d e f g h i : Output) → k ≡ wait_byte t.wait → t.opened ≡ 0
+pub lua_written : (w : Writer) (t : KeptLua) (k : ℕ) (a b c d e f g h i : Output) → ((R : Reader) → k ≡ wait_number R (wait_item (naming_in w) (wait_of (read_in w) t.wait))) → t.opened ≡ 0
     → Puts a b None (λ _. 1 ∷ []) → Writes w b c (of_value (read_in w (kept.Func t.function)) ∷ []) (item_bytes w (kept.Func t.function)) → Puts c d None (λ _. little_bytes 4 t.pc) → Puts d e None (λ _. k ∷ [])
     → Writes w e f (value_fields w t.varargs) (list_bytes w t.varargs) → Writes w f g (value_fields w t.registers) (list_bytes w t.registers) → Puts g h None (λ _. (list word).spell t.pending)
     → Writes w h i (wait_fields (wait_of (read_in w) t.wait)) (wait_bytes w t.wait) → Writes w a i (fields_of (texts_in w) (kept_lua t)) (frame_bytes w (kept_lua t))
@@ -237,7 +237,7 @@ lua_written w t k a b c d e f g h i kq oq one fn pc wt vs rs ps rest =
     let X = λ (R : Reader). (k ∷ []) ++ U R in
     let Y = λ (R : Reader). little_bytes 4 t.pc ++ X R in
     let Z = λ (R : Reader). item_bytes w (kept.Func t.function) R ++ Y R in
-    writes_as w a i (F ++ (V ++ (S ++ E))) (fields_of (texts_in w) (kept_lua t)) (λ R. (1 ∷ []) ++ Z R) (frame_bytes w (kept_lua t)) refl (λ R. lua_same R w t k kq oq)
+    writes_as w a i (F ++ (V ++ (S ++ E))) (fields_of (texts_in w) (kept_lua t)) (λ R. (1 ∷ []) ++ Z R) (frame_bytes w (kept_lua t)) refl (λ R. lua_same R w t k (kq R) oq)
     (writes_both w [] (F ++ (V ++ (S ++ E))) (λ _. 1 ∷ []) Z one
     (writes_both w F (V ++ (S ++ E)) (item_bytes w (kept.Func t.function)) Y fn
     (writes_both w [] (V ++ (S ++ E)) (λ _. little_bytes 4 t.pc) X pc

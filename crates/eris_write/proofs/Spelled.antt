@@ -17,7 +17,7 @@ use Rattle.graph_core.specs.declared.permanents.PermanentKey.TheVariants.{Number
 use Rattle.graph_core.specs.Permanents.{key_read}
 use Rattle.eris_write.specs.Output.{key_bytes}
 use Rattle.eris_write.specs.declared.writer.Writer.{Writer}
-use Rattle.eris_write.specs.Frames.{wait_byte, wait_bytes}
+use Rattle.eris_write.specs.Frames.{wait_bytes}
 use Rattle.eris_write.specs.Writing.{kind_tag, naming_in, read_in, unnamed_bytes}
 
 pub environment_spelled : (R : Reader) → (item_format R).spell environment ≡ 9 ∷ []
@@ -92,13 +92,9 @@ open_spelled R co frame register = refl
 
 -- frames
 
-pub pcall_spelled : (R : Reader) → (frame_format R).spell pcall_item ≡ 2 ∷ []
+pub bare_spelled : (R : Reader) → ((frame_format R).spell pcall_item ≡ 2 ∷ []) × ((frame_format R).spell handler_item ≡ 4 ∷ [])
 unfolding frame_format tagged byte when case nothing
-pcall_spelled R = refl
-
-pub handler_spelled : (R : Reader) → (frame_format R).spell handler_item ≡ 4 ∷ []
-unfolding frame_format tagged byte when case nothing
-handler_spelled R = refl
+bare_spelled R = (refl, refl)
 
 pub xpcall_spelled : (R : Reader) (h : Item) → (frame_format R).spell (xpcall_item h) ≡ (3 ∷ []) ++ (item_format R).spell h
 unfolding frame_format tagged byte when case
@@ -122,10 +118,6 @@ pub lua_spelled : (R : Reader) (function : Item) (pc : ℕ) (wait : Wait Item) (
     ++ ((list word).spell pending ++ (wait_rest R (wait_number R wait)).spell wait))))))
 unfolding frame_format lua_format tagged byte when case followed only tested word
 lua_spelled R function pc wait varargs registers pending = refl
-
-pub wait_number_is : (R : Reader) (w : Writer) (wait : KeptWait) → wait_number R (wait_item (naming_in w) (wait_of (read_in w) wait)) ≡ wait_byte wait
-wait_number_is R w Running = refl
-wait_number_is R w _ = refl
 
 pub wait_spelled : (R : Reader) (w : Writer) (wait : KeptWait) → (wait_rest R (wait_number R (wait_item (naming_in w) (wait_of (read_in w) wait)))).spell (wait_item (naming_in w) (wait_of (read_in w) wait)) ≡ wait_bytes w wait R
 unfolding wait_rest plain_wait when case nothing byte word wrong

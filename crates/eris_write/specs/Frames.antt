@@ -5,7 +5,7 @@ use Rattle.machine_sound.specs.Sound.{Each, OptionOk}
 use Rattle.image_core.specs.Records.{frame_item}
 use Rattle.image_bytes.specs.Bytes.{Reader, frame_format}
 use Rattle.lua_stack.specs.declared.frame.Wait.{Wait}
-use Rattle.lua_stack.specs.declared.frame.Wait.TheVariants.{Running, ForCall, ForIterator, ForValue, ForTruth, Dropped, ForConcat, ForClose, Returning, Leaving}
+use Rattle.lua_stack.specs.declared.frame.Wait.TheVariants.{ForConcat, Returning, Leaving}
 use Rattle.lua_stack.specs.Frames.{KeptLua, KeptFrame, kept_lua, kept_pcall, kept_xpcall, kept_handler, kept_closing, frame_of}
 use Rattle.lua_heap.specs.declared.world.Coro.{Coro}
 use Rattle.lua_heap.specs.declared.world.Coro.TheVariants.{Fresh, Suspended, Running as Runs, Normal, Dead, Failed}
@@ -44,19 +44,6 @@ frame_bytes w f R = (frame_format R).spell (frame_item (naming_in w) (frame_of (
 -- the bytes of a frame, if it is there
 abbrev pub bytes_at : Writer → List KeptFrame → ℕ → Reader → List ℕ
 bytes_at w frames n R = elim (slice_get frames n) [ None ↦ [] | Some f ↦ frame_bytes w f R ]
-
--- the number of a wait
-abbrev pub wait_byte : Wait → ℕ
-wait_byte ForCall = 0
-wait_byte ForIterator = 1
-wait_byte ForValue = 2
-wait_byte ForTruth = 3
-wait_byte Dropped = 4
-wait_byte (ForConcat left) = 5
-wait_byte ForClose = 6
-wait_byte (Returning count) = 7
-wait_byte (Leaving error) = 8
-wait_byte Running = 255
 
 -- what a wait carries
 abbrev pub wait_bytes : Writer → Wait → Reader → List ℕ

@@ -1,20 +1,23 @@
 // The frames of suspended coroutines.
-ghost use Rattle.std.specs.Prelude.{◌≡◌, ◌<◌, ◌∷◌, ◌++◌, [], None, Some, length, map, slice_get, OnOk};
+ghost use Rattle.std.specs.Prelude.{◌≡◌, ◌<◌, ◌∷◌, ◌++◌, [], None, Some, map, OnOk};
 ghost use Rattle.std.specs.Option.{option_map};
 ghost use Rattle.machine_sound.specs.Sound.{OptionOk};
-ghost use Rattle.image_core.specs.Records.{error_fields, of_value, wait_fields};
-ghost use Rattle.image_bytes.specs.Bytes.{error_format, item_format};
+ghost use Rattle.int_core.specs.Value.{Value as Shown};
+ghost use Rattle.image_core.specs.Records.{Naming, error_fields, of_value, wait_fields, wait_item};
+ghost use Rattle.image_bytes.specs.Bytes.{Reader, error_format, item_format, wait_number};
 ghost use Rattle.image_bytes.specs.Format.{list, spell_all, word};
+ghost use Rattle.table_core.specs.declared.value.Value.{Value as Kept};
 ghost use Rattle.lua_stack.specs.Frames.{kept_closing, kept_lua, kept_xpcall, wait_of};
 ghost use Rattle.lua_stack.specs.Reading.{viewed, viewed_lua};
 ghost use Rattle.lua_stack.specs.View.{blank};
 ghost use Rattle.graph_core.specs.Frames.{fields_of};
-ghost use Rattle.eris_write.specs.Frames.{FrameStands, LuaStands, WaitStands, frame_bytes, wait_byte, wait_bytes};
+ghost use Rattle.eris_write.specs.Frames.{FrameStands, LuaStands, WaitStands, frame_bytes, wait_bytes};
 ghost use Rattle.eris_write.specs.Output.{Puts};
 ghost use Rattle.eris_write.specs.Writing.{HasText, HaveTexts, Writes, item_in, read_in, texts_in};
 
 use crate::output::Output;
 use crate::writer::Writer;
+use graph_core::item_at;
 use int_core::Allocated;
 use lua_stack::{FrameView, LuaView, Wait};
 use std::alloc::AllocError;
@@ -133,7 +136,7 @@ impl Writer<'_> {
 
 /// The number of a wait. No frame of a suspended coroutine runs.
 fn wait_byte(wait: Wait) -> u8
-    ensures { result ≡ wait_byte wait }
+    ensures { (R : Reader) (N : Naming) (shown : Kept → Shown) → result ≡ wait_number R (wait_item N (wait_of shown wait)) }
 {
     match wait {
         Wait::ForCall => 0,
@@ -171,16 +174,7 @@ fn put_words(out: &mut Output, numbers: &[usize]) -> Allocated<()>
     ensures { OnOk result (Puts out.old out.new None (λ _. spell_all word numbers.now)) }
 {
     for at in 0..numbers.len() {
-        out.put_word(number_at(numbers, at))?;
+        out.put_word(item_at(numbers, at))?;
     }
     Ok(())
-}
-
-/// A number of a list.
-#[inline(always)]
-fn number_at(numbers: &[usize], at: usize) -> usize
-    requires { at < length numbers.now }
-    ensures { slice_get numbers.now at ≡ Some result }
-{
-    numbers[at]
 }

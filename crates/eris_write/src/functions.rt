@@ -1,5 +1,5 @@
 // The records of functions and of the cells of their upvalues.
-ghost use Rattle.std.specs.Prelude.{◌≡◌, ◌<◌, ◌∷◌, [], ℕ, Some, length, map, slice_get, OnOk};
+ghost use Rattle.std.specs.Prelude.{◌∷◌, [], ℕ, map, OnOk};
 ghost use Rattle.int_core.specs.Value.{a_function};
 ghost use Rattle.code_core.specs.Check.{IsChecked};
 ghost use Rattle.image_core.specs.Records.{a_cell, an_object, fields, of_cell, record_of, record_of_function};
@@ -12,7 +12,7 @@ ghost use Rattle.eris_write.specs.Writing.{IsReadable, IsWhole, Writes, inside_i
 use crate::output::Output;
 use crate::writer::Writer;
 use chunk_format::write_function;
-use graph_core::{Object, Sort};
+use graph_core::{Object, Sort, item_at};
 use int_core::Allocated;
 use lua_heap::Func;
 use lua_heap::law::checked_code_is_there;
@@ -61,19 +61,10 @@ impl Writer<'_> {
         for at in 0..cells.len() {
             let object = Object {
                 sort: Sort::Cell,
-                number: cell_at(cells, at).0,
+                number: item_at(cells, at).0,
             };
             out.put_word(self.number(object))?;
         }
         Ok(())
     }
-}
-
-/// A cell of a list.
-#[inline(always)]
-fn cell_at(cells: &[CellId], at: usize) -> CellId
-    requires { at < length cells.now }
-    ensures { slice_get cells.now at ≡ Some result }
-{
-    cells[at]
 }

@@ -1,5 +1,5 @@
 // Values of an image: by their names, as they are, or by the numbers of their records.
-ghost use Rattle.std.specs.Prelude.{◌≡◌, ◌<◌, ◌∷◌, [], None, Some, ℕ, List, length, map, slice_get, OnOk};
+ghost use Rattle.std.specs.Prelude.{◌≡◌, ◌<◌, ◌∷◌, [], None, Some, ℕ, List, length, map, OnOk};
 ghost use Rattle.int_core.specs.Value.{a_table};
 ghost use Rattle.image_core.specs.Records.{of_value, sort_of, unnamed_item};
 ghost use Rattle.image_bytes.specs.Bytes.{item_format};
@@ -13,7 +13,7 @@ ghost use Rattle.eris_write.specs.Writing.{HasText, HaveTexts, Writes, item_byte
 
 use crate::output::Output;
 use crate::writer::Writer;
-use graph_core::{Object, PermanentKey, Sort, is_table};
+use graph_core::{Object, PermanentKey, Sort, is_table, item_at};
 use int_core::Allocated;
 use table_core::{StrId, Value};
 
@@ -44,7 +44,7 @@ impl Writer<'_> {
         ensures { OnOk result (Writes self.now out.old out.new (map of_value (map (read_in self.now) values.now)) (λ R. spell_all (item_format R) (map (item_in self.now) values.now))) }
     {
         for at in 0..values.len() {
-            self.write(out, value_at(values, at))?;
+            self.write(out, item_at(values, at))?;
         }
         Ok(())
     }
@@ -100,15 +100,6 @@ impl Writer<'_> {
         out.put_byte(5)?;
         out.put_word(self.number(Object { sort, number }))
     }
-}
-
-/// A value of a list.
-#[inline(always)]
-fn value_at(values: &[Value], at: usize) -> Value
-    requires { at < length values.now }
-    ensures { slice_get values.now at ≡ Some result }
-{
-    values[at]
 }
 
 /// Puts a permanent: of which sort it is, and its key.

@@ -1,5 +1,5 @@
 // What is the same for a whole image, and the numbers and refusals of its objects.
-ghost use Rattle.std.specs.Prelude.{◌≡◌, ◌<◌, ℕ, List, Some, length, map, nat_eq, slice_get};
+ghost use Rattle.std.specs.Prelude.{◌≡◌, ℕ, List, map, nat_eq};
 ghost use Rattle.std.specs.List.{list_any};
 ghost use Rattle.lua_heap.specs.Plain.{coroutine, plain};
 ghost use Rattle.graph_core.specs.Objects.{part};
@@ -7,7 +7,7 @@ ghost use Rattle.eris_write.specs.Refusals.{active, coroutine_refusal, shown, un
 ghost use Rattle.eris_write.specs.Writing.{inside_in, naming_in, read_in, texts_in};
 
 use crate::fault::Refusal;
-use graph_core::{Numbering, Object, Permanents, Sort};
+use graph_core::{Numbering, Object, Permanents, Sort, item_at};
 use lua_heap::{Coro, World};
 use table_core::{CoroId, FuncId, Value};
 
@@ -97,18 +97,9 @@ fn is_among(functions: &[FuncId], id: FuncId) -> bool
     ensures { result ≡ list_any (nat_eq id.0) (map (λ f. f.0) functions.now) }
 {
     for at in 0..functions.len() {
-        if function_at(functions, at).0 == id.0 {
+        if item_at(functions, at).0 == id.0 {
             return true;
         }
     }
     false
-}
-
-/// A function of a list.
-#[inline(always)]
-fn function_at(functions: &[FuncId], at: usize) -> FuncId
-    requires { at < length functions.now }
-    ensures { slice_get functions.now at ≡ Some result }
-{
-    functions[at]
 }

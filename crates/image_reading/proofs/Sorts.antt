@@ -1,10 +1,13 @@
 -- The sorts of records by their places, and records of which the first were read.
 use Rattle.std.proofs.Common.{◌≡◌, ℕ, zero, suc, ◌+◌, ◌<◌, List, [], ◌∷◌, ◌++◌, map, drop, length, Bool, true, false, cond, Err, refl, sym, ap, ◌∙◌, arith}
-use Rattle.std.specs.Prelude.{nat_lt, slice_get, Option, Some, None}
+use Rattle.std.specs.Prelude.{nat_eq, nat_lt, slice_get, Option, Some, None, ◌||◌}
+use Rattle.std.specs.List.{list_any}
 use Rattle.image_core.specs.Image.{Record}
 use Rattle.image_bytes.specs.Format.{Got, read, refused, of_kind, and_then}
 use Rattle.image_bytes.specs.Bytes.{Reader, record_format, scan_records, sort_at}
 use Rattle.image_records.specs.declared.record.Sort.{Sort}
+use Rattle.image_records.specs.declared.record.Sort.TheVariants as kept
+use Rattle.image_records.specs.contracts.record.SortPartialEq.TheImpl as sort_impl
 use Rattle.image_records.specs.declared.record.Record.{Record as Kept}
 use Rattle.image_reading.specs.declared.fault.ReadFault.{ReadFault}
 use Rattle.image_reading.specs.declared.fault.ReadFault.TheVariants.{Refused, Memory}
@@ -24,6 +27,34 @@ sort_there (s ∷ sorts) (suc n) = sort_there sorts n
 
 pub sort_is : (sorts : List Sort) (n : ℕ) (s : Sort) → slice_get sorts n ≡ Some s → sort_at (map sort sorts) n ≡ sort s
 sort_is sorts n s e = sort_there sorts n ∙ ap number_of e
+
+abbrev pub sort_eq : Sort → Sort → Bool
+sort_eq = (sort_impl.ghosts).eq
+
+told_apart : (s t : Sort) → sort_eq t s ≡ nat_eq (sort s) (sort t)
+told_apart kept.Table kept.Table = refl
+told_apart kept.Function kept.Table = refl
+told_apart kept.Cell kept.Table = refl
+told_apart kept.Coroutine kept.Table = refl
+told_apart _ _ = refl
+
+-- whether the sort at a place is one of some
+pub one_among : (sorts wanted : List Sort) (n : ℕ) (s : Sort) → Some s ≡ slice_get sorts n → list_any (λ t. sort_eq t s) wanted ≡ list_any (nat_eq (sort_at (map sort sorts) n)) (map sort wanted)
+one_among sorts wanted n s e = by wanted ∙ ap (λ k. list_any (nat_eq k) (map sort wanted)) (sym (sort_is sorts n s (sym e)))
+  where
+    by : (ts : List Sort) → list_any (λ t. sort_eq t s) ts ≡ list_any (nat_eq (sort s)) (map sort ts)
+    by [] = refl
+    by (t ∷ ts) = ap (λ b. b || list_any (λ t. sort_eq t s) ts) (told_apart s t) ∙ ap (λ b. nat_eq (sort s) (sort t) || b) (by ts)
+
+pub none_among : (sorts wanted : List Sort) (n : ℕ) → None ≡ slice_get sorts n → false ≡ list_any (nat_eq (sort_at (map sort sorts) n)) (map sort wanted)
+none_among sorts wanted n e = by wanted ∙ ap (λ k. list_any (nat_eq k) (map sort wanted)) (sym (sort_there sorts n ∙ ap number_of (sym e)))
+  where
+    by : (ts : List Sort) → false ≡ list_any (nat_eq 0) (map sort ts)
+    by [] = refl
+    by (kept.Table ∷ ts) = by ts
+    by (kept.Function ∷ ts) = by ts
+    by (kept.Cell ∷ ts) = by ts
+    by (kept.Coroutine ∷ ts) = by ts
 
 dropped : (sorts : List ℕ) (at : ℕ) → at < length sorts → drop at sorts ≡ sort_at sorts at ∷ drop (suc at) sorts
 dropped [] at h = absurd (omega (arith, h))

@@ -1,7 +1,8 @@
 -- Whole images: what is left over, and what fits.
 use Rattle.std.proofs.Common.{◌≡◌, ℕ, ◌<◌, ◌≤◌, List, [], ◌∷◌, Bool, true, false, cond, Ok, Err, refl, ap, sym, ◌∙◌, length, arith}
+use Rattle.std.specs.Prelude.{nat_eq}
 use Rattle.image_core.specs.Image.{Item, Record, Image}
-use Rattle.image_bytes.specs.Format.{Got, read, refused, of_kind, and_then, case, followed}
+use Rattle.image_bytes.specs.Format.{Got, read, refused, of_kind, and_then, Format, byte, tested, case, followed}
 use Rattle.image_bytes.specs.Bytes.{Reader, exactly, sorts_format, image_made, image_format, with_sorts, whole}
 use Rattle.image_sound.specs.Fitting.{all_fit, with_fits, reads}
 use Rattle.image_records.specs.declared.known.Known.{Known}
@@ -61,8 +62,11 @@ nested : (t1 t2 t3 t4 t5 : ℕ) (ss : List ℕ) (X : Got ((ℕ × List Item) × 
 nested t1 t2 t3 t4 t5 ss (read x m rest) = refl
 nested t1 t2 t3 t4 t5 ss (refused f) = refl
 
+abbrev pub this : ℕ → (kind : ℕ) → Format ℕ
+this n kind = tested (nat_eq n) (λ _. of_kind kind) byte
+
 pub image_scanned : (R : Reader) (roots : ℕ) (t1 t2 t3 t4 t5 m0 m1 m2 m3 m4 m5 m6 : ℕ) (b0 b1 b2 b3 b4 b5 b6 ss : List ℕ)
-    → (exactly 76 1).scan m0 b0 ≡ read t1 m1 b1 → (exactly 85 1).scan m1 b1 ≡ read t2 m2 b2 → (exactly 73 1).scan m2 b2 ≡ read t3 m3 b3 → (exactly 77 1).scan m3 b3 ≡ read t4 m4 b4
-    → (exactly 1 2).scan m4 b4 ≡ read t5 m5 b5 → sorts_format.scan m5 b5 ≡ read ss m6 b6 → (image_format R roots).scan m0 b0 ≡ parts_scan (with_sorts R ss) roots m6 b6
-unfolding image_format case followed
+    → (this 76 1).scan m0 b0 ≡ read t1 m1 b1 → (this 85 1).scan m1 b1 ≡ read t2 m2 b2 → (this 73 1).scan m2 b2 ≡ read t3 m3 b3 → (this 77 1).scan m3 b3 ≡ read t4 m4 b4
+    → (this 1 2).scan m4 b4 ≡ read t5 m5 b5 → sorts_format.scan m5 b5 ≡ read ss m6 b6 → (image_format R roots).scan m0 b0 ≡ parts_scan (with_sorts R ss) roots m6 b6
+unfolding image_format exactly case followed
 image_scanned R roots t1 t2 t3 t4 t5 m0 m1 m2 m3 m4 m5 m6 b0 b1 b2 b3 b4 b5 b6 ss e1 e2 e3 e4 e5 e6 = rw (e1, e2, e3, e4, e5, e6) (nested t1 t2 t3 t4 t5 ss _)

@@ -1,5 +1,5 @@
 -- What a function that reads says of the bytes in front of which it stood.
-use Rattle.std.specs.Prelude.{ℕ, ◌≡◌, cond, nat_lt, List, map, Option, Some, None, Result, Ok, Err, refl}
+use Rattle.std.specs.Prelude.{ℕ, ◌≡◌, ◌≤◌, true, false, cond, nat_lt, List, map, Option, Some, None, Result, Ok, Err, refl}
 use Rattle.std.specs.Coded.{Coded, code_by, coded×, coded_ℕ, coded_list}
 use Rattle.std.specs.Borrow.{Bor}
 use Rattle.std.specs.declared.vec.Vec.{Vec}
@@ -45,6 +45,12 @@ abbrev pub Meets : Option ℕ → Result (Unit {0}) ReadFault → ℕ → Type 0
 Meets o (Ok u) met = o ≡ Some met
 Meets o (Err (Refused why)) met = (o ≡ None) × (fault why ≡ of_kind 4)
 Meets o (Err Memory) met = ⊥
+
+-- so many bytes are left, or the fault of bytes that end too early
+abbrev pub Needs : (count left : ℕ) → Result (Unit {0}) ReadFault → Type 0
+Needs count left (Ok u) = (nat_lt left count ≡ false) × (count ≤ left)
+Needs count left (Err (Refused why)) = (nat_lt left count ≡ true) × (fault why ≡ of_kind 3)
+Needs count left (Err Memory) = ⊥
 
 -- the record at a place, which is to have been met
 abbrev pub record_scan : Reader → (at met : ℕ) → List ℕ → Got Record

@@ -2,12 +2,13 @@
 ghost use Rattle.std.specs.Prelude.{◌≡◌, nat_le};
 ghost use Rattle.image_bytes.specs.Bytes.{wait_rest, lua_format, error_format, frame_format};
 ghost use Rattle.image_bytes.specs.Format.{tested, byte, word, times, list_by, of_kind};
+ghost use Rattle.image_reading.specs.Parts.{closing_format};
 ghost use Rattle.image_reading.specs.Says.{Says, itself, items_of, reader_in};
 ghost use Rattle.image_records.specs.Views.{wait as wait_of, lua_frame as lua_frame_of, frame as frame_of, error as error_of};
 
 use crate::fault::{ReadFault, Refusal};
 use crate::input::Input;
-use crate::item::Context;
+use crate::item::{Context, Wanted};
 use image_records::{Frame, Item, LuaFrame, Wait};
 
 /// How many frames a coroutine may have.
@@ -57,13 +58,19 @@ impl<'a> Input<'a> {
             2 => Ok(Frame::Pcall),
             3 => Ok(Frame::Xpcall(self.item(context)?)),
             4 => Ok(Frame::Handler),
-            5 => {
-                let error = self.error(context)?;
-                let left = self.items(context)?;
-                Ok(Frame::Closing { error, left })
-            }
+            5 => self.closing(context),
             _ => Err(ReadFault::Refused(Refusal::OutOfPlace)),
         }
+    }
+
+    /// The frame of `coroutine.close`.
+    #[tactic(auto, unfolding(image_bytes::specs::Format::case, image_bytes::specs::Format::followed))]
+    fn closing(&mut self, context: &Context<'_>) -> Result<Frame<'a>, ReadFault<'a>>
+        ensures reads { Says frame_of ((closing_format (reader_in context.now)).scan self.old.met self.old.bytes) result self.new }
+    {
+        let error = self.error(context)?;
+        let left = self.items(context)?;
+        Ok(Frame::Closing { error, left })
     }
 
     /// The frame of a Lua function.
@@ -71,7 +78,7 @@ impl<'a> Input<'a> {
     fn lua_frame(&mut self, context: &Context<'_>) -> Result<LuaFrame<'a>, ReadFault<'a>>
         ensures reads { Says lua_frame_of ((lua_format (reader_in context.now)).scan self.old.met self.old.bytes) result self.new }
     {
-        let function = self.function_item(context)?;
+        let function = self.wanted_item(Wanted::Function, context)?;
         let pc = self.word()?;
         let tag = self.wait_tag()?;
         let varargs = self.items(context)?;

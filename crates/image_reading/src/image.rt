@@ -1,7 +1,8 @@
 // Whole images.
-ghost use Rattle.std.specs.Prelude.{nat_lt, nat_le, ◌&&◌, map};
-ghost use Rattle.image_bytes.specs.Bytes.{exactly, sorts_format, image_format, with_sorts};
+ghost use Rattle.std.specs.Prelude.{nat_eq, nat_lt, nat_le, ◌&&◌, map};
+ghost use Rattle.image_bytes.specs.Bytes.{sorts_format, image_format, with_sorts};
 ghost use Rattle.image_bytes.specs.Format.{tested, byte, times, of_kind};
+ghost use Rattle.image_reading.specs.Faults.{fault};
 ghost use Rattle.image_reading.specs.Reader.{reader_of};
 ghost use Rattle.image_reading.specs.Reads.{Reads, parts_scan};
 ghost use Rattle.image_reading.specs.Says.{Says, itself, items_of};
@@ -41,7 +42,7 @@ pub fn read_image<'a>(
 
 impl<'a> Input<'a> {
     /// An image, whatever follows it.
-    #[tactic(auto, unfolding(image_bytes::specs::Bytes::image_format, image_bytes::specs::Format::case, image_bytes::specs::Format::followed))]
+    #[tactic(auto, unfolding(image_bytes::specs::Bytes::exactly, image_bytes::specs::Bytes::image_format, image_bytes::specs::Format::case, image_bytes::specs::Format::followed))]
     fn image(
         &mut self,
         known: &Known<'_>,
@@ -50,18 +51,18 @@ impl<'a> Input<'a> {
     ) -> Result<Image<'a>, ReadFault<'a>>
         ensures reads { Says image_read ((image_format (reader_of known.now) roots).scan self.old.met self.old.bytes) result self.new }
     {
-        self.signature(b'L')?;
-        self.signature(b'U')?;
-        self.signature(b'I')?;
-        self.signature(b'M')?;
-        self.version()?;
+        self.exactly(b'L', Refusal::Signature)?;
+        self.exactly(b'U', Refusal::Signature)?;
+        self.exactly(b'I', Refusal::Signature)?;
+        self.exactly(b'M', Refusal::Signature)?;
+        self.exactly(VERSION, Refusal::Version)?;
         let sorts = self.sorts(alloc)?;
         let image = self.parts(known, &sorts, roots, alloc)?;
         Ok(image)
     }
 
     /// The roots and the records, which are of these sorts.
-    #[tactic(auto, unfolding(image_bytes::specs::Format::followed))]
+    #[tactic(auto, unfolding(image_bytes::specs::Bytes::exactly, image_bytes::specs::Format::followed))]
     fn parts(
         &mut self,
         known: &Known<'_>,
@@ -76,48 +77,22 @@ impl<'a> Input<'a> {
             sorts,
             alloc,
         };
-        let count = self.root_count(roots)?;
+        let count = self.exactly(roots, Refusal::OutOfRange)?;
         let roots = self.items_of(u32::from(count), &context)?;
         let records = self.records(&context)?;
         Ok(Image { roots, records })
     }
 
-    /// This very byte of the signature.
-    #[tactic(auto, unfolding(image_bytes::specs::Bytes::exactly, image_bytes::specs::Format::tested))]
-    fn signature(&mut self, wanted: u8) -> Result<u8, ReadFault<'a>>
-        ensures reads { Says itself ((exactly wanted 1).scan self.old.met self.old.bytes) result self.new }
+    /// This very byte, else the fault.
+    #[tactic(auto, unfolding(image_bytes::specs::Format::tested))]
+    fn exactly(&mut self, wanted: u8, otherwise: Refusal<'a>) -> Result<u8, ReadFault<'a>>
+        ensures reads { Says itself ((tested (nat_eq wanted) (λ _. fault otherwise.entry) byte).scan self.old.met self.old.bytes) result self.new }
     {
         let found = self.byte()?;
         if found == wanted {
             Ok(found)
         } else {
-            Err(ReadFault::Refused(Refusal::Signature))
-        }
-    }
-
-    /// The version.
-    #[tactic(auto, unfolding(image_bytes::specs::Bytes::exactly, image_bytes::specs::Format::tested))]
-    fn version(&mut self) -> Result<u8, ReadFault<'a>>
-        ensures reads { Says itself ((exactly 1 2).scan self.old.met self.old.bytes) result self.new }
-    {
-        let found = self.byte()?;
-        if found == VERSION {
-            Ok(found)
-        } else {
-            Err(ReadFault::Refused(Refusal::Version))
-        }
-    }
-
-    /// How many roots there are, which are to be so many.
-    #[tactic(auto, unfolding(image_bytes::specs::Bytes::exactly, image_bytes::specs::Format::tested))]
-    fn root_count(&mut self, roots: u8) -> Result<u8, ReadFault<'a>>
-        ensures reads { Says itself ((exactly roots 4).scan self.old.met self.old.bytes) result self.new }
-    {
-        let found = self.byte()?;
-        if found == roots {
-            Ok(found)
-        } else {
-            Err(ReadFault::Refused(Refusal::OutOfRange))
+            Err(ReadFault::Refused(otherwise))
         }
     }
 

@@ -3,7 +3,7 @@ ghost use Rattle.std.specs.Prelude.{◌≡◌, [], ◌∷◌, length};
 ghost use Rattle.image_bytes.specs.Format.{byte, word, integer_of, raw};
 ghost use Rattle.image_bytes.specs.Bytes.{text, key};
 ghost use Rattle.image_core.specs.Numbers.{meeting};
-ghost use Rattle.image_reading.specs.Says.{Says, Meets, itself, shown};
+ghost use Rattle.image_reading.specs.Says.{Says, Meets, Needs, itself, shown};
 ghost use Rattle.image_records.specs.Views.{key as name_of};
 
 use crate::fault::{ReadFault, Refusal};
@@ -68,14 +68,22 @@ impl<'a> Input<'a> {
         }
     }
 
+    /// Whether so many bytes are left.
+    fn need(&self, count: usize) -> Result<(), ReadFault<'a>>
+        ensures needs { Needs count (length self.now.bytes) result }
+    {
+        if self.bytes.len() < count {
+            return Err(ReadFault::Refused(Refusal::CutOff));
+        }
+        Ok(())
+    }
+
     /// A number of 32 bits.
     #[tactic(auto, unfolding(image_bytes::specs::Format::word))]
     pub(crate) fn word(&mut self) -> Result<u32, ReadFault<'a>>
         ensures reads { Says itself (word.scan self.old.met self.old.bytes) result self.new }
     {
-        if self.bytes.len() < 4 {
-            return Err(ReadFault::Refused(Refusal::CutOff));
-        }
+        self.need(4)?;
         let word = LittleEndian::read_u32(self.bytes);
         self.bytes = &self.bytes[4..];
         Ok(word)
@@ -86,9 +94,7 @@ impl<'a> Input<'a> {
     pub(crate) fn integer(&mut self) -> Result<i64, ReadFault<'a>>
         ensures reads { Says (λ n. n) (integer_of.scan self.old.met self.old.bytes) result self.new }
     {
-        if self.bytes.len() < 8 {
-            return Err(ReadFault::Refused(Refusal::CutOff));
-        }
+        self.need(8)?;
         let n = LittleEndian::read_i64(self.bytes);
         self.bytes = &self.bytes[8..];
         Ok(n)
@@ -99,9 +105,7 @@ impl<'a> Input<'a> {
     pub(crate) fn raw(&mut self, count: usize) -> Result<&'a [u8], ReadFault<'a>>
         ensures reads { Says shown ((raw count).scan self.old.met self.old.bytes) result self.new }
     {
-        if self.bytes.len() < count {
-            return Err(ReadFault::Refused(Refusal::CutOff));
-        }
+        self.need(count)?;
         let taken = &self.bytes[..count];
         self.bytes = &self.bytes[count..];
         Ok(taken)

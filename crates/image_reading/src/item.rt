@@ -1,9 +1,10 @@
 // Values, and the numbers of records.
-ghost use Rattle.std.specs.Prelude.{◌≡◌, [], ◌∷◌, map};
-ghost use Rattle.std.specs.Option.{option_map};
-ghost use Rattle.image_bytes.specs.Bytes.{Reader, reference, named_key, item_format, item_body, only, is_function_item, is_table_or_nil};
+ghost use Rattle.std.specs.Prelude.{◌≡◌, [], ◌∷◌, map, nat_eq, slice_get};
+ghost use Rattle.std.specs.List.{list_any};
+ghost use Rattle.image_bytes.specs.Bytes.{Reader, reference, named_key, item_format, item_body, only, is_function_item, is_table_or_nil, sort_at};
 ghost use Rattle.image_bytes.specs.Format.{list, times, word};
 ghost use Rattle.image_records.specs.Names.{sort_of_object};
+ghost use Rattle.image_reading.specs.Parts.{is_wanted, permanent_format};
 ghost use Rattle.image_reading.specs.Says.{Says, itself, items_of, numbers_of, reader_in};
 ghost use Rattle.image_records.specs.Views.{key as name_of, kind as kind_of, sort as sort_of, item as item_of};
 ghost use Rattle.int_core.specs.Value.{same_kind};
@@ -22,43 +23,47 @@ pub(crate) struct Context<'k> {
     pub(crate) alloc: Global,
 }
 
+/// What a value is to be, at a place where not all may stand.
+#[derive(Debug, Clone, Copy)]
+pub(crate) enum Wanted {
+    Function,
+    /// A table or nil.
+    Metatable,
+}
+
 impl<'a> Input<'a> {
     /// The number of a table's, function's or coroutine's record.
-    #[tactic(auto, unfolding(image_bytes::specs::Bytes::reference))]
     pub(crate) fn object_number(&mut self, sorts: &[Sort]) -> Result<u32, ReadFault<'a>>
         ensures reads { Says itself ((reference (map sort_of sorts.now) (1 ∷ 2 ∷ 4 ∷ [])).scan self.old.met self.old.bytes) result self.new }
     {
-        let n = self.word()?;
-        self.meet(n, sorts.len())?;
-        match sorts.get(n as usize) {
-            Some(Sort::Table | Sort::Function | Sort::Coroutine) => Ok(n),
-            _ => Err(ReadFault::Refused(Refusal::OutOfPlace)),
-        }
+        self.reference(sorts, &[Sort::Table, Sort::Function, Sort::Coroutine])
     }
 
     /// The number of a cell's record.
-    #[tactic(auto, unfolding(image_bytes::specs::Bytes::reference))]
     pub(crate) fn cell_number(&mut self, sorts: &[Sort]) -> Result<u32, ReadFault<'a>>
         ensures reads { Says itself ((reference (map sort_of sorts.now) (3 ∷ [])).scan self.old.met self.old.bytes) result self.new }
     {
-        let n = self.word()?;
-        self.meet(n, sorts.len())?;
-        match sorts.get(n as usize) {
-            Some(Sort::Cell) => Ok(n),
-            _ => Err(ReadFault::Refused(Refusal::OutOfPlace)),
-        }
+        self.reference(sorts, &[Sort::Cell])
     }
 
     /// The number of a coroutine's record.
-    #[tactic(auto, unfolding(image_bytes::specs::Bytes::reference))]
     pub(crate) fn coroutine_number(&mut self, sorts: &[Sort]) -> Result<u32, ReadFault<'a>>
         ensures reads { Says itself ((reference (map sort_of sorts.now) (4 ∷ [])).scan self.old.met self.old.bytes) result self.new }
     {
+        self.reference(sorts, &[Sort::Coroutine])
+    }
+
+    /// The number of a record that is of one of these sorts.
+    #[tactic(auto, unfolding(image_bytes::specs::Bytes::reference))]
+    fn reference(&mut self, sorts: &[Sort], wanted: &[Sort]) -> Result<u32, ReadFault<'a>>
+        ensures reads { Says itself ((reference (map sort_of sorts.now) (map sort_of wanted.now)).scan self.old.met self.old.bytes) result self.new }
+    {
         let n = self.word()?;
         self.meet(n, sorts.len())?;
-        match sorts.get(n as usize) {
-            Some(Sort::Coroutine) => Ok(n),
-            _ => Err(ReadFault::Refused(Refusal::OutOfPlace)),
+        if is_of(sorts, n as usize, wanted) {
+            Ok(n)
+        } else {
+            Err(ReadFault::Refused(Refusal::OutOfPlace))
         }
     }
 
@@ -78,6 +83,15 @@ impl<'a> Input<'a> {
             }
             None => Err(ReadFault::Refused(Refusal::Missing(key))),
         }
+    }
+
+    /// A permanent of this sort.
+    #[tactic(auto, unfolding(image_bytes::specs::Format::case))]
+    fn permanent(&mut self, kind: Kind, context: &Context<'_>) -> Result<Item<'a>, ReadFault<'a>>
+        ensures reads { Says item_of ((permanent_format (reader_in context.now) (kind_of kind)).scan self.old.met self.old.bytes) result self.new }
+    {
+        let key = self.named_key(kind, context)?;
+        Ok(Item::Permanent(kind, key))
     }
 
     /// A value.
@@ -102,9 +116,9 @@ impl<'a> Input<'a> {
             3 => Ok(Item::Int(self.integer()?)),
             4 => Ok(Item::Str(self.text()?)),
             5 => Ok(Item::Numbered(self.object_number(context.sorts)?)),
-            6 => Ok(Item::Permanent(Kind::Function, self.named_key(Kind::Function, context)?)),
-            7 => Ok(Item::Permanent(Kind::Table, self.named_key(Kind::Table, context)?)),
-            8 => Ok(Item::Permanent(Kind::Coroutine, self.named_key(Kind::Coroutine, context)?)),
+            6 => self.permanent(Kind::Function, context),
+            7 => self.permanent(Kind::Table, context),
+            8 => self.permanent(Kind::Coroutine, context),
             9 => Ok(Item::Environment),
             _ => Err(ReadFault::Refused(Refusal::OutOfPlace)),
         }
@@ -179,30 +193,48 @@ impl<'a> Input<'a> {
         Ok(cells)
     }
 
-    /// A value that is a function.
+    /// A value that is what is wanted.
     #[tactic(auto, unfolding(image_bytes::specs::Bytes::only, image_bytes::specs::Format::tested))]
-    pub(crate) fn function_item(&mut self, context: &Context<'_>) -> Result<Item<'a>, ReadFault<'a>>
-        ensures reads { Says item_of ((only (reader_in context.now) (is_function_item (reader_in context.now))).scan self.old.met self.old.bytes) result self.new }
+    pub(crate) fn wanted_item(
+        &mut self,
+        wanted: Wanted,
+        context: &Context<'_>,
+    ) -> Result<Item<'a>, ReadFault<'a>>
+        ensures reads { Says item_of ((only (reader_in context.now) (is_wanted wanted (reader_in context.now))).scan self.old.met self.old.bytes) result self.new }
     {
         let item = self.item(context)?;
-        if is_function_item(item, context.sorts) {
+        if is_wanted(wanted, item, context.sorts) {
             Ok(item)
         } else {
             Err(ReadFault::Refused(Refusal::OutOfPlace))
         }
     }
+}
 
-    /// A value that is a table or nil.
-    #[tactic(auto, unfolding(image_bytes::specs::Bytes::only, image_bytes::specs::Format::tested))]
-    pub(crate) fn metatable(&mut self, context: &Context<'_>) -> Result<Item<'a>, ReadFault<'a>>
-        ensures reads { Says item_of ((only (reader_in context.now) (is_table_or_nil (reader_in context.now))).scan self.old.met self.old.bytes) result self.new }
-    {
-        let item = self.item(context)?;
-        if is_table_or_nil(item, context.sorts) {
-            Ok(item)
-        } else {
-            Err(ReadFault::Refused(Refusal::OutOfPlace))
-        }
+/// Whether the record of a number is of one of these sorts.
+fn is_of(sorts: &[Sort], n: usize, wanted: &[Sort]) -> bool
+    ensures { result ≡ list_any (nat_eq (sort_at (map sort_of sorts.now) n)) (map sort_of wanted.now) }
+{
+    match sort_in(sorts, n) {
+        Some(sort) => wanted.contains(&sort),
+        None => false,
+    }
+}
+
+/// The sort of the record of a number, if it is there.
+fn sort_in(sorts: &[Sort], n: usize) -> Option<Sort>
+    ensures { result ≡ slice_get sorts.now n }
+{
+    sorts.get(n).copied()
+}
+
+/// Whether a value is what is wanted.
+fn is_wanted(wanted: Wanted, item: Item<'_>, sorts: &[Sort]) -> bool
+    ensures { (R : Reader) → R.sorts ≡ map sort_of sorts.now → result ≡ is_wanted wanted R (item_of item.entry) }
+{
+    match wanted {
+        Wanted::Function => is_function_item(item, sorts),
+        Wanted::Metatable => is_table_or_nil(item, sorts),
     }
 }
 
@@ -213,11 +245,7 @@ fn is_function_item(item: Item<'_>, sorts: &[Sort]) -> bool
     match item {
         Item::Numbered(n) => matches!(sorts.get(n as usize), Some(Sort::Function)),
         Item::Permanent(kind, _) => matches!(kind, Kind::Function),
-        Item::Nil => false,
-        Item::Bool(_) => false,
-        Item::Int(_) => false,
-        Item::Str(_) => false,
-        Item::Environment => false,
+        Item::Nil | Item::Bool(_) | Item::Int(_) | Item::Str(_) | Item::Environment => false,
     }
 }
 
@@ -228,10 +256,7 @@ fn is_table_or_nil(item: Item<'_>, sorts: &[Sort]) -> bool
     match item {
         Item::Numbered(n) => matches!(sorts.get(n as usize), Some(Sort::Table)),
         Item::Permanent(kind, _) => matches!(kind, Kind::Table),
-        Item::Nil => true,
-        Item::Environment => true,
-        Item::Bool(_) => false,
-        Item::Int(_) => false,
-        Item::Str(_) => false,
+        Item::Nil | Item::Environment => true,
+        Item::Bool(_) | Item::Int(_) | Item::Str(_) => false,
     }
 }

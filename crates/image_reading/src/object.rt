@@ -6,7 +6,7 @@ ghost use Rattle.image_records.specs.Views.{record_read, sort as sort_of};
 
 use crate::fault::{ReadFault, Refusal};
 use crate::input::Input;
-use crate::item::Context;
+use crate::item::{Context, Wanted};
 use image_records::{Record, Sort};
 
 impl<'a> Input<'a> {
@@ -78,7 +78,7 @@ impl<'a> Input<'a> {
         ensures reads { Says record_read ((coroutine_format (reader_in context.now)).scan self.old.met self.old.bytes) result self.new }
     {
         match self.byte()? {
-            0 => Ok(Record::Fresh(self.function_item(context)?)),
+            0 => Ok(Record::Fresh(self.wanted_item(Wanted::Function, context)?)),
             1 => Ok(Record::Suspended(self.frames(context)?)),
             2 => Ok(Record::Dead),
             3 => {

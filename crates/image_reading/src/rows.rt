@@ -11,7 +11,7 @@ ghost use Rattle.image_records.specs.Views.{key as name_of, record_read, row as 
 
 use crate::fault::{ReadFault, Refusal};
 use crate::input::Input;
-use crate::item::Context;
+use crate::item::{Context, Wanted};
 use image_records::{Item, Key, Record};
 use indexmap::IndexSet;
 use table_core::Value;
@@ -40,7 +40,7 @@ impl<'a> Input<'a> {
     {
         let count = self.word()?;
         let rows = self.rows(count, context)?;
-        let metatable = self.metatable(context)?;
+        let metatable = self.wanted_item(Wanted::Metatable, context)?;
         Ok(Record::Table { rows, metatable })
     }
 

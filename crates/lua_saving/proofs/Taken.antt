@@ -16,7 +16,7 @@ use Rattle.lua_heap.specs.Reading.{text_of, value}
 use Rattle.lua_stack.specs.Frames.{frames}
 use Rattle.image_load.specs.Session.{with_roots}
 use Rattle.lua_saving.specs.declared.roots.Roots.{Roots}
-use Rattle.lua_saving.specs.Roots.{coroutine_of, table_of, string_of, integer_of, metatable_of, roots_of_five, has_yielded}
+use Rattle.lua_saving.specs.Roots.{metatable_of, roots_with, roots_of_five, has_yielded}
 use Rattle.lua_saving.specs.Saving.{AreThere, HasYielded, TakesRoots, IsNoSession}
 
 -- what the values are
@@ -28,31 +28,14 @@ record AreFive (a b c d e : Kept) (r : Roots) : Type 0 where
   key : d ≡ Str r.spkey
   depth : e ≡ Int r.maxrec
 
-is_coroutine : (v : Kept) (id : _) → coroutine_of v ≡ Some id → v ≡ Coro id
-is_coroutine (Coro id) other e = ap Coro (some_same id other e)
-is_coroutine _ other e = absurd (cc)
-
-is_table : (v : Kept) (id : _) → table_of v ≡ Some id → v ≡ Table id
-is_table (Table id) other e = ap Table (some_same id other e)
-is_table _ other e = absurd (cc)
-
-is_string : (v : Kept) (id : _) → string_of v ≡ Some id → v ≡ Str id
-is_string (Str id) other e = ap Str (some_same id other e)
-is_string _ other e = absurd (cc)
-
-is_integer : (v : Kept) (n : _) → integer_of v ≡ Some n → v ≡ Int n
-is_integer (Int n) other e = ap Int (some_same n other e)
-is_integer _ other e = absurd (cc)
+five_with : (a b c d e : Kept) (m : Option TableId) (r : Roots) → metatable_of c ≡ Some m → roots_with m a b d e ≡ Some r → AreFive a b c d e r
+five_with (Coro co) (Table g) c (Str k) (Int n) m r is h =
+    let same = some_same (record { main = co; globals = g; string_meta = m; spkey = k; maxrec = n }) r h in
+    subst (AreFive (Coro co) (Table g) c (Str k) (Int n)) same (record { main = refl; globals = refl; metatable = is; key = refl; depth = refl })
+five_with _ _ c _ _ m r is h = absurd (cc)
 
 five : (a b c d e : Kept) (r : Roots) → roots_of_five a b c d e ≡ Some r → AreFive a b c d e r
-five a b c d e r h =
-    let co = bind_some _ (coroutine_of a) r h in
-    let g = bind_some _ (table_of b) r co.2 in
-    let m = bind_some _ (metatable_of c) r g.2 in
-    let k = bind_some _ (string_of d) r m.2 in
-    let n = bind_some _ (integer_of e) r k.2 in
-    let is = some_same (record { main = co.0; globals = g.0; string_meta = m.0; spkey = k.0; maxrec = n.0 }) r n.2 in
-    subst (AreFive a b c d e) is (record { main = is_coroutine a co.0 co.1; globals = is_table b g.0 g.1; metatable = m.1; key = is_string d k.0 k.1; depth = is_integer e n.0 n.1 })
+five a b c d e r h = let m = bind_some _ (metatable_of c) r h in five_with a b c d e m.0 r m.1 m.2
 
 -- the world with these roots
 abbrev pub with_five : (texts : List (List ℕ)) → Roots → World → World

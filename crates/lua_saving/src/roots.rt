@@ -5,7 +5,7 @@ ghost use Rattle.image_load.specs.Session.{main_value, session_roots};
 ghost use Rattle.image_core.specs.Records.{metatable_value};
 ghost use Rattle.lua_heap.specs.Plain.{plain};
 ghost use Rattle.lua_heap.specs.Reading.{value as read};
-ghost use Rattle.lua_saving.specs.Roots.{coroutine_of, has_yielded, integer_of, metatable_of, roots_of_five, string_of, table_of};
+ghost use Rattle.lua_saving.specs.Roots.{has_yielded, metatable_of, roots_of_five};
 
 use lua_heap::{Coro, World};
 use table_core::{CoroId, StrId, TableId, Value};
@@ -75,11 +75,19 @@ pub(crate) fn roots_in(
 ) -> Option<Roots>
     ensures { result ≡ roots_of_five main globals metatable key depth }
 {
-    let main = coroutine_of(main)?;
-    let globals = table_of(globals)?;
     let string_meta = metatable_of(metatable)?;
-    let spkey = string_of(key)?;
-    let maxrec = integer_of(depth)?;
+    let Value::Coro(main) = main else {
+        return None;
+    };
+    let Value::Table(globals) = globals else {
+        return None;
+    };
+    let Value::Str(spkey) = key else {
+        return None;
+    };
+    let Value::Int(maxrec) = depth else {
+        return None;
+    };
     Some(Roots {
         main,
         globals,
@@ -96,26 +104,6 @@ pub(crate) fn has_yielded(coro: &Coro) -> bool
     matches!(coro, Coro::Suspended(_))
 }
 
-/// The coroutine that a value is.
-fn coroutine_of(value: Value) -> Option<CoroId>
-    ensures { result ≡ coroutine_of value }
-{
-    match value {
-        Value::Coro(id) => Some(id),
-        _ => None,
-    }
-}
-
-/// The table that a value is.
-fn table_of(value: Value) -> Option<TableId>
-    ensures { result ≡ table_of value }
-{
-    match value {
-        Value::Table(id) => Some(id),
-        _ => None,
-    }
-}
-
 /// The metatable that a value is, or none.
 fn metatable_of(value: Value) -> Option<Option<TableId>>
     ensures { result ≡ metatable_of value }
@@ -123,26 +111,6 @@ fn metatable_of(value: Value) -> Option<Option<TableId>>
     match value {
         Value::Nil => Some(None),
         Value::Table(id) => Some(Some(id)),
-        _ => None,
-    }
-}
-
-/// The string that a value is.
-fn string_of(value: Value) -> Option<StrId>
-    ensures { result ≡ string_of value }
-{
-    match value {
-        Value::Str(id) => Some(id),
-        _ => None,
-    }
-}
-
-/// The integer that a value is.
-fn integer_of(value: Value) -> Option<i64>
-    ensures { result ≡ integer_of value }
-{
-    match value {
-        Value::Int(n) => Some(n),
         _ => None,
     }
 }

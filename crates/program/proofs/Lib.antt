@@ -15,4 +15,5 @@ pub mod RunLemmas
 pub mod ResumeLemmas
 pub mod WorkLemmas
 pub mod ReportLemmas
+pub mod Lines
 pub mod Meant

@@ -1,17 +1,16 @@
 -- What standard error is told.
 use Rattle.std.proofs.Common.{Result, arith, Ok, Err, OnErr, OnOk, ◌≡◌, ℕ, List, [], ◌++◌, Option, Some, None, true, refl, sym, ap, ◌∙◌, append-nil, append_assoc}
 use Rattle.std.specs.Option.{option_map}
-use Rattle.std.specs.Prelude.{decimal, is_err}
+use Rattle.std.specs.Prelude.{is_err}
 use Rattle.io_edge.specs.declared.fault.Failed.{Failed}
 use Rattle.io_edge.specs.Causes.{HasCause}
 use Rattle.io_edge.specs.Content.{FileMap, GrowsByFront}
 use Rattle.command_words.specs.Words.{Command}
-use Rattle.lua_feed.proofs.Fed.{front_behind}
 use Rattle.program.specs.declared.fault.Fault.{Fault}
 use Rattle.program.proofs.DeviceLemmas.{grows_by_all, grows_by_none}
 use Rattle.program.specs.Report.{FitsFor, LimitFitsFor, none, of_fault, is_quiet, IsReported, status_of_fault, line_of_fault}
 
-same_text : (written : Option (List ℕ)) → written ≡ option_map (λ text. text ++ []) written
+pub same_text : (written : Option (List ℕ)) → written ≡ option_map (λ text. text ++ []) written
 same_text (Some text) = ap Some (sym (append-nil text))
 same_text None = refl
 
@@ -33,11 +32,3 @@ at_fault (Err e) h = h
 pub then_text : (before between after : Option (List ℕ)) (a b : List ℕ) → between ≡ option_map (λ text. text ++ a) before → after ≡ option_map (λ text. text ++ b) between → after ≡ option_map (λ text. text ++ (a ++ b)) before
 then_text (Some text) between after a b first second = second ∙ ap (option_map (λ text. text ++ b)) first ∙ ap Some (append_assoc text a b)
 then_text None between after a b first second = second ∙ ap (option_map (λ text. text ++ b)) first
-
--- a number that is written after it was widened
-pub widened : (between after : Option (List ℕ)) (wide number : ℕ) → after ≡ option_map (λ text. text ++ decimal wide) between → wide ≡ number → after ≡ option_map (λ text. text ++ decimal number) between
-widened between after wide number written same = written ∙ ap (λ n. option_map (λ text. text ++ decimal n) between) same
-
--- two texts that are written, and a front of the rest
-pub past_two : (a b rest : List ℕ) (before between later after : Option (List ℕ)) → between ≡ option_map (λ text. text ++ a) before → later ≡ option_map (λ text. text ++ b) between → GrowsByFront rest later after → GrowsByFront (a ++ (b ++ rest)) before after
-past_two a b rest before between later after first second front = front_behind a (b ++ rest) before between after first (front_behind b rest between later after second front)

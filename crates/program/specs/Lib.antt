@@ -8,5 +8,6 @@ pub mod Resuming
 pub mod Working
 pub mod Program
 pub mod Report
+pub mod Lines
 pub mod Faults
 pub mod Outcomes

@@ -87,34 +87,32 @@ pub record IsNoImage (bytes : List ℕ) (why : Refusal) : Type 0 where
   pub is_prelude : IsPreludeCode prelude
   pub refused : IsRefusedFor prelude bytes why
 
+-- a fault that refuses no bytes
+abbrev pub RefusesNone : Fault → Type 0
+RefusesNone (fault.Refused line) = ⊥
+RefusesNone (fault.Rule rule line) = ⊥
+RefusesNone (fault.NoChunk kind) = ⊥
+RefusesNone (fault.BrokenRule number pc rule) = ⊥
+RefusesNone (fault.NoImage kind) = ⊥
+RefusesNone (fault.NoPermanent kind key) = ⊥
+RefusesNone _ = Unit {0}
+
 -- what a fault tells of bytes: of a script, of a chunk, and of an image
 
 abbrev pub ScriptFits : List ℕ → Fault → Type 0
 ScriptFits content (fault.Refused line) = IsRefused (script_in content) (text.Source line)
 ScriptFits content (fault.Rule rule line) = IsRefused (script_in content) (text.Rule rule line)
-ScriptFits content (fault.NoChunk kind) = ⊥
-ScriptFits content (fault.BrokenRule number pc rule) = ⊥
-ScriptFits content (fault.NoImage kind) = ⊥
-ScriptFits content (fault.NoPermanent kind key) = ⊥
-ScriptFits content _ = Unit {0}
+ScriptFits content reason = RefusesNone reason
 
 abbrev pub ChunkFits : List ℕ → Fault → Type 0
-ChunkFits content (fault.Refused line) = ⊥
-ChunkFits content (fault.Rule rule line) = ⊥
 ChunkFits content (fault.NoChunk kind) = chunk_kind content ≡ Some kind
 ChunkFits content (fault.BrokenRule number pc rule) = IsBroken content number pc rule
-ChunkFits content (fault.NoImage kind) = ⊥
-ChunkFits content (fault.NoPermanent kind key) = ⊥
-ChunkFits content _ = Unit {0}
+ChunkFits content reason = RefusesNone reason
 
 abbrev pub ImageFits : List ℕ → Fault → Type 0
-ImageFits content (fault.Refused line) = ⊥
-ImageFits content (fault.Rule rule line) = ⊥
-ImageFits content (fault.NoChunk kind) = ⊥
-ImageFits content (fault.BrokenRule number pc rule) = ⊥
 ImageFits content (fault.NoImage kind) = IsNoImage content (of_kind kind)
 ImageFits content (fault.NoPermanent kind key) = IsNoImage content (record { kind = kind; key = Some (key_read key) })
-ImageFits content _ = Unit {0}
+ImageFits content reason = RefusesNone reason
 
 abbrev pub CodeFits : List ℕ → Fault → Type 0
 CodeFits content reason = MatchBool (begins_chunk content) (ChunkFits content reason) (ScriptFits content reason)

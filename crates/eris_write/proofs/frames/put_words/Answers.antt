@@ -6,7 +6,7 @@ use Rattle.eris_write.proofs.Recorded.{next_word}
 use Rattle.eris_write.proofs.frames.put_words.Goals as goal
 
 pub loop-at-preserved : goal.loop-at-preserved
-loop-at-preserved c = next_word c.args.numbers.now c.loop-at.at c.number_at.result _ _ _ c.number_at.ensures c.loop-at.invariant c.in_ok-put_word.ensures
+loop-at-preserved c = next_word c.args.numbers.now c.loop-at.at c.item_at.result _ _ _ c.item_at.ensures c.loop-at.invariant c.in_ok-put_word.ensures
 
 pub returns : goal.returns
 returns c =

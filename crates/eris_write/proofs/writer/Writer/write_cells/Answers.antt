@@ -6,7 +6,7 @@ use Rattle.eris_write.proofs.Recorded.{cell_bytes, cell_fields_of, next_cell}
 use Rattle.eris_write.proofs.writer.Writer.write_cells.Goals as goal
 
 pub loop-at-preserved : goal.loop-at-preserved
-loop-at-preserved c = next_cell c.args.self.now c.args.cells.now c.loop-at.at c.cell_at.result c.number.result _ _ _ c.cell_at.ensures c.number.ensures c.loop-at.invariant c.in_ok-put_word.ensures
+loop-at-preserved c = next_cell c.args.self.now c.args.cells.now c.loop-at.at c.item_at.result c.number.result _ _ _ c.item_at.ensures c.number.ensures c.loop-at.invariant c.in_ok-put_word.ensures
 
 pub returns : goal.returns
 returns c =

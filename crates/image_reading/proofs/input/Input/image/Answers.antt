@@ -12,8 +12,8 @@ returns-in_err-image c =
     let R = reader_of c.args.known.now in
     let is : c.from_residual-in_err-image.result ≡ Err c.in_err-image.field-0.0 = search rules in
     let scanned =
-    image_scanned R c.args.roots _ _ _ _ _ _ _ _ _ _ _ _ _ _ _ _ _ _ _ _ c.in_ok-signature.ensures.reads c.in_ok-signature-2.ensures.reads c.in_ok-signature-3.ensures.reads c.in_ok-signature-4.ensures.reads
-    c.in_ok-version.ensures.reads c.in_ok-sorts.ensures.reads
+    image_scanned R c.args.roots _ _ _ _ _ _ _ _ _ _ _ _ _ _ _ _ _ _ _ _ c.in_ok-exactly.ensures.reads c.in_ok-exactly-2.ensures.reads c.in_ok-exactly-3.ensures.reads c.in_ok-exactly-4.ensures.reads
+    c.in_ok-exactly-5.ensures.reads c.in_ok-sorts.ensures.reads
     ∙ ap (λ ss. parts_scan (with_sorts R (map sort ss)) c.args.roots c.sorts.new.self.met c.sorts.new.self.bytes) (sym c.deref.ensures.value) in
     record { reads = rw is (subst (λ got. Says image_read got (Err c.in_err-image.field-0.0) c.parts.new.self) (sym scanned) c.in_err-image.ensures.reads) }
 
@@ -22,7 +22,7 @@ returns c =
     let R = reader_of c.args.known.now in
     record {
       reads =
-          image_scanned R c.args.roots _ _ _ _ _ _ _ _ _ _ _ _ _ _ _ _ _ _ _ _ c.in_ok-signature.ensures.reads c.in_ok-signature-2.ensures.reads c.in_ok-signature-3.ensures.reads c.in_ok-signature-4.ensures.reads
-          c.in_ok-version.ensures.reads c.in_ok-sorts.ensures.reads
+          image_scanned R c.args.roots _ _ _ _ _ _ _ _ _ _ _ _ _ _ _ _ _ _ _ _ c.in_ok-exactly.ensures.reads c.in_ok-exactly-2.ensures.reads c.in_ok-exactly-3.ensures.reads c.in_ok-exactly-4.ensures.reads
+          c.in_ok-exactly-5.ensures.reads c.in_ok-sorts.ensures.reads
           ∙ (ap (λ ss. parts_scan (with_sorts R (map sort ss)) c.args.roots c.sorts.new.self.met c.sorts.new.self.bytes) (sym c.deref.ensures.value) ∙ c.in_ok-image.ensures.reads);
     }
