@@ -14,36 +14,28 @@ use Rattle.code_of.specs.Operands.{local_at, local_of, lone_local, computes, is_
 
 -- a numeral, and a local
 
-abbrev number_part : Second → Option ℕ
-number_part (a_number n) = Some n
-number_part _ = None
-
-abbrev local_part : Second → Option ℕ
-local_part (a_local r) = Some r
-local_part _ = None
-
 number_by : (number local : Option ℕ) (n : ℕ) → second_by number local ≡ a_number n → number ≡ Some n
-number_by (Some m) local n e = ap number_part e
-number_by None (Some r) n e = ap number_part e
-number_by None None n e = ap number_part e
+number_by (Some m) local n e = cc
+number_by None (Some r) n e = cc
+number_by None None n e = cc
 
 local_by : (number local : Option ℕ) (r : ℕ) → second_by number local ≡ a_local r → local ≡ Some r
-local_by (Some m) local r e = let no : None ≡ Some r = ap local_part e in absurd (cc)
-local_by None (Some q) r e = ap local_part e
-local_by None None r e = ap local_part e
+local_by (Some m) local r e = cc
+local_by None (Some q) r e = cc
+local_by None None r e = cc
 
 pub second_number : (op : BinOp) (d : Exp) (n : ℕ) → second_of op d ≡ a_number n → operand_numeral op d ≡ Some n
 second_number op d n e = by (joins op) e
   where
     by : (b : Bool) → cond b made (second_by (operand_numeral op d) (local_of d)) ≡ a_number n → operand_numeral op d ≡ Some n
-    by true e = let no : None ≡ Some n = ap number_part e in absurd (cc)
+    by true e = cc
     by false e = number_by (operand_numeral op d) (local_of d) n e
 
 pub second_local : (op : BinOp) (d : Exp) (r : ℕ) → second_of op d ≡ a_local r → local_of d ≡ Some r
 second_local op d r e = by (joins op) e
   where
     by : (b : Bool) → cond b made (second_by (operand_numeral op d) (local_of d)) ≡ a_local r → local_of d ≡ Some r
-    by true e = let no : None ≡ Some r = ap local_part e in absurd (cc)
+    by true e = cc
     by false e = local_by (operand_numeral op d) (local_of d) r e
 
 pub record IsNumeral (d : Exp) (n most : ℕ) : Type 0 where
@@ -104,10 +96,10 @@ numeral_form _ d n e = numeral_is d 128 n e
 -- the operands of `..` are made
 
 pub local_not_made : (r : ℕ) → a_local r ≡ made → ⊥
-local_not_made r e = let no : Some r ≡ None = ap local_part e in absurd (cc)
+local_not_made r e = cc
 
 pub number_not_made : (n : ℕ) → a_number n ≡ made → ⊥
-number_not_made n e = let no : Some n ≡ None = ap number_part e in absurd (cc)
+number_not_made n e = cc
 
 pub joins_made : (op : BinOp) (d : Exp) → joins op ≡ true → second_of op d ≡ made
 joins_made op d joined = ap (λ b. cond b made (second_by (operand_numeral op d) (local_of d))) joined

@@ -1,5 +1,5 @@
 -- Statements that store a value in a field, and where the object and the key stand.
-use Rattle.std.proofs.Common.{◌≡◌, ℕ, ◌+◌, ◌<◌, ◌≤◌, ltb-true, max, Bool, true, false, cond, List, length, ◌++◌, [], ◌∷◌, Option, Some, None, refl, sym, ap, arith, length-append}
+use Rattle.std.proofs.Common.{◌≡◌, ℕ, ◌+◌, ◌<◌, ◌≤◌, ltb-true, max, Bool, true, false, cond, List, length, ◌++◌, [], ◌∷◌, Option, Some, None, refl, sym, arith, length-append}
 use Rattle.std.specs.Prelude.{nat_lt}
 use Rattle.tree_core.specs.Tree.{Exp, Str, Index, Exps, EndExps, MoreExps}
 use Rattle.code_core.specs.declared.proto.Const.{Const}
@@ -53,38 +53,26 @@ name_is constants _ number h = absurd (cc)
 
 -- where the key stands
 
-abbrev name_part : FieldKey → Option ℕ
-name_part (a_name number) = Some number
-name_part _ = None
-
-abbrev index_part : FieldKey → Option ℕ
-index_part (an_index n) = Some n
-index_part _ = None
-
-abbrev register_part : FieldKey → Option ℕ
-register_part (a_register r) = Some r
-register_part _ = None
-
 none_some : {A : Type 0} (n : ℕ) → None ≡ Some n → A
 none_some n h = absurd (cc)
 
 named_by : (name index local : Option ℕ) (number : ℕ) → field_key_by name index local ≡ a_name number → name ≡ Some number
-named_by (Some m) index local number h = ap name_part h
-named_by None (Some n) local number h = none_some number (ap name_part h)
-named_by None None (Some r) number h = none_some number (ap name_part h)
-named_by None None None number h = none_some number (ap name_part h)
+named_by (Some m) index local number h = cc
+named_by None (Some n) local number h = cc
+named_by None None (Some r) number h = cc
+named_by None None None number h = cc
 
 indexed_by : (name index local : Option ℕ) (n : ℕ) → field_key_by name index local ≡ an_index n → index ≡ Some n
-indexed_by (Some m) index local n h = none_some n (ap index_part h)
-indexed_by None (Some m) local n h = ap index_part h
-indexed_by None None (Some r) n h = none_some n (ap index_part h)
-indexed_by None None None n h = none_some n (ap index_part h)
+indexed_by (Some m) index local n h = cc
+indexed_by None (Some m) local n h = cc
+indexed_by None None (Some r) n h = cc
+indexed_by None None None n h = cc
 
 standing_by : (name index local : Option ℕ) (r : ℕ) → field_key_by name index local ≡ a_register r → local ≡ Some r
-standing_by (Some m) index local r h = none_some r (ap register_part h)
-standing_by None (Some n) local r h = none_some r (ap register_part h)
-standing_by None None (Some q) r h = ap register_part h
-standing_by None None None r h = none_some r (ap register_part h)
+standing_by (Some m) index local r h = cc
+standing_by None (Some n) local r h = cc
+standing_by None None (Some q) r h = cc
+standing_by None None None r h = cc
 
 beside_is : (quiet : Bool) (local : Option ℕ) (r : ℕ) → beside_quiet quiet local ≡ Some r → local ≡ Some r
 beside_is false local r h = none_some r h
@@ -122,9 +110,9 @@ pub record ObjectStays (key : FieldKey) (quiet : Bool) (object : Exp) (r : ℕ) 
 
 pub object_stays : (key : FieldKey) (quiet : Bool) (object : Exp) (r : ℕ) → object_of key quiet object ≡ Some r → ObjectStays key quiet object r
 object_stays evaluated quiet object r h = none_some r h
-object_stays (a_name number) quiet object r h = record { local = beside_is quiet (local_of object) r h; only = beside_some quiet (local_of object) r h; key_stays = λ e. none_some number (sym (ap name_part e)) }
-object_stays (an_index n) quiet object r h = record { local = beside_is quiet (local_of object) r h; only = beside_some quiet (local_of object) r h; key_stays = λ e. none_some n (sym (ap index_part e)) }
-object_stays (a_register q) quiet object r h = record { local = beside_is quiet (local_of object) r h; only = beside_some quiet (local_of object) r h; key_stays = λ e. none_some q (sym (ap register_part e)) }
+object_stays (a_name number) quiet object r h = record { local = beside_is quiet (local_of object) r h; only = beside_some quiet (local_of object) r h; key_stays = λ e. cc }
+object_stays (an_index n) quiet object r h = record { local = beside_is quiet (local_of object) r h; only = beside_some quiet (local_of object) r h; key_stays = λ e. cc }
+object_stays (a_register q) quiet object r h = record { local = beside_is quiet (local_of object) r h; only = beside_some quiet (local_of object) r h; key_stays = λ e. cc }
 
 -- sizes
 
