@@ -1,9 +1,8 @@
 -- A source that keeps the static rules, so that the law's premise is no empty one, and what its definitions refuse.
-use Rattle.std.proofs.Common.{rules, ◌≡◌, true, false, [], ◌∷◌, refl}
+use Rattle.std.proofs.Common.{rules, true, false, [], ◌∷◌, refl}
 use Rattle.tree_core.specs.Tree.{Block, While, Repeat, NumFor, Label, Goto, Break, Var, Vararg}
 use Rattle.tree_terms.proofs.Forms.{no_variable, int, call, block, returning, loc_is, assign, when, vararg_fun, function}
 use Rattle.scope_core.specs.Places.{placed}
-use Rattle.scope_core.specs.Rules.{violations}
 use Rattle.scope_laws.specs.Finding.{LocalIsThere, three_hidden}
 use Rattle.scope_laws.specs.Keeping.{StatKeeps}
 use Rattle.scope_laws.specs.Law.{BodyNamesFit}
@@ -23,11 +22,8 @@ source = returning (
     ∷ [])
     (call (Var 1 (no_variable "a")) (Vararg 1 ∷ []) ∷ [])
 
-keeps_rules : violations source ≡ []
-keeps_rules = refl
-
 fits : BodyNamesFit (placed source)
-fits = names_fit source keeps_rules
+fits = names_fit source refl
 
 -- the second hidden local of a `for` that begins behind one local
 hides : LocalIsThere (three_hidden 1 []) 5 2 → ⊥
