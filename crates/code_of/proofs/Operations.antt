@@ -1,9 +1,9 @@
 -- Constants as second operands, and how long the code of an operator between two operands is and how many registers it takes.
-use Rattle.std.proofs.Common.{◌≡◌, ltb-true, ℕ, suc, ◌+◌, ◌<◌, ◌≤◌, max, ℤ, Bool, true, false, cond, List, [], ◌∷◌, ◌++◌, length, slice_get, Option, Some, None, refl, sym, ap, ◌∙◌, arith, length-append}
+use Rattle.std.proofs.Common.{◌≡◌, ltb-true, ℕ, suc, ◌+◌, ◌<◌, ◌≤◌, max, ℤ, ◌⊎◌, inl, inr, Bool, true, false, cond, List, [], ◌∷◌, ◌++◌, length, slice_get, Option, Some, None, refl, sym, ap, ◌∙◌, arith, length-append}
 use Rattle.std.specs.Prelude.{nat_lt}
 use Rattle.tree_core.specs.declared.operator.BinOp.{BinOp}
-use Rattle.tree_core.specs.declared.operator.BinOp.TheVariants.{Add as Plus, Sub as Minus, Mul as Times, Mod as Modulo, Idiv, Band, Bor, Bxor, Shl as ShiftLeft, Shr as ShiftRight, Concat as Join, Eq as Equal, Ne, Lt as Less, Le as AtMost, Gt, Ge}
-use Rattle.tree_core.specs.Tree.{Exp, Nil, True, False, Int, Str, Vararg, Function, Var, Index, Call, Method, Unary, Binary, And, Or, Paren, Table}
+use Rattle.tree_core.specs.declared.operator.BinOp.TheVariants.{Add as Plus, Shl as ShiftLeft, Shr as ShiftRight, Concat as Join, Eq as Equal, Ne, Lt as Less, Le as AtMost, Gt, Ge}
+use Rattle.tree_core.specs.Tree.{Exp, Nil, True, False, Int, Str}
 use Rattle.code_core.specs.declared.proto.Const.{Const}
 use Rattle.code_core.specs.declared.proto.Const.TheVariants.{Int as IntConst}
 use Rattle.code_of.specs.Coded.{Coded}
@@ -11,7 +11,7 @@ use Rattle.code_of.specs.Constants.{same_constant, number_in}
 use Rattle.code_of.specs.ConstantOperands.{integer_constant, any_constant, constant_by, unless_numeral, constant_of}
 use Rattle.code_of.specs.Expressions.{made_by}
 use Rattle.code_of.specs.Operands.{local_of, computes, second_of, first_of, seat, unless, operand_numeral}
-use Rattle.code_of.specs.Operations.{short_in, short_of, constant_in, constant_code, operation_by, operation_room}
+use Rattle.code_of.specs.Operations.{short_of, constant_in, constant_code, operation_by, operation_room}
 use Rattle.code_of.specs.FieldReads.{object_room}
 use Rattle.code_of.specs.Stores.{short_number}
 use Rattle.code_of.proofs.Constants.{same_is}
@@ -71,16 +71,28 @@ integer_is : (d : Exp) (x : Const) → integer_constant d ≡ Some x → Integer
 integer_is (Int line z) x h = (z, sym (ap (λ o. elim o as (λ _. Const) [ None ↦ IntConst z | Some k ↦ k ]) h))
 integer_is _ x h = absurd (cc)
 
+-- the form that an operator's constant has
+abbrev IsTaken : BinOp → Exp → Const → Type 0
+IsTaken op d x = (integer_constant d ≡ Some x) ⊎ ((computes op ≡ false) × (any_constant d ≡ Some x))
+
+is_taken : (op : BinOp) (d : Exp) (x : Const) → constant_by op d ≡ Some x → IsTaken op d x
+is_taken Equal d x h = inr (refl, h)
+is_taken Ne d x h = inr (refl, h)
+is_taken ShiftLeft d x h = absurd (cc)
+is_taken ShiftRight d x h = absurd (cc)
+is_taken Join d x h = absurd (cc)
+is_taken Less d x h = absurd (cc)
+is_taken AtMost d x h = absurd (cc)
+is_taken Gt d x h = absurd (cc)
+is_taken Ge d x h = absurd (cc)
+is_taken _ d x h = inl h
+
 pub arithmetic_integer : (op : BinOp) (d : Exp) (x : Const) → computes op ≡ true → constant_by op d ≡ Some x → IntegerOf x
-arithmetic_integer Plus d x is h = integer_is d x h
-arithmetic_integer Minus d x is h = integer_is d x h
-arithmetic_integer Times d x is h = integer_is d x h
-arithmetic_integer Modulo d x is h = integer_is d x h
-arithmetic_integer Idiv d x is h = integer_is d x h
-arithmetic_integer Band d x is h = integer_is d x h
-arithmetic_integer Bor d x is h = integer_is d x h
-arithmetic_integer Bxor d x is h = integer_is d x h
-arithmetic_integer _ d x is h = absurd (cc)
+arithmetic_integer op d x is h = by (is_taken op d x h)
+  where
+    by : IsTaken op d x → IntegerOf x
+    by (inl integer) = integer_is d x integer
+    by (inr other) = let no : computes op ≡ false = other.0 in absurd (cc)
 
 -- each is written out in the source
 
@@ -89,16 +101,11 @@ integer_any (Int line z) x h = h
 integer_any _ x h = absurd (cc)
 
 pub operand_literal : (op : BinOp) (d : Exp) (x : Const) → constant_by op d ≡ Some x → any_constant d ≡ Some x
-operand_literal Equal d x h = h
-operand_literal Ne d x h = h
-operand_literal ShiftLeft d x h = absurd (cc)
-operand_literal ShiftRight d x h = absurd (cc)
-operand_literal Join d x h = absurd (cc)
-operand_literal Less d x h = absurd (cc)
-operand_literal AtMost d x h = absurd (cc)
-operand_literal Gt d x h = absurd (cc)
-operand_literal Ge d x h = absurd (cc)
-operand_literal _ d x h = integer_any d x h
+operand_literal op d x h = by (is_taken op d x h)
+  where
+    by : IsTaken op d x → any_constant d ≡ Some x
+    by (inl integer) = integer_any d x integer
+    by (inr other) = other.1
 
 -- so it makes no function
 pub literal_makes : (d : Exp) (x : Const) → any_constant d ≡ Some x → made_by d ≡ 0
