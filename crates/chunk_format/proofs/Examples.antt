@@ -1,5 +1,5 @@
 -- The definitions tried on the chunk that luac writes for `print("hi")` with its debug information stripped, whole and altered.
-use Rattle.std.proofs.Common.{◌≡◌, ℕ, true, List, [], ◌∷◌, Some, refl, drop}
+use Rattle.std.proofs.Common.{◌≡◌, ℕ, ◌+◌, true, List, [], ◌∷◌, ◌++◌, Some, map, refl, take, drop}
 use Rattle.code_core.specs.declared.proto.Const.TheVariants.{Str}
 use Rattle.code_core.specs.Prototype.{Prototype, none, stripped}
 use Rattle.code_core.specs.Writable.{is_writable}
@@ -37,76 +37,15 @@ pub begins_with_function : BeginsWith WholeOf print_hi 48 (drop 32 print_hi_byte
 unfolding print_hi
 begins_with_function = record { front = drop 32 print_hi_bytes; rest = []; whole = refl; spells = whole_spelled print_hi refl; counted = refl }
 
--- the kinds of what is left of the chunk behind a cut, or with one byte changed
+-- the chunk with another byte at this place
+abbrev altered : (at byte : ℕ) → List ℕ
+altered at byte = take at print_hi_bytes ++ byte ∷ drop (at + 1) print_hi_bytes
 
-another_signature : chunk_kind (
-    28 ∷ 76 ∷ 117 ∷ 97 ∷ 84 ∷ 0 ∷ 25 ∷ 147 ∷ 13 ∷ 10 ∷ 26 ∷ 10 ∷ 4 ∷ 8 ∷ 8 ∷ 120 ∷ 86 ∷ 0 ∷ 0 ∷ 0 ∷
-    0 ∷ 0 ∷ 0 ∷ 0 ∷ 0 ∷ 0 ∷ 0 ∷ 0 ∷ 40 ∷ 119 ∷ 64 ∷ 1 ∷ 128 ∷ 128 ∷ 128 ∷ 0 ∷ 1 ∷ 2 ∷ 133 ∷ 81 ∷
-    0 ∷ 0 ∷ 0 ∷ 11 ∷ 0 ∷ 0 ∷ 0 ∷ 131 ∷ 128 ∷ 0 ∷ 0 ∷ 68 ∷ 0 ∷ 2 ∷ 1 ∷ 70 ∷ 0 ∷ 1 ∷ 1 ∷ 130 ∷
-    4 ∷ 134 ∷ 112 ∷ 114 ∷ 105 ∷ 110 ∷ 116 ∷ 4 ∷ 131 ∷ 104 ∷ 105 ∷ 129 ∷ 1 ∷ 0 ∷ 0 ∷ 128 ∷ 128 ∷ 128 ∷ 128 ∷ 128 ∷
-    []) ≡ Some 1
-unfolding read_function
-another_signature = refl
+-- a byte in another's place, and the kind of the first fault then: of the signature, the version, the format, a size, whether there
+-- are extra arguments, a number of 32 bits, a float and an unknown constant
+abbrev alterations : List (ℕ × ℕ × ℕ)
+alterations = (0, 28, 1) ∷ (4, 83, 2) ∷ (5, 1, 3) ∷ (12, 8, 4) ∷ (36, 2, 8) ∷ (38, 5, 7) ∷ (60, 19, 5) ∷ (60, 32, 8) ∷ []
 
-another_version : chunk_kind (
-    27 ∷ 76 ∷ 117 ∷ 97 ∷ 83 ∷ 0 ∷ 25 ∷ 147 ∷ 13 ∷ 10 ∷ 26 ∷ 10 ∷ 4 ∷ 8 ∷ 8 ∷ 120 ∷ 86 ∷ 0 ∷ 0 ∷ 0 ∷
-    0 ∷ 0 ∷ 0 ∷ 0 ∷ 0 ∷ 0 ∷ 0 ∷ 0 ∷ 40 ∷ 119 ∷ 64 ∷ 1 ∷ 128 ∷ 128 ∷ 128 ∷ 0 ∷ 1 ∷ 2 ∷ 133 ∷ 81 ∷
-    0 ∷ 0 ∷ 0 ∷ 11 ∷ 0 ∷ 0 ∷ 0 ∷ 131 ∷ 128 ∷ 0 ∷ 0 ∷ 68 ∷ 0 ∷ 2 ∷ 1 ∷ 70 ∷ 0 ∷ 1 ∷ 1 ∷ 130 ∷
-    4 ∷ 134 ∷ 112 ∷ 114 ∷ 105 ∷ 110 ∷ 116 ∷ 4 ∷ 131 ∷ 104 ∷ 105 ∷ 129 ∷ 1 ∷ 0 ∷ 0 ∷ 128 ∷ 128 ∷ 128 ∷ 128 ∷ 128 ∷
-    []) ≡ Some 2
+altered_kinds : map (λ change. chunk_kind (altered change.0 change.1)) alterations ≡ map (λ change. Some change.2) alterations
 unfolding read_function
-another_version = refl
-
-another_format : chunk_kind (
-    27 ∷ 76 ∷ 117 ∷ 97 ∷ 84 ∷ 1 ∷ 25 ∷ 147 ∷ 13 ∷ 10 ∷ 26 ∷ 10 ∷ 4 ∷ 8 ∷ 8 ∷ 120 ∷ 86 ∷ 0 ∷ 0 ∷ 0 ∷
-    0 ∷ 0 ∷ 0 ∷ 0 ∷ 0 ∷ 0 ∷ 0 ∷ 0 ∷ 40 ∷ 119 ∷ 64 ∷ 1 ∷ 128 ∷ 128 ∷ 128 ∷ 0 ∷ 1 ∷ 2 ∷ 133 ∷ 81 ∷
-    0 ∷ 0 ∷ 0 ∷ 11 ∷ 0 ∷ 0 ∷ 0 ∷ 131 ∷ 128 ∷ 0 ∷ 0 ∷ 68 ∷ 0 ∷ 2 ∷ 1 ∷ 70 ∷ 0 ∷ 1 ∷ 1 ∷ 130 ∷
-    4 ∷ 134 ∷ 112 ∷ 114 ∷ 105 ∷ 110 ∷ 116 ∷ 4 ∷ 131 ∷ 104 ∷ 105 ∷ 129 ∷ 1 ∷ 0 ∷ 0 ∷ 128 ∷ 128 ∷ 128 ∷ 128 ∷ 128 ∷
-    []) ≡ Some 3
-unfolding read_function
-another_format = refl
-
-another_size : chunk_kind (
-    27 ∷ 76 ∷ 117 ∷ 97 ∷ 84 ∷ 0 ∷ 25 ∷ 147 ∷ 13 ∷ 10 ∷ 26 ∷ 10 ∷ 8 ∷ 8 ∷ 8 ∷ 120 ∷ 86 ∷ 0 ∷ 0 ∷ 0 ∷
-    0 ∷ 0 ∷ 0 ∷ 0 ∷ 0 ∷ 0 ∷ 0 ∷ 0 ∷ 40 ∷ 119 ∷ 64 ∷ 1 ∷ 128 ∷ 128 ∷ 128 ∷ 0 ∷ 1 ∷ 2 ∷ 133 ∷ 81 ∷
-    0 ∷ 0 ∷ 0 ∷ 11 ∷ 0 ∷ 0 ∷ 0 ∷ 131 ∷ 128 ∷ 0 ∷ 0 ∷ 68 ∷ 0 ∷ 2 ∷ 1 ∷ 70 ∷ 0 ∷ 1 ∷ 1 ∷ 130 ∷
-    4 ∷ 134 ∷ 112 ∷ 114 ∷ 105 ∷ 110 ∷ 116 ∷ 4 ∷ 131 ∷ 104 ∷ 105 ∷ 129 ∷ 1 ∷ 0 ∷ 0 ∷ 128 ∷ 128 ∷ 128 ∷ 128 ∷ 128 ∷
-    []) ≡ Some 4
-unfolding read_function
-another_size = refl
-
-a_vararg_of_2 : chunk_kind (
-    27 ∷ 76 ∷ 117 ∷ 97 ∷ 84 ∷ 0 ∷ 25 ∷ 147 ∷ 13 ∷ 10 ∷ 26 ∷ 10 ∷ 4 ∷ 8 ∷ 8 ∷ 120 ∷ 86 ∷ 0 ∷ 0 ∷ 0 ∷
-    0 ∷ 0 ∷ 0 ∷ 0 ∷ 0 ∷ 0 ∷ 0 ∷ 0 ∷ 40 ∷ 119 ∷ 64 ∷ 1 ∷ 128 ∷ 128 ∷ 128 ∷ 0 ∷ 2 ∷ 2 ∷ 133 ∷ 81 ∷
-    0 ∷ 0 ∷ 0 ∷ 11 ∷ 0 ∷ 0 ∷ 0 ∷ 131 ∷ 128 ∷ 0 ∷ 0 ∷ 68 ∷ 0 ∷ 2 ∷ 1 ∷ 70 ∷ 0 ∷ 1 ∷ 1 ∷ 130 ∷
-    4 ∷ 134 ∷ 112 ∷ 114 ∷ 105 ∷ 110 ∷ 116 ∷ 4 ∷ 131 ∷ 104 ∷ 105 ∷ 129 ∷ 1 ∷ 0 ∷ 0 ∷ 128 ∷ 128 ∷ 128 ∷ 128 ∷ 128 ∷
-    []) ≡ Some 8
-unfolding read_function
-a_vararg_of_2 = refl
-
-a_number_over : chunk_kind (
-    27 ∷ 76 ∷ 117 ∷ 97 ∷ 84 ∷ 0 ∷ 25 ∷ 147 ∷ 13 ∷ 10 ∷ 26 ∷ 10 ∷ 4 ∷ 8 ∷ 8 ∷ 120 ∷ 86 ∷ 0 ∷ 0 ∷ 0 ∷
-    0 ∷ 0 ∷ 0 ∷ 0 ∷ 0 ∷ 0 ∷ 0 ∷ 0 ∷ 40 ∷ 119 ∷ 64 ∷ 1 ∷ 128 ∷ 128 ∷ 128 ∷ 0 ∷ 1 ∷ 2 ∷ 5 ∷ 81 ∷
-    0 ∷ 0 ∷ 0 ∷ 11 ∷ 0 ∷ 0 ∷ 0 ∷ 131 ∷ 128 ∷ 0 ∷ 0 ∷ 68 ∷ 0 ∷ 2 ∷ 1 ∷ 70 ∷ 0 ∷ 1 ∷ 1 ∷ 130 ∷
-    4 ∷ 134 ∷ 112 ∷ 114 ∷ 105 ∷ 110 ∷ 116 ∷ 4 ∷ 131 ∷ 104 ∷ 105 ∷ 129 ∷ 1 ∷ 0 ∷ 0 ∷ 128 ∷ 128 ∷ 128 ∷ 128 ∷ 128 ∷
-    []) ≡ Some 7
-unfolding read_function
-a_number_over = refl
-
-a_float : chunk_kind (
-    27 ∷ 76 ∷ 117 ∷ 97 ∷ 84 ∷ 0 ∷ 25 ∷ 147 ∷ 13 ∷ 10 ∷ 26 ∷ 10 ∷ 4 ∷ 8 ∷ 8 ∷ 120 ∷ 86 ∷ 0 ∷ 0 ∷ 0 ∷
-    0 ∷ 0 ∷ 0 ∷ 0 ∷ 0 ∷ 0 ∷ 0 ∷ 0 ∷ 40 ∷ 119 ∷ 64 ∷ 1 ∷ 128 ∷ 128 ∷ 128 ∷ 0 ∷ 1 ∷ 2 ∷ 133 ∷ 81 ∷
-    0 ∷ 0 ∷ 0 ∷ 11 ∷ 0 ∷ 0 ∷ 0 ∷ 131 ∷ 128 ∷ 0 ∷ 0 ∷ 68 ∷ 0 ∷ 2 ∷ 1 ∷ 70 ∷ 0 ∷ 1 ∷ 1 ∷ 130 ∷
-    19 ∷ 134 ∷ 112 ∷ 114 ∷ 105 ∷ 110 ∷ 116 ∷ 4 ∷ 131 ∷ 104 ∷ 105 ∷ 129 ∷ 1 ∷ 0 ∷ 0 ∷ 128 ∷ 128 ∷ 128 ∷ 128 ∷ 128 ∷
-    []) ≡ Some 5
-unfolding read_function
-a_float = refl
-
-an_unknown_tag : chunk_kind (
-    27 ∷ 76 ∷ 117 ∷ 97 ∷ 84 ∷ 0 ∷ 25 ∷ 147 ∷ 13 ∷ 10 ∷ 26 ∷ 10 ∷ 4 ∷ 8 ∷ 8 ∷ 120 ∷ 86 ∷ 0 ∷ 0 ∷ 0 ∷
-    0 ∷ 0 ∷ 0 ∷ 0 ∷ 0 ∷ 0 ∷ 0 ∷ 0 ∷ 40 ∷ 119 ∷ 64 ∷ 1 ∷ 128 ∷ 128 ∷ 128 ∷ 0 ∷ 1 ∷ 2 ∷ 133 ∷ 81 ∷
-    0 ∷ 0 ∷ 0 ∷ 11 ∷ 0 ∷ 0 ∷ 0 ∷ 131 ∷ 128 ∷ 0 ∷ 0 ∷ 68 ∷ 0 ∷ 2 ∷ 1 ∷ 70 ∷ 0 ∷ 1 ∷ 1 ∷ 130 ∷
-    32 ∷ 134 ∷ 112 ∷ 114 ∷ 105 ∷ 110 ∷ 116 ∷ 4 ∷ 131 ∷ 104 ∷ 105 ∷ 129 ∷ 1 ∷ 0 ∷ 0 ∷ 128 ∷ 128 ∷ 128 ∷ 128 ∷ 128 ∷
-    []) ≡ Some 8
-unfolding read_function
-an_unknown_tag = refl
+altered_kinds = refl

@@ -9,7 +9,7 @@ use Rattle.code_core.proofs.CheckedLemmas.{rest_of, first_of_two}
 use Rattle.code_core.specs.Writable.{Writable, all_fit, keeps_source, parts_fit, lists_fit, entries_fit, list_fits, number_fits, name_fits, byte_fits, constant_fits, upvalue_fits, line_fits, local_fits, word_fits, change_fits, depth, greatest_depth}
 use Rattle.chunk_format.specs.Header.{signature, version, format, sizes}
 use Rattle.chunk_format.proofs.Chunks.{exact_chunk}
-use Rattle.chunk_format.specs.Reading.{read, read_chunk, Head, Lists, Details}
+use Rattle.chunk_format.specs.Reading.{read, read_chunk, Lists, Details, no_lists}
 use Rattle.chunk_format.specs.Spelling as spelled
 use Rattle.chunk_format.specs.Spelling.{kept, kept_parts, all_kept}
 use Rattle.chunk_format.specs.Grammar.{SourceOf, HeadOf, ListsOf, DetailsOf, TimesOf, BodyOf, FunctionOf, WholeOf, HeaderOf, ChunkOf, InstructionOf, ConstantOf, UpvalueOf, ChangeOf, AbsLineOf, LocalOf, NameOf}
@@ -29,8 +29,8 @@ source_spelled (Some parent) (Some own) fits keeps = go (pointwise nat_eq own pa
         then_last None _ (name_spelled None refl) (record { value = ap (λ s. Some s) equal; nothing = refl })
     go false is = then_last (Some own) _ (name_spelled (Some own) fits) (gives (Some own))
 
-abbrev head_of : Parts → Head
-head_of p = record { source = p.source; line_defined = p.line_defined; last_line = p.last_line; params = p.params; vararg = p.vararg; stack = p.stack }
+abbrev head_of : Parts → Parts
+head_of p = no_lists p.source p.line_defined p.last_line p.params p.vararg p.stack
 
 abbrev lists_of : Parts → Lists
 lists_of p = record { code = p.code; constants = p.constants; upvalues = p.upvalues }

@@ -1,7 +1,7 @@
 -- Reading a function follows the grammar, and counts the functions that are read.
 use Rattle.std.proofs.Common.{◌≡◌, ℕ, zero, suc, ◌+◌, List, [], ◌∷◌, ◌++◌, Option, refl, sym, ap, ◌∙◌, append_assoc, append-nil, arith}
-use Rattle.code_core.specs.Prototype.{Prototype, prototypes, count, function_count}
-use Rattle.chunk_format.specs.Reading.{Got, read, Head, Lists, Details, read_source, read_head, read_number, read_lists, read_details, read_functions, read_body, read_function, parts_of, or_parents}
+use Rattle.code_core.specs.Prototype.{Parts, Prototype, prototypes, count, function_count}
+use Rattle.chunk_format.specs.Reading.{Got, read, Lists, Details, read_source, read_head, read_number, read_lists, read_details, read_functions, read_body, read_function, parts_of, or_parents}
 use Rattle.chunk_format.specs.Grammar.{NumberOf, SourceOf, HeadOf, ListsOf, DetailsOf, TimesOf, BodyOf, FunctionOf}
 use Rattle.chunk_format.proofs.Exact.{Spelled, Exact, halves, at_front, exact_then, exact_gives}
 use Rattle.chunk_format.proofs.Bases.{exact_byte, exact_flag, exact_number}
@@ -96,7 +96,7 @@ module _ {Rule : Prototype → List ℕ → Type 0} {get : ℕ → List ℕ → 
       rw (at_front h rest, first_read, back_is, others_read, is_ps) refl
 
 module _ {Inner : Option (List ℕ) → Prototype → List ℕ → Type 0} {get : Option (List ℕ) → ℕ → List ℕ → Got (Prototype × ℕ)} (exact : (source : Option (List ℕ)) → ExactWithin (Inner source) (get source)) where
-  body_spelled : (parent : Option (List ℕ)) (head : Head) (lists : Lists) (n : ℕ) (functions : List Prototype) (details : Details) (left after : ℕ)
+  body_spelled : (parent : Option (List ℕ)) (head : Parts) (lists : Lists) (n : ℕ) (functions : List Prototype) (details : Details) (left after : ℕ)
       (bytes b1 b2 b3 b4 rest : List ℕ) → Spelled (HeadOf parent) head bytes b1 → Spelled ListsOf lists b1 b2 → Spelled NumberOf n b2 b3 →
       AllWithin (Inner head.source) n functions left after b3 b4 → Spelled DetailsOf details b4 rest →
       SpelledWithin (BodyOf Inner parent) (record { own = parts_of head lists details; inner = prototypes functions }) (suc left) after bytes rest

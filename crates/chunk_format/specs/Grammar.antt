@@ -3,7 +3,7 @@
 use Rattle.std.specs.Prelude.{ℕ, zero, suc, ◌+◌, ◌*◌, ◌%◌, ◌^◌, ◌<◌, ◌≤◌, ◌≡◌, ◌⊎◌, ℤ, Bool, List, [], ◌∷◌, ◌++◌, Option, Some, None, length}
 use Rattle.std.specs.Int.{w8, w64, cast_signed}
 use Rattle.byteorder.specs.Endian.{little_number}
-use Rattle.code_core.specs.Prototype.{Prototype, prototypes, function_count}
+use Rattle.code_core.specs.Prototype.{Parts, Prototype, prototypes, function_count}
 use Rattle.int_core.specs.Value.{greatest_string}
 use Rattle.code_core.specs.Writable.{greatest_depth}
 use Rattle.code_core.specs.declared.instruction.Instruction.{Instruction}
@@ -12,7 +12,7 @@ use Rattle.code_core.specs.declared.proto.Const.TheVariants.{Nil, False, True, I
 use Rattle.code_core.specs.declared.proto.UpDesc.{UpDesc}
 use Rattle.code_core.specs.declared.proto.AbsLine.{AbsLine}
 use Rattle.code_core.specs.declared.proto.LocVar.{LocVar}
-use Rattle.chunk_format.specs.Reading.{Head, Lists, Details, parts_of, or_parents}
+use Rattle.chunk_format.specs.Reading.{Lists, Details, no_lists, parts_of, or_parents}
 use Rattle.chunk_format.specs.Header.{signature, version, format, sizes}
 use Rattle.chunk_format.specs.Spelling.{flag}
 
@@ -109,11 +109,11 @@ ListOf Item = Then NumberOf (TimesOf Item)
 abbrev pub SourceOf : Option (List ℕ) → Option (List ℕ) → List ℕ → Type 0
 SourceOf parent = Then NameOf (λ name. Gives (or_parents parent name))
 
-abbrev pub HeadOf : Option (List ℕ) → Head → List ℕ → Type 0
+abbrev pub HeadOf : Option (List ℕ) → Parts → List ℕ → Type 0
 HeadOf parent =
     Then (SourceOf parent) (λ source. Then NumberOf (λ line_defined. Then NumberOf (λ last_line.
     Then ByteOf (λ params. Then FlagOf (λ vararg. Then ByteOf (λ stack.
-    Gives (record { source = source; line_defined = line_defined; last_line = last_line; params = params; vararg = vararg; stack = stack })))))))
+    Gives (no_lists source line_defined last_line params vararg stack)))))))
 
 abbrev pub ListsOf : Lists → List ℕ → Type 0
 ListsOf =

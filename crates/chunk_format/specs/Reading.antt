@@ -3,7 +3,7 @@
 use Rattle.std.specs.Prelude.{ℕ, zero, suc, ◌+◌, ◌-◌, ◌*◌, ◌%◌, ◌^◌, ◌==◌, ◌≡◌, ℤ, Bool, true, false, ◌||◌, if◌then◌else◌, List, [], ◌∷◌, Option, Some, None, Result, Ok, Err, length, take, drop, nat_lt, nat_le}
 use Rattle.std.specs.Int.{w8, w64, cast_signed}
 use Rattle.byteorder.specs.Endian.{little_number}
-use Rattle.code_core.specs.Prototype.{Parts, Prototype, prototypes}
+use Rattle.code_core.specs.Prototype.{Parts, Prototype, none, prototypes, stripped}
 use Rattle.int_core.specs.Value.{greatest_string}
 use Rattle.code_core.specs.Writable.{greatest_depth}
 use Rattle.code_core.specs.declared.instruction.Instruction.{Instruction}
@@ -23,6 +23,13 @@ pub data Got (A : Type 0) : Type 0 where
 abbrev pub and_then : {A B : Type 0} → Got A → (A → List ℕ → Got B) → Got B
 and_then (read x rest) more = more x rest
 and_then (refused kind) more = refused kind
+
+-- three things, one behind another, of which `make` makes one
+abbrev pub read_three : {A B C D : Type 0} → (List ℕ → Got A) → (List ℕ → Got B) → (List ℕ → Got C) → (A → B → C → D) → List ℕ → Got D
+read_three first second third make bytes =
+    and_then (first bytes) (λ a behind_first.
+    and_then (second behind_first) (λ b behind_second.
+    and_then (third behind_second) (λ c rest. read (make a b c) rest)))
 
 -- what a function that reads says of the bytes in front of which it stood: nothing where memory was wanting
 abbrev pub Says : {A : Type 0} → Got A → Result A ChunkFault → List ℕ → Type 0
@@ -101,11 +108,7 @@ abbrev pub read_constant : List ℕ → Got Const
 read_constant bytes = and_then (read_byte bytes) read_tagged
 
 abbrev pub read_upvalue : List ℕ → Got UpDesc
-read_upvalue bytes =
-    and_then (read_flag bytes) (λ in_stack behind_flag.
-    and_then (read_byte behind_flag) (λ index behind_index.
-    and_then (read_kind behind_index) (λ kind rest.
-    read (record { in_stack = in_stack; index = index; kind = kind }) rest)))
+read_upvalue = read_three read_flag read_byte read_kind (λ in_stack index kind. record { in_stack = in_stack; index = index; kind = kind })
 
 abbrev pub read_change : List ℕ → Got ℤ
 read_change bytes = and_then (read_byte bytes) (λ byte rest. read (cast_signed w8 byte) rest)
@@ -117,11 +120,7 @@ read_abs_line bytes =
     read (record { pc = pc; line = line }) rest))
 
 abbrev pub read_local : List ℕ → Got LocVar
-read_local bytes =
-    and_then (read_name bytes) (λ name behind_name.
-    and_then (read_number behind_name) (λ start behind_start.
-    and_then (read_number behind_start) (λ end rest.
-    read (record { name = name; start = start; end = end }) rest)))
+read_local = read_three read_name read_number read_number (λ name start end. record { name = name; start = start; end = end })
 
 -- lists: their length, then their entries
 
@@ -135,13 +134,13 @@ read_list item bytes = and_then (read_number bytes) (read_times item)
 
 -- functions
 
-pub record Head : Type 0 where
-  pub source : Option (List ℕ)
-  pub line_defined : ℕ
-  pub last_line : ℕ
-  pub params : ℕ
-  pub vararg : Bool
-  pub stack : ℕ
+-- the parts in front of a function's lists, which are empty so far
+abbrev pub no_lists : (source : Option (List ℕ)) (line_defined last_line params : ℕ) (vararg : Bool) (stack : ℕ) → Parts
+no_lists source line_defined last_line params vararg stack = record (stripped params vararg stack [] [] [] none).own {
+  source = source;
+  line_defined = line_defined;
+  last_line = last_line;
+}
 
 pub record Lists : Type 0 where
   pub code : List Instruction
@@ -163,7 +162,7 @@ or_parents parent (Some source) = Some source
 abbrev pub read_source : Option (List ℕ) → List ℕ → Got (Option (List ℕ))
 read_source parent bytes = and_then (read_name bytes) (λ name rest. read (or_parents parent name) rest)
 
-abbrev pub read_head : Option (List ℕ) → List ℕ → Got Head
+abbrev pub read_head : Option (List ℕ) → List ℕ → Got Parts
 read_head parent bytes =
     and_then (read_source parent bytes) (λ source behind_source.
     and_then (read_number behind_source) (λ line_defined behind_first.
@@ -171,14 +170,12 @@ read_head parent bytes =
     and_then (read_byte behind_last) (λ params behind_params.
     and_then (read_flag behind_params) (λ vararg behind_vararg.
     and_then (read_byte behind_vararg) (λ stack rest.
-    read (record { source = source; line_defined = line_defined; last_line = last_line; params = params; vararg = vararg; stack = stack }) rest))))))
+    read (no_lists source line_defined last_line params vararg stack) rest))))))
 
 abbrev pub read_lists : List ℕ → Got Lists
-read_lists bytes =
-    and_then (read_list read_instruction bytes) (λ code behind_code.
-    and_then (read_list read_constant behind_code) (λ constants behind_constants.
-    and_then (read_list read_upvalue behind_constants) (λ upvalues rest.
-    read (record { code = code; constants = constants; upvalues = upvalues }) rest)))
+read_lists =
+    read_three (read_list read_instruction) (read_list read_constant) (read_list read_upvalue)
+    (λ code constants upvalues. record { code = code; constants = constants; upvalues = upvalues })
 
 abbrev pub read_details : List ℕ → Got Details
 read_details bytes =
@@ -188,14 +185,8 @@ read_details bytes =
     and_then (read_list read_name behind_locals) (λ up_names rest.
     read (record { line_info = line_info; abs_lines = abs_lines; locals = locals; up_names = up_names }) rest))))
 
-abbrev pub parts_of : Head → Lists → Details → Parts
-parts_of head lists details = record {
-  source = head.source;
-  line_defined = head.line_defined;
-  last_line = head.last_line;
-  params = head.params;
-  vararg = head.vararg;
-  stack = head.stack;
+abbrev pub parts_of : Parts → Lists → Details → Parts
+parts_of head lists details = record head {
   code = lists.code;
   constants = lists.constants;
   upvalues = lists.upvalues;

@@ -1,4 +1,4 @@
--- What contracts see of the parts of a function as they are read.
+-- What the contracts of the readers say.
 use Rattle.std.specs.Prelude.{ℕ, ◌≡◌, List, Option, Some, None, Result, Ok, Err}
 use Rattle.std.specs.declared.vec.Vec.{Vec}
 use Rattle.std.specs.declared.alloc.Global.{Global}
@@ -6,24 +6,7 @@ use Rattle.code_core.specs.Prototype.{Prototype}
 use Rattle.code_core.specs.declared.proto.Proto.{Proto}
 use Rattle.chunk_format.specs.declared.fault.ChunkFault.{ChunkFault}
 use Rattle.chunk_format.specs.declared.fault.ChunkFault.TheVariants.{Refused, Memory}
-use Rattle.chunk_format.specs.declared.function.Head.{Head as HeadHeld}
-use Rattle.chunk_format.specs.declared.function.Lists.{Lists as ListsHeld}
-use Rattle.chunk_format.specs.declared.function.Details.{Details as DetailsHeld}
-use Rattle.chunk_format.specs.Reading.{Got, read, refused, and_then, Head, Lists, Details, read_number, read_functions}
-
-abbrev pub head_of : HeadHeld → Head
-head_of head = record { source = head.source; line_defined = head.line_defined; last_line = head.last_line; params = head.params; vararg = head.vararg; stack = head.stack }
-
-abbrev pub lists_of : ListsHeld → Lists
-lists_of lists = record { code = lists.code.items; constants = lists.constants.items; upvalues = lists.upvalues.items }
-
-abbrev pub details_of : DetailsHeld → Details
-details_of details = record {
-  line_info = details.line_info.items;
-  abs_lines = details.abs_lines.items;
-  locals = details.locals.items;
-  up_names = details.up_names.items;
-}
+use Rattle.chunk_format.specs.Reading.{Got, read, refused, and_then, read_number, read_functions}
 
 -- as `Says`, with the number of functions that may still come
 abbrev pub SaysLeft : Got (Prototype × ℕ) → Result Proto ChunkFault → ℕ → List ℕ → Type 0

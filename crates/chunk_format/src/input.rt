@@ -1,10 +1,10 @@
 // The bytes that are left to be read, and the smallest things in them.
-ghost use Rattle.std.specs.Prelude.{◌≡◌, ◌≤◌, take, drop, ◌<◌, ◌^◌, ◌∷◌, length, IfOk};
-ghost use Rattle.chunk_format.specs.Reading.{Says, read_byte, read_number, read_flag, read_kind, read_word, read_integer, read_name};
+ghost use Rattle.std.specs.Prelude.{◌≡◌, ◌≤◌, ◌<◌, ◌^◌, ◌∷◌, if◌then◌else◌, nat_lt, length, drop, IfOk};
+ghost use Rattle.chunk_format.specs.Reading.{read, refused, Says, SaysOf, read_byte, read_number, read_flag, read_kind, read_word, read_integer, read_name};
 
 use crate::fault::ChunkFault;
 use byteorder::{ByteOrder, LittleEndian};
-use int_core::{Allocated, Bytes};
+use int_core::Bytes;
 use std::alloc::Global;
 use std::marker::Model;
 
@@ -95,38 +95,31 @@ impl<'a> Input<'a> {
         }
     }
 
+    /// What is left, which is at least so many bytes, and passes over these.
+    fn front(&mut self, len: usize) -> Result<&'a [u8], ChunkFault>
+        ensures reads { SaysOf (λ front. front.now) (if nat_lt (length self.old) len then refused 6 else read self.old (drop len self.old)) result self.new }
+        ensures enough { IfOk result (λ front. len ≤ length front.now) }
+    {
+        if self.bytes.len() < len {
+            return Err(ChunkFault::Refused { kind: 6 });
+        }
+        let front = self.bytes;
+        self.bytes = &front[len..];
+        Ok(front)
+    }
+
     /// A number of 32 bits.
     pub fn word(&mut self) -> Result<u32, ChunkFault>
         ensures reads { Says (read_word self.old) result self.new }
     {
-        if self.bytes.len() < 4 {
-            return Err(ChunkFault::Refused { kind: 6 });
-        }
-        let word = LittleEndian::read_u32(self.bytes);
-        self.bytes = &self.bytes[4..];
-        Ok(word)
+        Ok(LittleEndian::read_u32(self.front(4)?))
     }
 
     /// An integer of 64 bits.
     pub fn integer(&mut self) -> Result<i64, ChunkFault>
         ensures reads { Says (read_integer self.old) result self.new }
     {
-        if self.bytes.len() < 8 {
-            return Err(ChunkFault::Refused { kind: 6 });
-        }
-        let integer = LittleEndian::read_i64(self.bytes);
-        self.bytes = &self.bytes[8..];
-        Ok(integer)
-    }
-
-    /// The next bytes as a vector of their own.
-    pub fn take(&mut self, alloc: Global, len: usize) -> Allocated<Vec<u8>>
-        requires { len ≤ length self.old }
-        ensures { IfOk result (λ text. (text.items ≡ take len self.old) × (self.new ≡ drop len self.old)) }
-    {
-        let text = self.bytes[..len].to_vec(alloc)?;
-        self.bytes = &self.bytes[len..];
-        Ok(text)
+        Ok(LittleEndian::read_i64(self.front(8)?))
     }
 
     /// A string, or none.
@@ -140,9 +133,7 @@ impl<'a> Input<'a> {
         if number > GREATEST_STRING + 1 {
             return Err(ChunkFault::Refused { kind: 7 });
         }
-        if number - 1 > self.len() {
-            return Err(ChunkFault::Refused { kind: 6 });
-        }
-        Ok(Some(Bytes::of(self.take(alloc, number - 1)?)))
+        let len = number - 1;
+        Ok(Some(Bytes::of(self.front(len)?[..len].to_vec(alloc)?)))
     }
 }
