@@ -120,22 +120,6 @@ pub fn next_hit(
         let place = find_plain(subject, pattern, at);
         return Ok(plain_hit(alloc, pattern, subject.len(), place));
     }
-    let hit = next_by_items(alloc, subject, pattern, at, last, raw)?;
-    Ok(hit)
-}
-
-/// The next match of a pattern by its items.
-fn next_by_items(
-    alloc: Global,
-    subject: &[u8],
-    pattern: &[u8],
-    at: usize,
-    last: usize,
-    raw: bool,
-) -> Searched
-    ensures found { IsFound result (next_hit subject.now pattern.now at last raw) }
-    ensures inside { IfOk result (λ hit. IfSome hit (IsWithin (length subject.now))) }
-{
     if is_anchored(pattern) && !raw {
         let items = read_items(alloc, without_anchor(pattern))?;
         let hit = hit_from(alloc, subject, &items, at, last, 0)?;
