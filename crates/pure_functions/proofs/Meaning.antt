@@ -52,7 +52,7 @@ taken_more vs at h = let e : at + 1 ≡ suc at = omega arith in ap (λ n. map sh
     go (v ∷ vs) zero h = refl
     go (v ∷ vs) (suc at) h = ap (λ ss. shape v ∷ ss) (go vs at (omega (arith, h)))
 
--- a list of at most four is seen by its first four places
+-- a short list is seen place by place
 
 consed : {A : Type 0} {x y : A} {xs ys : List A} → x ≡ y → xs ≡ ys → x ∷ xs ≡ y ∷ ys
 consed {y = y} {xs = xs} e f = ap (λ x. x ∷ xs) e ∙ ap (λ xs. y ∷ xs) f
@@ -80,14 +80,14 @@ module _ (texts : List (List ℕ)) where
   three_seen (v ∷ w ∷ x ∷ []) a b c h e f g = consed e (consed f (consed g refl))
   three_seen (v ∷ w ∷ x ∷ y ∷ vs) a b c h e f g = absurd (omega (arith, h))
 
-  pub few_seen : (arguments : List Kept) (a b c d : Seen) → length arguments ≤ 4 → shape_of a ≡ seen_at arguments 0 → shape_of b ≡ seen_at arguments 1 → shape_of c ≡ seen_at arguments 2 → shape_of d ≡ seen_at arguments 3 →
-      shapes_of (take (length arguments) (a ∷ b ∷ c ∷ d ∷ [])) ≡ map shape (map (value texts) arguments)
-  few_seen [] a b c d h e f g k = refl
-  few_seen (v ∷ []) a b c d h e f g k = consed e refl
-  few_seen (v ∷ w ∷ []) a b c d h e f g k = consed e (consed f refl)
-  few_seen (v ∷ w ∷ x ∷ []) a b c d h e f g k = consed e (consed f (consed g refl))
-  few_seen (v ∷ w ∷ x ∷ y ∷ []) a b c d h e f g k = consed e (consed f (consed g (consed k refl)))
-  few_seen (v ∷ w ∷ x ∷ y ∷ z ∷ vs) a b c d h e f g k = absurd (omega (arith, h))
+  pub four_seen : (arguments : List Kept) (a b c d : Seen) → length arguments ≡ 4 → shape_of a ≡ seen_at arguments 0 → shape_of b ≡ seen_at arguments 1 → shape_of c ≡ seen_at arguments 2 → shape_of d ≡ seen_at arguments 3 →
+      shapes_of (a ∷ b ∷ c ∷ d ∷ []) ≡ map shape (map (value texts) arguments)
+  four_seen [] a b c d h e f g k = absurd (omega (arith, h))
+  four_seen (v ∷ []) a b c d h e f g k = absurd (omega (arith, h))
+  four_seen (v ∷ w ∷ []) a b c d h e f g k = absurd (omega (arith, h))
+  four_seen (v ∷ w ∷ x ∷ []) a b c d h e f g k = absurd (omega (arith, h))
+  four_seen (v ∷ w ∷ x ∷ y ∷ []) a b c d h e f g k = consed e (consed f (consed g (consed k refl)))
+  four_seen (v ∷ w ∷ x ∷ y ∷ z ∷ vs) a b c d h e f g k = absurd (omega (arith, h))
 
 -- written values, one after another
 

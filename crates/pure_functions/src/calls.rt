@@ -1,5 +1,5 @@
 // Each function that looks at no table, by its name.
-ghost use Rattle.std.specs.Prelude.{◌≡◌, ◌≤◌, length, map, take};
+ghost use Rattle.std.specs.Prelude.{map};
 ghost use Rattle.int_core.specs.Value.{shape};
 ghost use Rattle.library_arguments.specs.Answers.{IsAnswer};
 ghost use Rattle.library_arguments.specs.Shapes.{shapes_of};
@@ -64,90 +64,32 @@ pub fn call(world: &mut World, function: Function, arguments: &[Value]) -> Resul
     Ok(answer)
 }
 
-/// What such a function gives, before it becomes values.
+/// What such a function gives, before it becomes values. Up to four arguments are seen without asking for memory.
 fn plain_results(world: &World, function: Function, arguments: &[Value]) -> Result<Results, Fault>
     requires { Stands world.now arguments.now }
     ensures { IsAnswer result (plain_row function (map shape (map (value world.now.strings) arguments.now))) }
 {
-    if arguments.len() == 1 {
-        return one_result(world, function, arguments);
+    let alloc = world.alloc;
+    let many = arguments.len();
+    let first = argument_shape(world, arguments, 0);
+    if many == 1 {
+        return results_of(alloc, function, &[first]);
     }
-    if arguments.len() == 2 {
-        return two_results(world, function, arguments);
+    let second = argument_shape(world, arguments, 1);
+    if many == 2 {
+        return results_of(alloc, function, &[first, second]);
     }
-    if arguments.len() == 3 {
-        return three_results(world, function, arguments);
+    let third = argument_shape(world, arguments, 2);
+    if many == 3 {
+        return results_of(alloc, function, &[first, second, third]);
     }
-    if arguments.len() <= FEW {
-        return few_results(world, function, arguments);
+    let fourth = argument_shape(world, arguments, 3);
+    if many == 4 {
+        return results_of(alloc, function, &[first, second, third, fourth]);
     }
     let shapes = all_shapes(world, arguments)?;
-    let results = results_of(world.alloc, function, shapes.as_slice())?;
+    let results = results_of(alloc, function, shapes.as_slice())?;
     Ok(results)
-}
-
-/// How many arguments are seen without asking for memory.
-const FEW: usize = 4;
-
-/// What such a function gives for one argument.
-fn one_result(world: &World, function: Function, arguments: &[Value]) -> Result<Results, Fault>
-    requires many { length arguments.now ≡ 1 }
-    requires stands { Stands world.now arguments.now }
-    ensures { IsAnswer result (plain_row function (map shape (map (value world.now.strings) arguments.now))) }
-{
-    let seen = [argument_shape(world, arguments, 0)];
-    results_of(world.alloc, function, front(&seen, 1))
-}
-
-/// What such a function gives for two arguments.
-fn two_results(world: &World, function: Function, arguments: &[Value]) -> Result<Results, Fault>
-    requires many { length arguments.now ≡ 2 }
-    requires stands { Stands world.now arguments.now }
-    ensures { IsAnswer result (plain_row function (map shape (map (value world.now.strings) arguments.now))) }
-{
-    let seen = [
-        argument_shape(world, arguments, 0),
-        argument_shape(world, arguments, 1),
-    ];
-    results_of(world.alloc, function, front(&seen, 2))
-}
-
-/// What such a function gives for three arguments.
-fn three_results(world: &World, function: Function, arguments: &[Value]) -> Result<Results, Fault>
-    requires many { length arguments.now ≡ 3 }
-    requires stands { Stands world.now arguments.now }
-    ensures { IsAnswer result (plain_row function (map shape (map (value world.now.strings) arguments.now))) }
-{
-    let seen = [
-        argument_shape(world, arguments, 0),
-        argument_shape(world, arguments, 1),
-        argument_shape(world, arguments, 2),
-    ];
-    results_of(world.alloc, function, front(&seen, 3))
-}
-
-/// What such a function gives for few arguments.
-fn few_results(world: &World, function: Function, arguments: &[Value]) -> Result<Results, Fault>
-    requires few { length arguments.now ≤ 4 }
-    requires stands { Stands world.now arguments.now }
-    ensures { IsAnswer result (plain_row function (map shape (map (value world.now.strings) arguments.now))) }
-{
-    let seen = [
-        argument_shape(world, arguments, 0),
-        argument_shape(world, arguments, 1),
-        argument_shape(world, arguments, 2),
-        argument_shape(world, arguments, 3),
-    ];
-    results_of(world.alloc, function, front(&seen, arguments.len()))
-}
-
-/// The first `count` of some shapes.
-fn front<'s, 'a>(shapes: &'s [Shape<'a>], count: usize) -> &'s [Shape<'a>]
-    requires { count ≤ length shapes.now }
-    ensures { result.now ≡ take count shapes.now }
-{
-    let (front, _) = shapes.split_at(count);
-    front
 }
 
 /// What such a function gives, by what it sees of its arguments.
