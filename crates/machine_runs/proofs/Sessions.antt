@@ -50,38 +50,24 @@ fails = function 0 3 (abc GetTabUp 0 0 0 false ∷ abx LoadK 1 1 ∷ abc Call 0 
 abbrev shown : Option Run → Option (List ℕ × Close)
 shown o = option_map (λ (r : Run). (r.printed, r.close)) o
 
-abbrev session : Prototype → List (List ℕ) → (budget : ℕ) → Option (List ℕ × Close)
-session main input budget = shown (run_from (row_numbered traps) 20 (begun (opening prelude) main) input budget)
+abbrev Says : (main : Prototype) (input : List (List ℕ)) (budget : ℕ) (text : String) → Close → Type 0
+Says main input budget text close = shown (run_from (row_numbered traps) 20 (begun (opening prelude) main) input budget) ≡ Some (codes text, close)
 
--- a line is what `coroutine.yield` returns
-asks_and_returns : session asks_once (codes "x" ∷ []) 100 ≡ Some (codes "hiyield\t1\nreturn\tx\n", has_returned)
+sessions_are :
+    -- a line is what `coroutine.yield` returns
+    Says asks_once (codes "x" ∷ []) 100 "hiyield\t1\nreturn\tx\n" has_returned
+    -- without a line the script is suspended
+    × Says asks_once [] 100 "hiyield\t1\n" is_suspended
+    -- `print` is a call, and so is what it does: one unit suffices for the first of them alone
+    × Says asks_once [] 1 "" has_spent
+    -- each turn has the whole budget: three calls in the first, none in the second
+    × Says asks_once (codes "x" ∷ []) 3 "hiyield\t1\nreturn\tx\n" has_returned
+    -- strings have the functions of their library as methods
+    × Says uses_method [] 100 "return\tAB\n" has_returned
+    -- an error that nothing catches ends the script
+    × Says fails [] 100 "error\tno\n" has_failed
 unfolding opcodes number_of put_top put_frames push pop with_own back_to_resumer popped bury suspend_running wait_for_another go_into put_coroutine add_printed woken primitive_values constant_values library_table environment opening begun handed_line wakes digits
-asks_and_returns = refl
-
--- without a line the script is suspended
-waits_for_a_line : session asks_once [] 100 ≡ Some (codes "hiyield\t1\n", is_suspended)
-unfolding opcodes number_of put_top put_frames push pop with_own back_to_resumer popped bury suspend_running wait_for_another go_into put_coroutine add_printed woken primitive_values constant_values library_table environment opening begun handed_line wakes digits
-waits_for_a_line = refl
-
--- `print` is a call, and so is what it does: one unit suffices for the first of them alone
-has_too_little : session asks_once [] 1 ≡ Some (codes "", has_spent)
-unfolding opcodes number_of put_top put_frames push pop with_own back_to_resumer popped bury suspend_running wait_for_another go_into put_coroutine add_printed woken primitive_values constant_values library_table environment opening begun handed_line wakes digits
-has_too_little = refl
-
--- each turn has the whole budget: three calls in the first, none in the second
-each_turn_has_it : session asks_once (codes "x" ∷ []) 3 ≡ Some (codes "hiyield\t1\nreturn\tx\n", has_returned)
-unfolding opcodes number_of put_top put_frames push pop with_own back_to_resumer popped bury suspend_running wait_for_another go_into put_coroutine add_printed woken primitive_values constant_values library_table environment opening begun handed_line wakes digits
-each_turn_has_it = refl
-
--- strings have the functions of their library as methods
-has_methods : session uses_method [] 100 ≡ Some (codes "return\tAB\n", has_returned)
-unfolding opcodes number_of put_top put_frames push pop with_own back_to_resumer popped bury suspend_running wait_for_another go_into put_coroutine add_printed woken primitive_values constant_values library_table environment opening begun handed_line wakes digits
-has_methods = refl
-
--- an error that nothing catches ends the script
-has_failed_so : session fails [] 100 ≡ Some (codes "error\tno\n", has_failed)
-unfolding opcodes number_of put_top put_frames push pop with_own back_to_resumer popped bury suspend_running wait_for_another go_into put_coroutine add_printed woken primitive_values constant_values library_table environment opening begun handed_line wakes digits
-has_failed_so = refl
+sessions_are = (refl, refl, refl, refl, refl, refl)
 
 -- the tables
 
