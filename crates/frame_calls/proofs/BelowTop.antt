@@ -1,12 +1,14 @@
 -- The frame below the one on top, by what is told of it, and the one on top where nothing in it is open or to be closed.
-use Rattle.std.proofs.Common.{◌≡◌, ℕ, ◌-◌, ◌≤◌, List, [], ◌∷◌, ◌++◌, length, map, take, Some, None, ap, sym, subst, ◌∙◌, arith, true}
-use Rattle.std.specs.Prelude.{nat_le}
+use Rattle.std.proofs.Common.{◌≡◌, ℕ, ◌+◌, ◌-◌, ◌<◌, ◌≤◌, List, [], ◌∷◌, ◌++◌, length, map, take, Some, None, ap, sym, subst, ◌∙◌, arith, true}
+use Rattle.std.specs.Prelude.{nat_le, slice_get}
 use Rattle.std.proofs.lemmas.List.{length-map}
+use Rattle.code_core.specs.Check.{at}
+use Rattle.code_core.specs.declared.instruction.Instruction.{Instruction}
 use Rattle.int_core.specs.Value.{Value, last, without_last}
 use Rattle.machine_core.specs.World.{close_from, Wait, LuaFrame, lua}
 use Rattle.machine_core.specs.Text.{behind, last_pending}
 use Rattle.machine_sound.proofs.Values.{le_true}
-use Rattle.machine_sound.proofs.Lists.{last_push, last_splits, without_push}
+use Rattle.machine_sound.proofs.Lists.{get_there, last_push, last_splits, without_push}
 use Rattle.table_core.specs.Table.{Contents}
 use Rattle.table_core.specs.declared.value.FuncId.{FuncId}
 use Rattle.table_core.specs.declared.value.Value.{Value as Kept}
@@ -19,7 +21,8 @@ use Rattle.lua_heap.specs.Reading.{value}
 use Rattle.machine_arms_tables.specs.Frame.{Code}
 use Rattle.machine_loop.specs.Running.{Running}
 use Rattle.machine_loop.proofs.Closing.{stays}
-use Rattle.frame_calls.specs.Returning.{IsCaller}
+use Rattle.frame_calls.specs.Calling.{AreFunctions, KnownFunction, Program}
+use Rattle.frame_calls.specs.Returning.{IsCaller, TakesBy}
 use Rattle.frame_calls.specs.Standing.{IsClosedFrom, RunsAt}
 use Rattle.frame_calls.proofs.Closed.{closes_nothing}
 use Rattle.frame_calls.proofs.Takers.{map_more}
@@ -66,6 +69,30 @@ module _ (g : Running) (k : Code) (s : KeptStack) (ts : List Contents) (cs : Lis
         ∙ ap without_last r.may.is
         ∙ without_push g.around.context.below (lua r.may.top)
         ∙ splits
+
+    -- its instruction and the one after it are in the code of its function in the machine's world
+    module _ (program : Program) (a : AreFunctions g.around.context.base.functions program) (Takes : List Instruction → Type 0) (takes : TakesBy program c Takes) where
+      abbrev pub known_function : KnownFunction g.around.context.base.functions c.function.0 takes.code
+      known_function = a.known c.function.0 takes.func takes.code takes.func_there takes.code_there
+
+      abbrev pub waits_at : ℕ
+      waits_at = (lua_of (value g.around.texts) x.frame).own.pc
+
+      pub words_are : (n : ℕ) (i : Instruction) → slice_get takes.code.words.items n ≡ Some i → at known_function.function.code n ≡ Some i
+      words_are n i e = ap (λ ws. slice_get ws n) (sym known_function.words) ∙ e
+
+      pub at_its_place : (w : Instruction) → slice_get takes.code.words.items c.pc ≡ Some w → at known_function.function.code waits_at ≡ Some w
+      at_its_place w e = words_are waits_at w (ap (slice_get takes.code.words.items) x.knows.pc ∙ e)
+
+      module _ (to : ℕ) (next : to ≡ c.pc + 1) (within : to < length takes.code.words.items) where
+        abbrev pub behind_it : (i : Instruction) × (slice_get takes.code.words.items to ≡ Some i)
+        behind_it = get_there takes.code.words.items to within
+
+        pub to_is : to ≡ waits_at + 1
+        to_is = next ∙ ap (λ n. n + 1) (sym x.knows.pc)
+
+        pub at_next : at known_function.function.code (waits_at + 1) ≡ Some behind_it.0
+        at_next = words_are (waits_at + 1) behind_it.0 (ap (slice_get takes.code.words.items) (sym to_is) ∙ behind_it.1)
 
   -- the frame on top
 

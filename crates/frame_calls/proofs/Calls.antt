@@ -1,10 +1,12 @@
 -- What a call on a stack tests.
-use Rattle.std.proofs.Common.{◌≡◌, ℕ, zero, suc, ◌≤◌, ◌∷◌, [], List, Option, Some, None, refl, ap, sym, arith, true}
+use Rattle.std.proofs.Common.{◌≡◌, ℕ, zero, suc, ◌≤◌, ◌∷◌, [], List, Option, Some, None, length, map, refl, ap, sym, ◌∙◌, arith, true}
+use Rattle.std.proofs.lemmas.List.{length-map}
 use Rattle.code_core.specs.declared.opcode.Opcode.{Opcode}
 use Rattle.code_core.specs.declared.opcode.Opcode.TheVariants.{Call, Return, VarArg}
 use Rattle.machine_sound.proofs.Lists.{some_is}
 use Rattle.lua_stack.specs.declared.frame.OpenCell.{OpenCell}
-use Rattle.lua_stack.specs.Frames.{AllBelow, KeptStack, NoneFrom, top_number}
+use Rattle.lua_stack.specs.Frames.{AllBelow, HasLuaTop, HasRegisters, KeptStack, NoneFrom, OnTop, top_number}
+use Rattle.table_core.specs.declared.value.Value.{Value as Kept}
 use Rattle.frame_calls.specs.Calling.{is_call, one_less}
 use Rattle.frame_calls.specs.Listing.{taken_of}
 use Rattle.frame_calls.specs.Returning.{count_of, said_of}
@@ -40,3 +42,9 @@ below_more frame r q (c ∷ cs) l b =
 
 pub none_further : {s : KeptStack} {r q : ℕ} → r ≤ q → NoneFrom s r → NoneFrom s q
 none_further {s} {r} {q} l h = record { below = below_more (top_number s) r q s.open_cells l h.below }
+
+-- a frame has the registers that it is known to have
+pub has_registers : {s : KeptStack} {n : ℕ} (registers : List Kept) → HasLuaTop s → OnTop s (λ f t. map f registers ≡ t.own.registers) → n ≤ length registers → HasRegisters s n
+has_registers registers h are l =
+    let many = ap length (sym (are h.value h.below h.top h.is)) ∙ length-map registers h.value in
+    record { value = h.value; below = h.below; top = h.top; is = h.is; room = omega (arith, many, l) }

@@ -9,13 +9,13 @@ use Rattle.lua_heap.specs.declared.world.Cell.{Cell as KeptCell}
 use Rattle.machine_arms_tables.specs.Frame.{Code}
 use Rattle.machine_loop.specs.Running.{Running}
 use Rattle.frame_calls.specs.Calling.{AreFunctions, Program}
-use Rattle.frame_calls.specs.Crossing.{CrossesOver, by_counted_call, by_counted_return, by_counted_tail_call, by_iterator_call, by_list_return, by_open_return, by_spread_call, by_spread_tail_call, by_varargs}
+use Rattle.frame_calls.specs.Crossing.{CrossesOver, by_call, by_counted_return, by_iterator_call, by_list_return, by_open_return, by_tail_call, by_varargs}
 use Rattle.frame_calls.specs.Standing.{RunsAt, standing}
 use Rattle.frame_calls.proofs.Called.{called_so, iterated_so, shape_known, tail_called_so}
 use Rattle.frame_calls.proofs.Chained.{reaches_none}
 use Rattle.frame_calls.proofs.ListReturned.{list_returned_so}
 use Rattle.frame_calls.proofs.Returned.{returned_so}
-use Rattle.frame_calls.proofs.SpreadCalls.{open_returned_so, spread_in_place_so, spread_so}
+use Rattle.frame_calls.proofs.OpenLists.{open_returned_so}
 use Rattle.frame_calls.proofs.TakenVarargs.{written_varargs_so}
 
 module _ (g : Running) (k : Code) (s : KeptStack) (ts : List Contents) (cs : List KeptCell) (fuel pc : ℕ) (r : RunsAt g k s ts cs fuel pc) (u : KeptStack) (size : ℕ) (program : Program) (w : Instruction) (left : ℕ)
@@ -24,21 +24,15 @@ module _ (g : Running) (k : Code) (s : KeptStack) (ts : List Contents) (cs : Lis
   free e x = subst (λ (n : ℕ). Reaches g.around.rows (standing g s ts cs fuel) (standing g u ts cs n)) (sym e) x
 
   pub crossed_over_so : CrossesOver s u size program k.words pc w fuel left → Reaches g.around.rows (standing g s ts cs fuel) (standing g u ts cs left)
-  crossed_over_so (by_counted_call x) =
-      let q = shape_known g.around.context.base.functions program a x.enters.id x.enters.shape x.enters.has in
-      called_so g k s ts cs fuel pc r u size program w left x q.0 q.1 q.2 size_is word
-  crossed_over_so (by_spread_call x) =
-      let q = shape_known g.around.context.base.functions program a x.enters.call.id x.enters.call.shape x.enters.is.has in
-      spread_so g k s ts cs fuel pc r u size program w left x q.0 q.1 q.2 size_is word
-  crossed_over_so (by_counted_tail_call x) =
-      let q = shape_known g.around.context.base.functions program a x.enters.id x.enters.shape x.enters.has in
-      tail_called_so g k s ts cs fuel pc r u program w left x q.0 q.1 q.2 word
-  crossed_over_so (by_spread_tail_call x) =
-      let q = shape_known g.around.context.base.functions program a x.enters.call.id x.enters.call.shape x.enters.is.has in
-      spread_in_place_so g k s ts cs fuel pc r u program w left x q.0 q.1 q.2 word
+  crossed_over_so (by_call x) =
+      let q = shape_known g.around.context.base.functions program a x.enters.callee.id x.enters.callee.shape x.enters.is.has in
+      called_so g k s ts cs fuel pc r u size program w left size_is word q.0 x q.1 q.2
+  crossed_over_so (by_tail_call x) =
+      let q = shape_known g.around.context.base.functions program a x.enters.callee.id x.enters.callee.shape x.enters.is.has in
+      tail_called_so g k s ts cs fuel pc r u size program w left size_is word q.0 x q.1 q.2
   crossed_over_so (by_iterator_call x) =
-      let q = shape_known g.around.context.base.functions program a x.enters.id x.enters.shape x.enters.has in
-      iterated_so g k s ts cs fuel pc r u size program w left x q.0 q.1 q.2 size_is word
+      let q = shape_known g.around.context.base.functions program a x.enters.callee.id x.enters.callee.shape x.enters.is.has in
+      iterated_so g k s ts cs fuel pc r u size program w left size_is word q.0 x q.1 q.2
   crossed_over_so (by_counted_return x e) = free e (returned_so g k s ts cs fuel pc r u program w x a word)
   crossed_over_so (by_list_return x e) = free e (list_returned_so g k s ts cs fuel pc r u program w x a word)
   crossed_over_so (by_open_return x e) = free e (open_returned_so g k s ts cs fuel pc r u program w x a word)

@@ -13,7 +13,7 @@ use Rattle.int_core.specs.Heap.{Heap}
 use Rattle.int_core.specs.Operations.{callee, callee_of, greatest_chain}
 use Rattle.int_core.specs.Value.{Value, Shape, a_function, bind, boolean, is_known, nil, nth, object, range, write_all}
 use Rattle.machine_core.specs.World.{Function, Cell, Wait, running, dropped, for_call, for_iterator, for_value, returning, Activation, LuaFrame, Frame, lua, close_from, Place, World}
-use Rattle.machine_core.specs.Text.{Arg, arg, Own, behind, blanked, call, tail_call, close, cut_from, drop_pending, fits, is_there, last_pending, leave, own, read, read_register, read_registers, reads, results, see_pending, tells, Text, trap, value_if, write_register, write_registers, written}
+use Rattle.machine_core.specs.Text.{Arg, arg, Own, behind, blanked, call, tail_call, close, cut_from, drop_pending, fits, is_there, last_pending, leave, list_end, list_values, own, read, read_list, read_register, read_registers, reads, results, see_pending, tells, Text, trap, value_if, write_register, write_registers, written}
 use Rattle.machine_core.specs.FrameRows.{after_call, at_once, expand, expand_by}
 use Rattle.machine_core.specs.InstructionRows.{arrived, counted, is_true, next, read_values, rest, rest_at, rest_by, returned_so, returns, row_of, text_at, text_by, to_register, to_register_before, value_comes, write_values}
 use Rattle.machine_core.specs.MachineStep.{and_then, from_world, step, steps}
@@ -46,6 +46,21 @@ module _ (c : Context) (s : Stands c) (h : Held) where
     pub row_is : (rows : ℕ → Row) → step rows go (world c h) ≡ from_world (world c h) (run (expand (row_of c.closure.code h.own.pc op w)) [] (world c h))
     row_is rows = step_is c s h rows ∙ ap (λ t. from_world (world c h) (run (expand t) [] (world c h))) text_is
 
+  -- the values from a register on to the end of the list are read
+  pub reads_list : (t : ℕ → Text) (env : List Value) (from given end : ℕ) → list_end c.closure.code h.own ≡ Some end → end ≡ from + given
+      → run (expand (own (read_list from) (λ v _. t v))) env (world c h) ≡ run (expand (t (length env))) (env ++ range from given h.own.registers) (world c h)
+  reads_list t env from given end e n =
+      let ends_there : fits (read_list from) c.closure.code h.own ≡ true = ap is_there e in
+      let many : end - from ≡ given = omega (arith, n) in
+      own_runs (read_list from) (λ v _. t v) env ends_there
+      ∙ ap (λ (o : Option ℕ). run (expand (t (length env))) (env ++ list_values from h.own.registers o) (world c h)) e
+      ∙ ap (λ n. run (expand (t (length env))) (env ++ range from n h.own.registers) (world c h)) many
+
+-- the values that a call gives are read, those of so many registers behind its own
+abbrev pub ReadsArguments : Context → Held → Instruction → ℕ → Type 0
+ReadsArguments c h w given = (t : ℕ → Text) (env : List Value)
+    → run (expand (read_values (a_of w + 1) (b_of w) (λ v _. t v))) env (world c h) ≡ run (expand (t (length env))) (env ++ range (a_of w + 1) given h.own.registers) (world c h)
+
 -- calls
 
 -- what the frame that calls becomes
@@ -60,21 +75,19 @@ abbrev called_with : ℕ → ℕ → List Own → Text
 called_with f v ms = call (read f) v for_call ms
 
 module _ (c : Context) (s : Stands c) (h : Held) (w : Instruction) (at_pc : at c.closure.code h.own.pc ≡ Some w) (is_call : opcode_of w ≡ Some Call) where
-  pub call_steps : (given id : ℕ) (q : Function) (left : ℕ) → b_of w ≡ suc given → nat_lt (a_of w) (length h.own.registers) ≡ true → nth h.own.registers (a_of w) ≡ object a_function id
-      → nat_le (behind (a_of w + 1) given) (length h.own.registers) ≡ true → slice_get c.base.functions id ≡ Some q → h.fuel ≡ suc left → nat_le (length c.below + 1 + 1) greatest_depth ≡ true → (rows : ℕ → Row)
+  pub call_steps : (given id : ℕ) (q : Function) (left : ℕ) → ReadsArguments c h w given → nat_lt (a_of w) (length h.own.registers) ≡ true → nth h.own.registers (a_of w) ≡ object a_function id
+      → slice_get c.base.functions id ≡ Some q → h.fuel ≡ suc left → nat_le (length c.below + 1 + 1) greatest_depth ≡ true → (rows : ℕ → Row)
       → step rows go (world c h)
       ≡ ends go (world (inner c (giving c (a_of w) h.own) id q) (record { heap = h.heap; cells = h.cells; fuel = left; own = began q.code (range (a_of w + 1) given h.own.registers) }))
-  call_steps given id q left b there is all fn pay room rows =
+  call_steps given id q left reads there is fn pay room rows =
       let W = world c h in
       let a = a_of w in
-      let p = c.closure.code in
       let ms = drop_pending a ∷ cut_from a ∷ [] in
       let x = nth h.own.registers a in
       row_is c s h w Call at_pc is_call rows
       ∙ ap (from_world W) (
       own_runs c s h (read_register a) (λ f _. read_values (a + 1) (b_of w) (λ v _. called_with f v ms)) [] there
-      ∙ ap (λ n. run (expand (read_values (a + 1) n (λ v _. called_with 0 v ms))) (x ∷ []) W) b
-      ∙ own_runs c s h (read_registers (a + 1) given) (λ v _. called_with 0 v ms) (x ∷ []) all
+      ∙ reads (λ v. called_with 0 v ms) (x ∷ [])
       ∙ call_is c s h (x ∷ range (a + 1) given h.own.registers) (read 0) 1 for_call ms id q left is fn pay room)
 
 -- what a frame becomes that calls the iterator of its loop
@@ -139,19 +152,17 @@ tail_is c s h env f slot n q left e fn pay r =
     made_is (enter_tail f slot) (λ _ s. after_call s) env W V [] is_entered (ap (λ o. bind o (λ p. called_tail W p (callee_of greatest_chain W.heap (arg env f) vs))) (place_is c s h) ∙ all)
 
 module _ (c : Context) (s : Stands c) (h : Held) (w : Instruction) (at_pc : at c.closure.code h.own.pc ≡ Some w) (is_tail_call : opcode_of w ≡ Some TailCall) where
-  pub tail_call_steps : (given id : ℕ) (q : Function) (left : ℕ) → b_of w ≡ suc given → nat_lt (a_of w) (length h.own.registers) ≡ true → nth h.own.registers (a_of w) ≡ object a_function id
-      → nat_le (behind (a_of w + 1) given) (length h.own.registers) ≡ true → slice_get c.base.functions id ≡ Some q → h.fuel ≡ suc left → nat_le (length c.below + 1) greatest_depth ≡ true
-      → close_from c.coroutine (length c.below) 0 h.own.registers h.cells ≡ h.cells → (rows : ℕ → Row)
+  pub tail_call_steps : (given id : ℕ) (q : Function) (left : ℕ) → ReadsArguments c h w given → nat_lt (a_of w) (length h.own.registers) ≡ true → nth h.own.registers (a_of w) ≡ object a_function id
+      → slice_get c.base.functions id ≡ Some q → h.fuel ≡ suc left → nat_le (length c.below + 1) greatest_depth ≡ true → close_from c.coroutine (length c.below) 0 h.own.registers h.cells ≡ h.cells → (rows : ℕ → Row)
       → step rows go (world c h) ≡ ends go (world (in_place c id q) (record { heap = h.heap; cells = h.cells; fuel = left; own = began q.code (range (a_of w + 1) given h.own.registers) }))
-  tail_call_steps given id q left b there is all fn pay room closed rows =
+  tail_call_steps given id q left reads there is fn pay room closed rows =
       let W = world c h in
       let a = a_of w in
       let x = nth h.own.registers a in
       row_is c s h w TailCall at_pc is_tail_call rows
       ∙ ap (from_world W) (
       own_runs c s h (read_register a) (λ f _. read_values (a + 1) (b_of w) (λ v _. tail_call (read f) v)) [] there
-      ∙ ap (λ n. run (expand (read_values (a + 1) n (λ v _. tail_call (read 0) v))) (x ∷ []) W) b
-      ∙ own_runs c s h (read_registers (a + 1) given) (λ v _. tail_call (read 0) v) (x ∷ []) all
+      ∙ reads (λ v. tail_call (read 0) v) (x ∷ [])
       ∙ tail_is c s h (x ∷ range (a + 1) given h.own.registers) (read 0) 1 id q left is fn pay room
       ∙ ap (λ (cs : List Cell). ends go (world (in_place c id q) (record { heap = h.heap; cells = cs; fuel = left; own = began q.code (range (a + 1) given h.own.registers) }))) closed)
 

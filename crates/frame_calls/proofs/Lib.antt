@@ -11,5 +11,5 @@ pub mod Takers
 mod BelowTop
 mod Returned
 pub mod ListReturned
-mod SpreadCalls
+mod OpenLists
 pub mod CrossedOver

@@ -17,10 +17,11 @@ use Rattle.machine_core.specs.Moves.{ends, go, run}
 use Rattle.machine_core.specs.MachineStep.{steps}
 use Rattle.machine_focus.specs.Focus.{Context, Held, Reaches, Stands, stacked, world}
 use Rattle.machine_sound.proofs.Values.{le_true}
-use Rattle.machine_sound.proofs.Lists.{get_there, some_is}
+use Rattle.machine_sound.proofs.Lists.{some_is}
 use Rattle.table_core.specs.Table.{Contents}
 use Rattle.table_core.specs.declared.value.FuncId.{FuncId}
 use Rattle.table_core.specs.declared.value.Value.{Value as Kept}
+use Rattle.lua_stack.specs.declared.frame.LuaState.{LuaState}
 use Rattle.lua_stack.specs.Frames.{KeptStack, frames, lua_of, wait_of}
 use Rattle.lua_heap.specs.declared.world.Cell.{Cell as KeptCell}
 use Rattle.lua_heap.specs.Plain.{cell, heap}
@@ -28,9 +29,9 @@ use Rattle.lua_heap.specs.Reading.{value}
 use Rattle.machine_arms_tables.specs.Frame.{Code}
 use Rattle.machine_loop.specs.Running.{Running}
 use Rattle.frame_calls.specs.Calling.{AreFunctions, KnownFunction, Program}
-use Rattle.frame_calls.specs.Returning.{GivesBack, ReturnsIn, count_of}
+use Rattle.frame_calls.specs.Returning.{GivesBack, HandsBack, IsCaller, IsTaker, ReturnsIn, TakesIn, count_of}
 use Rattle.frame_calls.specs.Standing.{RunsAt, standing}
-use Rattle.frame_calls.proofs.BelowTop.{below_waits, nothing_closed, nothing_pending, popped_waits, top_registers, values_there}
+use Rattle.frame_calls.proofs.BelowTop.{at_its_place, at_next, behind_it, below_waits, known_function, nothing_closed, nothing_pending, popped_waits, to_is, top_registers, values_there, words_are}
 use Rattle.frame_calls.proofs.Calls.{less_is}
 use Rattle.frame_calls.proofs.Called.{behind_within, held_on, own_now, ready_held, standing_is, word_is}
 use Rattle.frame_calls.proofs.FrameRows.{given, handed, outer, return_row, return_steps, still_waits, takes, takes_all}
@@ -81,60 +82,63 @@ module _ (g : Running) (k : Code) (s : KeptStack) (ts : List Contents) (cs : Lis
   abbrev own : Activation
   own = own_now g k s ts cs fuel pc r
 
+  abbrev back : HandsBack s u (a_of w) count x.taker
+  back = x.back
+
   -- the frame below
 
+  abbrev caller : LuaState
+  caller = x.below.caller
+
+  abbrev calls : IsCaller s caller
+  calls = x.below.calls
+
+  abbrev in_code : TakesIn program caller x.taker
+  in_code = x.below.takes
+
+  abbrev taker_is : IsTaker in_code.code.words.items caller x.taker
+  taker_is = in_code.takes
+
   abbrev waiting : LuaFrame
-  waiting = lua_of read x.calls.frame
+  waiting = lua_of read calls.frame
 
   abbrev lower : List Frame
   lower = without_last ctx.below
 
   abbrev number : ℕ
-  number = x.caller.function.0
+  number = caller.function.0
 
   abbrev wait_is : Wait Value
-  wait_is = wait_of read x.caller.wait
+  wait_is = wait_of read caller.wait
 
   below_is : ctx.below ≡ lower ++ lua (frame_with number wait_is waiting.own) ∷ []
-  below_is = below_waits g k s ts cs fuel pc r x.caller x.calls
+  below_is = below_waits g k s ts cs fuel pc r caller calls
 
-  -- its CALL
+  -- its code
 
-  abbrev known_function : KnownFunction ctx.base.functions number x.takes.code
-  known_function = a.known number x.takes.func x.takes.code x.takes.func_there x.takes.code_there
+  abbrev Takes : List Instruction → Type 0
+  Takes words = IsTaker words caller x.taker
 
-  abbrev call_word : Instruction
-  call_word = x.takes.takes.word
+  abbrev its_function : KnownFunction ctx.base.functions number in_code.code
+  its_function = known_function g k s ts cs fuel pc r caller calls program a Takes in_code
 
-  words_are : (n : ℕ) (i : Instruction) → slice_get x.takes.code.words.items n ≡ Some i → at known_function.function.code n ≡ Some i
-  words_are n i e = ap (λ ws. slice_get ws n) (sym known_function.words) ∙ e
-
-  at_call : at known_function.function.code waiting.own.pc ≡ Some call_word
-  at_call = ap (λ ws. slice_get ws waiting.own.pc) (sym known_function.words) ∙ ap (slice_get x.takes.code.words.items) x.calls.knows.pc ∙ x.takes.takes.at_pc
-
-  abbrev behind_call : (i : Instruction) × (slice_get x.takes.code.words.items x.taker.to ≡ Some i)
-  behind_call = get_there x.takes.code.words.items x.taker.to x.takes.takes.within
-
-  to_is : x.taker.to ≡ waiting.own.pc + 1
-  to_is = x.takes.takes.next ∙ ap (λ n. n + 1) (sym x.calls.knows.pc)
-
-  at_next : at known_function.function.code (waiting.own.pc + 1) ≡ Some behind_call.0
-  at_next = ap (λ ws. slice_get ws (waiting.own.pc + 1)) (sym known_function.words) ∙ ap (slice_get x.takes.code.words.items) (sym to_is) ∙ behind_call.1
+  at_call : at its_function.function.code waiting.own.pc ≡ Some taker_is.word
+  at_call = at_its_place g k s ts cs fuel pc r caller calls program a Takes in_code taker_is.word taker_is.at_pc
 
   room : nat_le (behind x.taker.register x.taker.count) (length waiting.own.registers) ≡ true
   room =
-      let l = x.takes.takes.room in
-      let n = x.calls.knows.size in
-      let o = length-map x.calls.frame.registers read in
+      let l = taker_is.room in
+      let n = calls.knows.size in
+      let o = length-map calls.frame.registers read in
       le_true (behind x.taker.register x.taker.count) (length waiting.own.registers) (behind_within x.taker.register x.taker.count (length waiting.own.registers) (omega (arith, l, n, o)))
 
   -- the frame on top
 
-  registers_are : map read x.registers ≡ own.registers
-  registers_are = top_registers g k s ts cs fuel pc r x.registers x.are
+  registers_are : map read back.registers ≡ own.registers
+  registers_are = top_registers g k s ts cs fuel pc r back.registers back.are
 
   there : nat_le (behind (a_of w) count) (length own.registers) ≡ true
-  there = values_there g k s ts cs fuel pc r x.registers x.are (a_of w) count x.gives.room
+  there = values_there g k s ts cs fuel pc r back.registers back.are (a_of w) count back.gives.room
 
   -- what both steps come to
 
@@ -142,34 +146,36 @@ module _ (g : Running) (k : Code) (s : KeptStack) (ts : List Contents) (cs : Lis
   after n register vs to =
       stacked ctx.base ctx.coroutine (lower ++ lua (frame_with n running (record waiting.own { registers = write_all register vs waiting.own.registers; pc = to })) ∷ []) (heap g.around.texts ts g.string_metatable) (map (cell g.around.texts) cs) fuel []
 
-  popped_is : frames read x.popped ≡ lower ++ lua waiting ∷ []
-  popped_is = popped_waits g k s ts cs fuel pc r x.caller x.calls x.popped x.pops
+  popped_is : frames read back.popped ≡ lower ++ lua waiting ∷ []
+  popped_is = popped_waits g k s ts cs fuel pc r caller calls back.popped back.pops
 
-  values_are : range 0 x.taker.count (read x.given.first ∷ read x.given.second ∷ []) ≡ range 0 x.taker.count (range (a_of w) count own.registers)
+  values_are : range 0 x.taker.count (read back.given.first ∷ read back.given.second ∷ []) ≡ range 0 x.taker.count (range (a_of w) count own.registers)
   values_are =
-      sym (two_range (range (a_of w) count (map read x.registers)) (read x.given.first) (read x.given.second) (x.gives.two read refl) x.taker.count x.takes.takes.few)
+      sym (two_range (range (a_of w) count (map read back.registers)) (read back.given.first) (read back.given.second) (back.gives.two read refl) x.taker.count taker_is.few)
       ∙ ap (λ rs. range 0 x.taker.count (range (a_of w) count rs)) registers_are
 
   standing_after : standing g u ts cs fuel ≡ after number x.taker.register (range 0 x.taker.count (range (a_of w) count own.registers)) (waiting.own.pc + 1)
   standing_after =
-      ap (λ fs. stacked ctx.base ctx.coroutine fs (heap g.around.texts ts g.string_metatable) (map (cell g.around.texts) cs) fuel []) (x.hands.top read refl lower waiting popped_is)
-      ∙ ap (λ (id : FuncId). after id.0 x.taker.register (range 0 x.taker.count (read x.given.first ∷ read x.given.second ∷ [])) x.taker.to) x.calls.knows.function
+      ap (λ fs. stacked ctx.base ctx.coroutine fs (heap g.around.texts ts g.string_metatable) (map (cell g.around.texts) cs) fuel []) (back.hands.top read refl lower waiting popped_is)
+      ∙ ap (λ (id : FuncId). after id.0 x.taker.register (range 0 x.taker.count (read back.given.first ∷ read back.given.second ∷ [])) x.taker.to) calls.knows.function
       ∙ ap (λ vs. after number x.taker.register vs x.taker.to) values_are
-      ∙ ap (after number x.taker.register (range 0 x.taker.count (range (a_of w) count own.registers))) to_is
+      ∙ ap (after number x.taker.register (range 0 x.taker.count (range (a_of w) count own.registers))) (to_is g k s ts cs fuel pc r caller calls program a Takes in_code x.taker.to taker_is.next taker_is.within)
 
   pub given_back_so : slice_get k.words pc ≡ Some w → RowReturns ctx (held_on g k s ts cs fuel pc r fuel own) w count (opcode_of w) → Reaches g.around.rows (standing g s ts cs fuel) (standing g u ts cs fuel)
   given_back_so word o =
       let stands = (ready_held g k s ts cs fuel pc r).stands in
       let h = held_on g k s ts cs fuel pc r fuel own in
-      let d = outer ctx lower number known_function.function in
+      let d = outer ctx lower number its_function.function in
       let held : Held = record { heap = h.heap; cells = h.cells; fuel = h.fuel; own = waiting.own } in
+      let behind_call = behind_it g k s ts cs fuel pc r caller calls program a Takes in_code x.taker.to taker_is.next taker_is.within in
+      let next_is = at_next g k s ts cs fuel pc r caller calls program a Takes in_code x.taker.to taker_is.next taker_is.within in
       let given_values = range (a_of w) count own.registers in (
         2,
         ap (steps g.around.rows 2 go) (standing_is g k s ts cs fuel pc r)
             ∙ return_steps ctx stands h w o.op (word_is g k s ts cs fuel pc r w word) o.is (a_of w) count o.env o.row
-            (nothing_pending g k s ts cs fuel pc r x.closed) there (nothing_closed g k s ts cs fuel pc r x.closed) lower number known_function.function waiting.own wait_is (still_waits read x.takes.takes.wants) below_is known_function.is
-            (handed d x.taker held given_values) (takes_all read given_values x.takes.takes.wants)
-            (takes d x.taker held x.takes.code.words.items words_are call_word at_call x.caller.pc read x.calls.knows.pc x.takes.takes.wants given_values behind_call.0 room at_next) g.around.rows
+            (nothing_pending g k s ts cs fuel pc r x.closed) there (nothing_closed g k s ts cs fuel pc r x.closed) lower number its_function.function waiting.own wait_is (still_waits read taker_is.wants) below_is its_function.is
+            (handed d x.taker held given_values) (takes_all read given_values taker_is.wants)
+            (takes d x.taker held in_code.code.words.items (words_are g k s ts cs fuel pc r caller calls program a Takes in_code) taker_is.word at_call caller.pc read calls.knows.pc taker_is.wants given_values behind_call.0 room next_is) g.around.rows
             ∙ ap (ends go) (sym standing_after),
       )
 
@@ -180,5 +186,5 @@ pub returned_so : (g : Running) (k : Code) (s : KeptStack) (ts : List Contents) 
 returned_so g k s ts cs fuel pc r u program w x a word =
     let b = x.gives_back in
     let h = held_on g k s ts cs fuel pc r fuel (own_now g k s ts cs fuel pc r) in
-    let room = values_there g k s ts cs fuel pc r b.registers b.are (a_of w) x.count b.gives.room in
+    let room = values_there g k s ts cs fuel pc r b.back.registers b.back.are (a_of w) x.count b.back.gives.room in
     given_back_so g k s ts cs fuel pc r u program w x.count b a word (row_returns g.around.context (ready_held g k s ts cs fuel pc r).stands h w x.count room (opcode_of w) x.is)

@@ -1,7 +1,8 @@
 -- What a return on a stack tests and does.
 use Rattle.std.proofs.Common.{◌≡◌, ℕ, zero, suc, ◌+◌, ◌-◌, ◌<◌, ◌≤◌, [], ◌∷◌, ◌++◌, List, Option, Some, None, refl, ap, sym, subst, ◌∙◌, arith, length, length-append, map}
-use Rattle.std.specs.Prelude.{IfSome, slice_get}
+use Rattle.std.specs.Prelude.{IfNone, IfSome, slice_get}
 use Rattle.std.proofs.lemmas.List.{length-map}
+use Rattle.code_core.specs.declared.instruction.Instruction.{Instruction}
 use Rattle.int_core.specs.Value.{Value, known, last, nil, nth, range, without_last, write, write_all}
 use Rattle.machine_core.specs.World.{LuaFrame, lua}
 use Rattle.table_core.specs.declared.value.Value.{Value as Kept}
@@ -9,11 +10,13 @@ use Rattle.table_core.specs.declared.value.Value.TheVariants.{Nil}
 use Rattle.machine_sound.proofs.Lists.{last_splits, some_is}
 use Rattle.lua_stack.specs.Frames.{HasLuaTop, HasRegisters, KeptFrame, KeptLua, KeptStack, TopBecomes, frame_of, frames, kept_lua, kept_state, lua_of, with_registers}
 use Rattle.lua_stack.specs.declared.frame.LuaState.{LuaState}
+use Rattle.lua_heap.specs.declared.codes.Code.{Code}
 use Rattle.machine_view.proofs.Rows.{nth_map}
 use Rattle.frame_calls.specs.declared.returning.Given.{Given}
 use Rattle.frame_calls.specs.declared.stop.Stop.{Stop}
-use Rattle.frame_calls.specs.Calling.{MayLeave}
-use Rattle.frame_calls.specs.Returning.{HasKept, IsCaller, IsCallerIn, IsGiven}
+use Rattle.frame_calls.specs.Calling.{HasCode, MayLeave, Program}
+use Rattle.frame_calls.specs.Crossing.{CrossesAt}
+use Rattle.frame_calls.specs.Returning.{HasKept, IsCaller, IsCallerIn, IsGiven, TakesBy}
 pub use Rattle.machine_loop.proofs.Alike.{none_then}
 
 -- the first two of some values
@@ -150,6 +153,27 @@ module _ {s : KeptStack} {n : ℕ} (h : HasKept s n) where
     top = change (λ v. known nil) (lua_of (λ v. known nil) h.top);
     is = b.top (λ v. known nil) refl (map (frame_of (λ v. known nil)) h.below) (lua_of (λ v. known nil) h.top) (top_by (λ v. known nil));
   }
+
+-- the words of a function's code take what comes
+pub takes_by : (Takes : List Instruction → Type 0) {program : Program} {c : LuaState} {code : Code} {words : List Instruction} → HasCode program c.function code → words ≡ code.words.items → Takes words → TakesBy program c Takes
+takes_by Takes {code = code} h e x = record { func = h.func; func_there = h.func_there; code = code; code_there = h.code_there; takes = subst Takes e x }
+
+-- what was answered, or what is so where nothing was
+
+pub some_so : {A P : Type 0} {o : Option A} {v : A} → o ≡ Some v → IfSome o (λ _. P) → P
+some_so {P = P} e x = subst (λ o. IfSome o (λ _. P)) e x
+
+pub none_so : {A P : Type 0} {o : Option A} → o ≡ None → IfNone o P → P
+none_so {P = P} e x = subst (λ o. IfNone o P) e x
+
+-- what is tried on a stack and a budget that are as they were
+
+module _ (u : KeptStack) (left : ℕ) (o : Option (Unit {0})) {s t : KeptStack} {fuel now : ℕ} (e : t ≡ s) (n : now ≡ fuel) where
+  pub crosses_still : (stop : Stop) → IfSome o (λ _. CrossesAt t u stop now left) → IfSome o (λ _. CrossesAt s u stop fuel left)
+  crosses_still stop x = subst (λ (s : KeptStack). IfSome o (λ _. CrossesAt s u stop fuel left)) e (subst (λ (n : ℕ). IfSome o (λ _. CrossesAt t u stop n left)) n x)
+
+  pub kept_still : IfNone o ((u ≡ t) × (left ≡ now)) → IfNone o ((u ≡ s) × (left ≡ fuel))
+  kept_still x = none_then o (λ (k : (u ≡ t) × (left ≡ now)). (k.0 ∙ e, k.1 ∙ n)) x
 
 -- a stack that is as it was may be left so
 

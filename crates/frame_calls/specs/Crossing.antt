@@ -6,15 +6,12 @@ use Rattle.frame_calls.specs.declared.stop.Stop.{Stop}
 use Rattle.frame_calls.specs.Calling.{CallsIn, IteratesIn, Program, TailCallsIn, program_of}
 use Rattle.frame_calls.specs.Listing.{WritesVarargs}
 use Rattle.frame_calls.specs.Opening.{ReturnsList}
-use Rattle.frame_calls.specs.Returning.{ReturnsIn}
-use Rattle.frame_calls.specs.Spreading.{ReturnsOpen, SpreadsIn, TailSpreadsIn}
+use Rattle.frame_calls.specs.Returning.{ReturnsIn, ReturnsOpen}
 
 -- a Lua function is called for a unit of the budget, values go back to a Lua frame below, or extra arguments to registers
 pub data CrossesOver (s u : KeptStack) (size : ℕ) (program : Program) (words : List Instruction) (pc : ℕ) (w : Instruction) (fuel left : ℕ) : Type 0 where
-  by_counted_call : CallsIn s u size program w fuel left → CrossesOver s u size program words pc w fuel left
-  by_spread_call : SpreadsIn s u size program words pc w fuel left → CrossesOver s u size program words pc w fuel left
-  by_counted_tail_call : TailCallsIn s u program w fuel left → CrossesOver s u size program words pc w fuel left
-  by_spread_tail_call : TailSpreadsIn s u program words pc w fuel left → CrossesOver s u size program words pc w fuel left
+  by_call : CallsIn s u size program words pc w fuel left → CrossesOver s u size program words pc w fuel left
+  by_tail_call : TailCallsIn s u program words pc w fuel left → CrossesOver s u size program words pc w fuel left
   by_iterator_call : IteratesIn s u size program w fuel left → CrossesOver s u size program words pc w fuel left
   by_counted_return : ReturnsIn s u program w → left ≡ fuel → CrossesOver s u size program words pc w fuel left
   by_list_return : ReturnsList s u program w → left ≡ fuel → CrossesOver s u size program words pc w fuel left

@@ -1,18 +1,13 @@
 -- Returns to a Lua frame that waits for a call and takes all that come as an open list, as changes of a stack.
-use Rattle.std.specs.Prelude.{◌≡◌, ◌+◌, ◌<◌, ◌≤◌, ℕ, List, Some, length, map, slice_get}
+use Rattle.std.specs.Prelude.{◌≡◌, ◌+◌, ◌<◌, ◌≤◌, ℕ, List, Some, length, slice_get}
 use Rattle.code_core.specs.declared.instruction.Instruction.{Instruction}
 use Rattle.code_core.specs.declared.opcode.Opcode.TheVariants.{Call}
 use Rattle.code_core.specs.Instruction.{a_of, b_of, c_of, opcode_of}
-use Rattle.int_core.specs.Value.{without_last}
-use Rattle.table_core.specs.declared.value.Value.{Value as Kept}
 use Rattle.lua_stack.specs.declared.frame.LuaState.{LuaState}
 use Rattle.lua_stack.specs.declared.frame.Wait.TheVariants.{ForCall}
-use Rattle.lua_stack.specs.Frames.{KeptStack, OnTop, TopBecomes, with_opened}
-use Rattle.lua_heap.specs.declared.codes.Code.{Code}
-use Rattle.lua_heap.specs.declared.world.Func.{Func}
-use Rattle.frame_calls.specs.declared.returning.Given.{Given}
+use Rattle.lua_stack.specs.Frames.{KeptStack, TopBecomes, with_opened}
 use Rattle.frame_calls.specs.declared.returning.Taker.{Taker}
-use Rattle.frame_calls.specs.Returning.{IsCaller, IsGiven, count_of, taken}
+use Rattle.frame_calls.specs.Returning.{HandsBack, IsTakerBelow, TakesBy, count_of}
 use Rattle.frame_calls.specs.Standing.{IsClosedFrom}
 use Rattle.frame_calls.specs.Calling.{Program}
 
@@ -31,27 +26,16 @@ pub record IsListTaker (words : List Instruction) (c : LuaState) (count : ℕ) (
   pub next : t.to ≡ c.pc + 1
   pub within : t.to < length words
 
-pub record TakesListIn (program : Program) (c : LuaState) (count : ℕ) (t : Taker) : Type 0 where
-  pub func : Func
-  pub func_there : slice_get program.funcs c.function.0 ≡ Some func
-  pub code : Code
-  pub code_there : slice_get program.codes.list.items func.code.0 ≡ Some code
-  pub takes : IsListTaker code.words.items c count t
+abbrev pub TakesListIn : Program → LuaState → (count : ℕ) → Taker → Type 0
+TakesListIn program c count t = TakesBy program c (λ words. IsListTaker words c count t)
 
 -- the frame on top, in which nothing is open or to be closed, is gone, and its values are an open list of the one below
 pub record ReturnsList (s u : KeptStack) (program : Program) (w : Instruction) : Type 0 where
   pub count : ℕ
   pub is : count_of (opcode_of w) (b_of w) ≡ Some count
   pub closed : IsClosedFrom s 0
-  pub registers : List Kept
-  pub are : OnTop s (λ f t. map f registers ≡ t.own.registers)
-  pub given : Given
-  pub gives : IsGiven registers (a_of w) count given
-  pub caller : LuaState
-  pub calls : IsCaller s caller
   pub taker : Taker
-  pub takes : TakesListIn program caller count taker
-  pub popped : KeptStack
-  pub pops : popped.frames ≡ without_last s.frames
-  pub hands : TopBecomes popped u (λ f t. with_opened count (taken taker (f given.first) (f given.second) t))
-  pub listed : u.open_cells ≡ s.open_cells
+  pub below : IsTakerBelow s (λ c. TakesListIn program c count taker)
+  pub handed : KeptStack
+  pub back : HandsBack s handed (a_of w) count taker
+  pub opens : TopBecomes handed u (λ f t. with_opened count t)

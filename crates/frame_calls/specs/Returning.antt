@@ -15,6 +15,7 @@ use Rattle.lua_stack.specs.declared.frame.Wait.TheVariants.{Dropped, ForCall, Fo
 use Rattle.lua_stack.specs.Frames.{KeptFrame, KeptLua, KeptStack, OnTop, TopBecomes, kept_lua, with_pc, with_registers, with_wait}
 use Rattle.lua_heap.specs.declared.codes.Code.{Code}
 use Rattle.lua_heap.specs.declared.world.Func.{Func}
+use Rattle.frame_calls.specs.Arguments.{IsInFront, ListEnds}
 use Rattle.frame_calls.specs.Calling.{Program, one_less}
 use Rattle.frame_calls.specs.Standing.{IsClosedFrom}
 use Rattle.frame_calls.specs.declared.returning.Given.{Given}
@@ -65,12 +66,6 @@ is_operator MmBinI = true
 is_operator MmBinK = true
 is_operator _ = false
 
--- the instruction before a place
-pub record IsInFront (words : List Instruction) (pc : ℕ) (before : Instruction) : Type 0 where
-  pub front : ℕ
-  pub next : pc ≡ suc front
-  pub there : slice_get words front ≡ Some before
-
 -- what the instruction at a place wants for which a frame waits: a CALL one value fewer than it says, a TFORCALL as many, in the registers after its own four, an
 -- instruction that a handler gives its value that one in its register, or an operator in that of the instruction before it, and a store nothing
 pub data Wants (words : List Instruction) (pc : ℕ) (w : Instruction) (t : Taker) : KeptWait → Type 0 where
@@ -95,12 +90,22 @@ pub record IsTaker (words : List Instruction) (c : LuaState) (t : Taker) : Type 
   pub next : t.to ≡ c.pc + 1
   pub within : t.to < length words
 
-pub record TakesIn (program : Program) (c : LuaState) (t : Taker) : Type 0 where
+-- the code of a frame's function is there, and its instructions take so what comes
+pub record TakesBy (program : Program) (c : LuaState) (Takes : List Instruction → Type 0) : Type 0 where
   pub func : Func
   pub func_there : slice_get program.funcs c.function.0 ≡ Some func
   pub code : Code
   pub code_there : slice_get program.codes.list.items func.code.0 ≡ Some code
-  pub takes : IsTaker code.words.items c t
+  pub takes : Takes code.words.items
+
+abbrev pub TakesIn : Program → LuaState → Taker → Type 0
+TakesIn program c t = TakesBy program c (λ words. IsTaker words c t)
+
+-- the frame below the one on top is a Lua frame with at least so many registers
+pub record HasBelow (s : KeptStack) (count : ℕ) : Type 0 where
+  pub caller : LuaState
+  pub calls : IsCaller s caller
+  pub room : count ≤ caller.size
 
 -- the frame on top is a Lua frame with at least so many registers
 pub record HasKept (s : KeptStack) (count : ℕ) : Type 0 where
@@ -113,25 +118,42 @@ pub record HasKept (s : KeptStack) (count : ℕ) : Type 0 where
 abbrev pub taken : Taker → (first second : Value) → LuaFrame → LuaFrame
 taken taker v w t = with_pc taker.to (with_wait running (with_registers (write_all taker.register (range 0 taker.count (v ∷ w ∷ [])) t.own.registers) t))
 
--- the frame on top, in which nothing is open or to be closed, is gone, and the one below has taken what it wants of so many of its values, from the register on that
--- the instruction names
-pub record GivesBack (s u : KeptStack) (program : Program) (w : Instruction) (count : ℕ) : Type 0 where
-  pub closed : IsClosedFrom s 0
+-- the frame below the one on top is a Lua frame that takes so what comes
+pub record IsTakerBelow (s : KeptStack) (Takes : LuaState → Type 0) : Type 0 where
+  pub caller : LuaState
+  pub calls : IsCaller s caller
+  pub takes : Takes caller
+
+-- the frame on top is gone, and the one below has taken what it wants of so many of its values, from a register on
+pub record HandsBack (s u : KeptStack) (register count : ℕ) (taker : Taker) : Type 0 where
   pub registers : List Kept
   pub are : OnTop s (λ f t. map f registers ≡ t.own.registers)
   pub given : Given
-  pub gives : IsGiven registers (a_of w) count given
-  pub caller : LuaState
-  pub calls : IsCaller s caller
-  pub taker : Taker
-  pub takes : TakesIn program caller taker
+  pub gives : IsGiven registers register count given
   pub popped : KeptStack
   pub pops : popped.frames ≡ without_last s.frames
   pub hands : TopBecomes popped u (λ f t. taken taker (f given.first) (f given.second) t)
   pub listed : u.open_cells ≡ s.open_cells
 
+-- nothing was open or to be closed in it, and the register is the one that the instruction names
+pub record GivesBack (s u : KeptStack) (program : Program) (w : Instruction) (count : ℕ) : Type 0 where
+  pub closed : IsClosedFrom s 0
+  pub taker : Taker
+  pub below : IsTakerBelow s (λ c. TakesIn program c taker)
+  pub back : HandsBack s u (a_of w) count taker
+
 -- an instruction does so that says how many values it returns
 pub record ReturnsIn (s u : KeptStack) (program : Program) (w : Instruction) : Type 0 where
   pub count : ℕ
   pub is : count_of (opcode_of w) (b_of w) ≡ Some count
+  pub gives_back : GivesBack s u program w count
+
+-- a RETURN gives all values from a register up to the end of an open list to a frame that wants at most two
+pub record ReturnsOpen (s u : KeptStack) (program : Program) (words : List Instruction) (pc : ℕ) (w : Instruction) : Type 0 where
+  pub is_return : opcode_of w ≡ Some Return
+  pub takes_all : b_of w ≡ 0
+  pub end : ℕ
+  pub list : ListEnds s words pc end
+  pub count : ℕ
+  pub all : end ≡ a_of w + count
   pub gives_back : GivesBack s u program w count

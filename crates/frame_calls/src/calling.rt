@@ -2,21 +2,29 @@
 ghost use Rattle.std.specs.Prelude.{◌≡◌, ◌≤◌, IfNone, IfSome, slice_get, true};
 ghost use Rattle.code_core.specs.Instruction.{opcode_of};
 ghost use Rattle.lua_stack.specs.Frames.{HasLuaTop, HasRegisters, NoneFrom};
-ghost use Rattle.frame_calls.specs.Calling.{CallsIn, EntersIn, HasShapeIn, HaveCode, HoldsCallee, MayLeave, is_call, one_less, program_of};
+ghost use Rattle.frame_calls.specs.Calling.{CallsIn, EntersIn, HasCode, HasShapeIn, HaveCode, HoldsCallee, IsCallee, MayEnter, MayLeave, is_call, one_less, program_of};
 ghost use Rattle.frame_calls.specs.Standing.{IsClosedFrom};
 
 use crate::closing::closed_from;
 use crate::stop::{Functions, Stop};
 use code_core::{Instruction, Opcode};
+use lua_heap::Code;
 use lua_stack::{GREATEST_DEPTH, Shape, Stack, Wait};
 use table_core::{FuncId, Value};
+
+/// A Lua function that is called, and what a call needs to know of its code.
+#[derive(Clone, Copy)]
+pub(crate) struct LuaFunction {
+    pub(crate) id: FuncId,
+    pub(crate) shape: Shape,
+}
 
 /// A CALL that gives a Lua function its arguments in registers, for a unit of the budget: the function's frame is on top. `None`, with all as before, at any
 /// other instruction, and where the call takes more than the stack. What is open or to be closed is looked at here.
 #[inline(always)]
 pub(crate) fn call_function(stack: &mut Stack, stop: Stop, budget: &mut u64) -> Option<()>
     requires { MayLeave stack.old stop }
-    ensures calls { IfSome result (λ _. CallsIn stack.old stack.new stop.entry.size (program_of stop.entry.functions) stop.entry.word budget.old budget.new) }
+    ensures calls { IfSome result (λ _. CallsIn stack.old stack.new stop.entry.size (program_of stop.entry.functions) stop.entry.words.now stop.entry.pc stop.entry.word budget.old budget.new) }
     ensures kept { IfNone result ((stack.new ≡ stack.old) × (budget.new ≡ budget.old)) }
     ensures listed { stack.new.open_cells ≡ stack.old.open_cells }
 {
@@ -34,25 +42,66 @@ pub(crate) fn call_function(stack: &mut Stack, stop: Stop, budget: &mut u64) -> 
 #[inline(always)]
 pub(crate) fn enter(stack: &mut Stack, stop: Stop) -> Option<()>
     requires { MayLeave stack.old stop }
-    ensures enters { IfSome result (λ _. EntersIn stack.old stack.new stop.entry.size (program_of stop.entry.functions) stop.entry.word) }
+    ensures enters { IfSome result (λ _. EntersIn stack.old stack.new stop.entry.size (program_of stop.entry.functions) stop.entry.words.now stop.entry.pc stop.entry.word) }
     ensures kept { IfNone result (stack.new ≡ stack.old) }
     ensures listed { stack.new.open_cells ≡ stack.old.open_cells }
 {
     let register = stop.word.a() as usize;
+    let given = one_less(stop.word.b())?;
+    let callee = enterable(stack, stop, register, given, register, register)?;
+    match stack.call_in_place(
+        register,
+        given,
+        Wait::ForCall,
+        stop.size,
+        callee.id,
+        callee.shape,
+    ) {
+        Ok(()) => Some(()),
+        Err(_) => None,
+    }
+}
+
+/// The Lua function in a register, where it may be entered with the values of so many registers after it over the frame on top, which keeps the registers in front of
+/// one: nothing of that frame is open from the register `free` on.
+#[inline(always)]
+pub(crate) fn enterable(
+    stack: &Stack,
+    stop: Stop,
+    register: usize,
+    given: usize,
+    keeps: usize,
+    free: usize,
+) -> Option<LuaFunction>
+    requires { MayLeave stack.now stop }
+    ensures { IfSome result (λ callee. MayEnter stack.now (program_of stop.entry.functions) stop.entry.size register given keeps free callee) }
+{
     // First, while it is at hand whether anything is open.
-    if !may_give_up(stack, register, stop.size, register, stop.closed) {
+    if !may_give_up(stack, keeps, stop.size, free, stop.closed) {
         return None;
     }
     if stack.len() >= GREATEST_DEPTH {
         return None;
     }
-    let given = one_less(stop.word.b())?;
+    let callee = function_in(stack, stop.functions, register, given)?;
+    Some(callee)
+}
+
+/// The Lua function in a register of the frame on top, where so many registers are after it, with what a call needs to know of its code.
+#[inline(always)]
+pub(crate) fn function_in(
+    stack: &Stack,
+    functions: Functions,
+    register: usize,
+    given: usize,
+) -> Option<LuaFunction>
+    requires top { HasLuaTop stack.now }
+    requires codes { HaveCode (program_of functions) }
+    ensures { IfSome result (λ callee. IsCallee stack.now (program_of functions.entry) register given callee) }
+{
     let id = callee(stack.registers(), register, given)?;
-    let shape = shape_of(stop.functions, id)?;
-    match stack.call_in_place(register, given, Wait::ForCall, stop.size, id, shape) {
-        Ok(()) => Some(()),
-        Err(_) => None,
-    }
+    let shape = shape_of(functions, id)?;
+    Some(LuaFunction { id, shape })
 }
 
 /// The Lua function in a register, where so many registers are after it.
@@ -84,10 +133,7 @@ pub fn shape_of(functions: Functions, id: FuncId) -> Option<Shape>
     requires { HaveCode (program_of functions) }
     ensures { IfSome result (λ shape. HasShapeIn (program_of functions.entry) id shape) }
 {
-    if id.0 >= functions.funcs.len() {
-        return None;
-    }
-    let code = functions.codes.get(functions.funcs.get(id.0).code);
+    let code = code_of(functions, id)?;
     if code.params > code.stack {
         return None;
     }
@@ -96,6 +142,20 @@ pub fn shape_of(functions: Functions, id: FuncId) -> Option<Shape>
         vararg: code.vararg,
         stack: code.stack as usize,
     })
+}
+
+/// The code of a function.
+#[inline(always)]
+pub(crate) fn code_of<'a>(functions: Functions<'a>, id: FuncId) -> Option<&'a Code>
+    requires { HaveCode (program_of functions) }
+    ensures { IfSome result (λ code. HasCode (program_of functions.entry) id code.now) }
+{
+    if id.0 >= functions.funcs.len() {
+        return None;
+    }
+    let func = functions.funcs.get(id.0);
+    let code = functions.codes.get(func.code);
+    Some(code)
 }
 
 /// Whether the frame on top may give its registers from one on up: it has all those of its code, and nothing is open from the register `free` on.

@@ -1,5 +1,5 @@
 // From which register on nothing of the frame on top is open or to be closed.
-ghost use Rattle.std.specs.Prelude.{◌≡◌, IfSome};
+ghost use Rattle.std.specs.Prelude.{◌≡◌, IfSome, true};
 ghost use Rattle.lua_stack.specs.Frames.{HasLuaTop};
 ghost use Rattle.frame_calls.specs.Standing.{IsAboveLast, IsClosedFrom};
 
@@ -12,10 +12,18 @@ pub fn closed_from(stack: &mut Stack) -> Option<usize>
     ensures kept { stack.new ≡ stack.old }
     ensures closed { IfSome result (λ register. IsClosedFrom stack.new register) }
 {
-    if stack.is_bare() {
+    if is_bare(stack) {
         return Some(0);
     }
     closed_above(stack)
+}
+
+/// Whether nothing of the frame on top is open or to be closed.
+#[inline(always)]
+pub(crate) fn is_bare(stack: &Stack) -> bool
+    ensures { result ≡ true → IsClosedFrom stack.now 0 }
+{
+    stack.is_bare()
 }
 
 /// From which register on, where some cell of that frame is open or some variable of it is to be closed.

@@ -2,20 +2,19 @@
 // OP_VARARG of lvm.c).
 ghost use Rattle.std.specs.Prelude.{◌≡◌, IfNone, IfSome};
 ghost use Rattle.code_core.specs.Instruction.{b_of, opcode_of};
-ghost use Rattle.code_core.specs.declared.opcode.Opcode.TheVariants.{Call, TailCall};
 ghost use Rattle.lua_stack.specs.Frames.{HasLuaTop};
-ghost use Rattle.frame_calls.specs.Calling.{MayLeave, program_of};
+ghost use Rattle.frame_calls.specs.Calling.{EntersIn, MayLeave, program_of};
 ghost use Rattle.frame_calls.specs.Crossing.{CrossesAt, EntersAt, LeavesAt};
 ghost use Rattle.frame_calls.specs.Listing.{WritesVarargs};
 ghost use Rattle.frame_calls.specs.Returning.{ReturnsIn, said_of};
 
 use crate::calling::{call_function, callee, enter, one_less};
-use crate::closing::closed_from;
+use crate::closing::{closed_from, is_bare};
 use crate::iterating::iterate;
 use crate::listing::write_varargs;
 use crate::opening::return_list;
-use crate::returning::{return_few, return_single, return_values};
-use crate::spreading::{enter_with_list, is_list_return, replace_with_list, return_open};
+use crate::returning::{count_returned, is_closed, return_counted, return_single};
+use crate::spreading::{enter_with_list, is_list_return, return_open};
 use crate::stop::Stop;
 use crate::tail_calling::replace;
 use code_core::{Instruction, Opcode};
@@ -133,17 +132,16 @@ fn enter_called(stack: &mut Stack, stop: Stop) -> Option<()>
 {
     match stop.word.opcode() {
         Some(Opcode::Call) => enter_over(stack, stop),
-        Some(Opcode::TailCall) => enter_in_place(stack, stop),
+        Some(Opcode::TailCall) => replace(stack, stop),
         Some(Opcode::TForCall) => iterate(stack, stop),
         _ => None,
     }
 }
 
-/// By a CALL.
+/// Enters it over the frame on top, with the values of an open list or with so many as the instruction says.
 fn enter_over(stack: &mut Stack, stop: Stop) -> Option<()>
-    requires may { MayLeave stack.old stop }
-    requires is { opcode_of stop.word ≡ Some Call }
-    ensures enters { IfSome result (λ _. EntersAt stack.old stack.new stop.entry) }
+    requires { MayLeave stack.old stop }
+    ensures enters { IfSome result (λ _. EntersIn stack.old stack.new stop.entry.size (program_of stop.entry.functions) stop.entry.words.now stop.entry.pc stop.entry.word) }
     ensures kept { IfNone result (stack.new ≡ stack.old) }
     ensures listed { stack.new.open_cells ≡ stack.old.open_cells }
 {
@@ -153,33 +151,23 @@ fn enter_over(stack: &mut Stack, stop: Stop) -> Option<()>
     enter(stack, stop)
 }
 
-/// By a TAILCALL.
-fn enter_in_place(stack: &mut Stack, stop: Stop) -> Option<()>
-    requires may { MayLeave stack.old stop }
-    requires is { opcode_of stop.word ≡ Some TailCall }
-    ensures enters { IfSome result (λ _. EntersAt stack.old stack.new stop.entry) }
-    ensures kept { IfNone result (stack.new ≡ stack.old) }
-    ensures listed { stack.new.open_cells ≡ stack.old.open_cells }
-{
-    if stop.word.b() == 0 {
-        return replace_with_list(stack, stop);
-    }
-    replace(stack, stop)
-}
-
-/// A return: of all values of an open list, or of so many as the instruction says.
+/// A return from a frame of which nothing is open or to be closed: of all values of an open list, or of so many as the instruction says.
 fn return_back(stack: &mut Stack, stop: Stop) -> Option<()>
     requires { MayLeave stack.old stop }
     ensures returns { IfSome result (λ _. LeavesAt stack.old stack.new stop.entry) }
     ensures kept { IfNone result (stack.new ≡ stack.old) }
     ensures listed { stack.new.open_cells ≡ stack.old.open_cells }
 {
+    if !is_closed(stack, stop.closed) {
+        return None;
+    }
     if is_list_return(stop.word) {
         return return_open(stack, stop);
     }
-    match return_values(stack, stop) {
+    let count = count_returned(stop.word)?;
+    match return_counted(stack, stop, count) {
         Some(()) => Some(()),
-        None => return_list(stack, stop),
+        None => return_list(stack, stop, count),
     }
 }
 
@@ -225,10 +213,13 @@ fn return_one(stack: &mut Stack, stop: Stop) -> Option<()>
     ensures listed { stack.new.open_cells ≡ stack.old.open_cells }
 {
     let count = count_said(stop.word)?;
+    if !is_bare(stack) {
+        return None;
+    }
     if count == 1 {
         return return_single(stack, stop);
     }
-    return_few(stack, stop, count)
+    return_counted(stack, stop, count)
 }
 
 /// How many values a RETURN returns, where it says so. The compiler writes no other opcode for returns.
@@ -250,7 +241,7 @@ fn may_return(stack: &Stack, i: Instruction) -> bool
     if !is_return(i) {
         return false;
     }
-    stack.is_bare()
+    is_bare(stack)
 }
 
 /// Whether it is a return.

@@ -2,9 +2,9 @@
 ghost use Rattle.std.specs.Prelude.{◌≡◌, IfNone, IfSome};
 ghost use Rattle.frame_calls.specs.Calling.{IteratesOver, MayLeave, program_of};
 
-use crate::calling::{callee, may_give_up, shape_of};
+use crate::calling::enterable;
 use crate::stop::Stop;
-use lua_stack::{GREATEST_DEPTH, Stack, Wait};
+use lua_stack::{Stack, Wait};
 
 /// A TFORCALL whose iterator is a Lua function: the function's frame is on top, with copies of the state and the control value. `None`, with all as before, where the
 /// call takes more than the stack.
@@ -14,17 +14,18 @@ pub(crate) fn iterate(stack: &mut Stack, stop: Stop) -> Option<()>
     ensures kept { IfNone result (stack.new ≡ stack.old) }
     ensures listed { stack.new.open_cells ≡ stack.old.open_cells }
 {
-    if stack.len() >= GREATEST_DEPTH {
-        return None;
-    }
     let register = stop.word.a() as usize;
     let keeps = stop.word.a() as usize + 4;
-    let id = callee(stack.registers(), register, 2)?;
-    let shape = shape_of(stop.functions, id)?;
-    if !may_give_up(stack, keeps, stop.size, keeps, stop.closed) {
-        return None;
-    }
-    match stack.call_behind(register, 2, keeps, Wait::ForIterator, stop.size, id, shape) {
+    let callee = enterable(stack, stop, register, 2, keeps, keeps)?;
+    match stack.call_behind(
+        register,
+        2,
+        keeps,
+        Wait::ForIterator,
+        stop.size,
+        callee.id,
+        callee.shape,
+    ) {
         Ok(()) => Some(()),
         Err(_) => None,
     }

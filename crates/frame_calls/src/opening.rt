@@ -1,32 +1,31 @@
 // Returns to a Lua frame whose CALL takes all values that come as an open list (luaD_poscall of ldo.c, OP_CALL of lvm.c, where C is 0).
-ghost use Rattle.std.specs.Prelude.{◌≡◌, IfNone, IfSome, true};
-ghost use Rattle.code_core.specs.Instruction.{c_of, opcode_of};
+ghost use Rattle.std.specs.Prelude.{◌≡◌, IfNone, IfSome, Some, true};
+ghost use Rattle.code_core.specs.Instruction.{b_of, c_of, opcode_of};
 ghost use Rattle.lua_stack.specs.declared.frame.Wait.TheVariants.{ForCall};
 ghost use Rattle.frame_calls.specs.Calling.{HaveCode, MayLeave, is_call, program_of};
 ghost use Rattle.frame_calls.specs.Opening.{IsListTaker, ReturnsList, TakesListIn};
+ghost use Rattle.frame_calls.specs.Returning.{count_of};
+ghost use Rattle.frame_calls.specs.Standing.{IsClosedFrom};
 
-use crate::returning::{Taker, caller_of, count_returned, hand, is_first, returned_from};
+use crate::calling::code_of;
+use crate::returning::{Taker, caller_of, hand_back};
 use crate::stop::{Functions, Stop};
 use code_core::{Instruction, Opcode, fetch};
 use lua_stack::{LuaState, Stack, Wait};
 
 /// A return of at most two values to a Lua frame whose CALL takes all that come: they are an open list there, and that frame runs again behind its instruction.
-/// `None`, with all as before, at any other instruction, and where the return takes more than the stack.
-pub(crate) fn return_list(stack: &mut Stack, stop: Stop) -> Option<()>
-    requires { MayLeave stack.old stop }
+/// `None`, with all as before, where the return takes more than the stack.
+pub(crate) fn return_list(stack: &mut Stack, stop: Stop, count: usize) -> Option<()>
+    requires may { MayLeave stack.old stop }
+    requires closed { IsClosedFrom stack.old 0 }
+    requires says { count_of (opcode_of stop.word) (b_of stop.word) ≡ Some count }
     ensures returns { IfSome result (λ _. ReturnsList stack.old stack.new (program_of stop.entry.functions) stop.entry.word) }
     ensures kept { IfNone result (stack.new ≡ stack.old) }
     ensures listed { stack.new.open_cells ≡ stack.old.open_cells }
 {
-    let count = count_returned(stop.word)?;
-    if !is_first(stop.closed) {
-        return None;
-    }
-    let given = returned_from(stack.registers(), stop.word.a() as usize, count)?;
     let caller = caller_of(stack)?;
     let taker = list_taker_of(stop.functions, caller, count)?;
-    stack.pop();
-    hand(stack, taker, given);
+    hand_back(stack, stop.word.a() as usize, count, taker)?;
     stack.set_opened(count);
     Some(())
 }
@@ -36,12 +35,7 @@ pub fn list_taker_of(functions: Functions, caller: LuaState, count: usize) -> Op
     requires { HaveCode (program_of functions) }
     ensures { IfSome result (λ t. TakesListIn (program_of functions.entry) caller count t) }
 {
-    if caller.function.0 >= functions.funcs.len() {
-        return None;
-    }
-    let code = functions
-        .codes
-        .get(functions.funcs.get(caller.function.0).code);
+    let code = code_of(functions, caller.function)?;
     list_taker_in(&code.words, caller, count)
 }
 

@@ -3,13 +3,15 @@
 ghost use Rattle.std.specs.Prelude.{◌≡◌, ◌+◌, ◌<◌, ◌≤◌, length, map, [], ◌∷◌, IfNone, IfSome, Some, slice_get, true};
 ghost use Rattle.code_core.specs.Instruction.{b_of, opcode_of};
 ghost use Rattle.int_core.specs.Value.{range, write_all};
-ghost use Rattle.lua_stack.specs.Frames.{HasRegisters, TopBecomes, with_registers};
+ghost use Rattle.lua_stack.specs.Frames.{HasLuaTop, HasRegisters, NoneFrom, TopBecomes, with_registers};
 ghost use Rattle.table_core.specs.declared.value.Value.TheVariants.{Nil};
 ghost use Rattle.lua_stack.specs.declared.frame.Wait.TheVariants.{Dropped, ForCall, ForIterator, ForValue};
+ghost use Rattle.frame_calls.specs.Arguments.{IsInFront};
 ghost use Rattle.frame_calls.specs.Calling.{HaveCode, MayLeave, program_of};
-ghost use Rattle.frame_calls.specs.Returning.{AreFirst, GivesBack, HasKept, IsCaller, IsGiven, IsInFront, IsTaker, ReadsAt, ReturnsIn, TakesIn, Wants, WantsAnywhere, count_of, is_operator, taken};
+ghost use Rattle.frame_calls.specs.Returning.{AreFirst, GivesBack, HandsBack, HasBelow, HasKept, IsCaller, IsGiven, IsTaker, IsTakerBelow, ReadsAt, TakesIn, Wants, WantsAnywhere, count_of, is_operator, taken};
+ghost use Rattle.frame_calls.specs.Standing.{IsClosedFrom};
 
-use crate::calling::{is_call, one_less, register_of};
+use crate::calling::{code_of, is_call, one_less, register_of};
 use crate::stop::{Functions, Stop};
 use code_core::{Instruction, Opcode, fetch};
 use lua_stack::{LuaState, Stack, Wait};
@@ -30,59 +32,37 @@ pub struct Given {
     pub second: Value,
 }
 
-/// A return to a Lua frame whose CALL or TFORCALL wants at most two values, or that waits for a handler of a value, an operator or a store: that frame runs again,
-/// after its instruction. `None`, with all as before, at any other instruction, where more are wanted, and where the return takes more than the stack.
-#[inline(always)]
-pub(crate) fn return_values(stack: &mut Stack, stop: Stop) -> Option<()>
-    requires { MayLeave stack.old stop }
-    ensures returns { IfSome result (λ _. ReturnsIn stack.old stack.new (program_of stop.entry.functions) stop.entry.word) }
-    ensures kept { IfNone result (stack.new ≡ stack.old) }
-    ensures listed { stack.new.open_cells ≡ stack.old.open_cells }
-{
-    let count = count_returned(stop.word)?;
-    return_counted(stack, stop, count)
-}
-
-/// The return of so many values from the register that the instruction names.
+/// The return of so many values, from the register that the instruction names, to a Lua frame whose CALL or TFORCALL wants at most two, or that waits for a handler of
+/// a value, an operator or a store: that frame runs again, after its instruction. `None`, with all as before, where more are wanted, and where the return takes more
+/// than the stack.
 #[inline(always)]
 pub(crate) fn return_counted(stack: &mut Stack, stop: Stop, count: usize) -> Option<()>
-    requires { MayLeave stack.old stop }
+    requires may { MayLeave stack.old stop }
+    requires closed { IsClosedFrom stack.old 0 }
     ensures gives { IfSome result (λ _. GivesBack stack.old stack.new (program_of stop.entry.functions) stop.entry.word count) }
     ensures kept { IfNone result (stack.new ≡ stack.old) }
     ensures listed { stack.new.open_cells ≡ stack.old.open_cells }
 {
-    if !is_first(stop.closed) {
-        return None;
-    }
-    let given = returned_from(stack.registers(), stop.word.a() as usize, count)?;
-    let caller = caller_of(stack)?;
-    let taker = taker_of(stop.functions, caller)?;
-    stack.pop();
-    hand(stack, taker, given);
-    Some(())
+    let taker = taker_below(stack, stop.functions)?;
+    hand_back(stack, stop.word.a() as usize, count, taker)
 }
 
 /// The return of one value to a frame that wants one, as most returns are: the value is read and written as it stands.
 #[inline(always)]
 pub(crate) fn return_single(stack: &mut Stack, stop: Stop) -> Option<()>
     requires may { MayLeave stack.old stop }
-    requires says { count_of (opcode_of stop.word) (b_of stop.word) ≡ Some 1 }
-    ensures returns { IfSome result (λ _. ReturnsIn stack.old stack.new (program_of stop.entry.functions) stop.entry.word) }
+    requires closed { IsClosedFrom stack.old 0 }
+    ensures gives { IfSome result (λ _. GivesBack stack.old stack.new (program_of stop.entry.functions) stop.entry.word 1) }
     ensures kept { IfNone result (stack.new ≡ stack.old) }
     ensures listed { stack.new.open_cells ≡ stack.old.open_cells }
 {
-    let bare = stack.is_bare();
-    if !bare {
-        return None;
-    }
     let register = stop.word.a() as usize;
     let registers = stack.registers();
     if register >= registers.len() {
         return None;
     }
     let value = value_in(registers, register);
-    let caller = caller_of(stack)?;
-    let taker = taker_of(stop.functions, caller)?;
+    let taker = taker_below(stack, stop.functions)?;
     let one = wants_one(taker);
     if !one {
         return None;
@@ -92,28 +72,26 @@ pub(crate) fn return_single(stack: &mut Stack, stop: Stop) -> Option<()>
     Some(())
 }
 
-/// The return of so many values from a frame of which nothing is open or to be closed: of none, as most functions end that are called for what they do, or of the two
-/// that an iterator gives.
+/// The frame on top is gone, and the one below gets what it wants of so many of its values, from a register on.
 #[inline(always)]
-pub(crate) fn return_few(stack: &mut Stack, stop: Stop, count: usize) -> Option<()>
-    requires may { MayLeave stack.old stop }
-    requires says { count_of (opcode_of stop.word) (b_of stop.word) ≡ Some count }
-    ensures returns { IfSome result (λ _. ReturnsIn stack.old stack.new (program_of stop.entry.functions) stop.entry.word) }
+pub(crate) fn hand_back(
+    stack: &mut Stack,
+    register: usize,
+    count: usize,
+    taker: Taker,
+) -> Option<()>
+    requires top { HasLuaTop stack.old }
+    requires closed { NoneFrom stack.old 0 }
+    requires few { taker.count ≤ 2 }
+    requires below { HasBelow stack.old (taker.register + taker.count) }
+    ensures back { IfSome result (λ _. HandsBack stack.old stack.new register count taker) }
     ensures kept { IfNone result (stack.new ≡ stack.old) }
     ensures listed { stack.new.open_cells ≡ stack.old.open_cells }
 {
-    let bare = stack.is_bare();
-    if !bare {
-        return None;
-    }
-    return_counted(
-        stack,
-        Stop {
-            closed: Some(0),
-            ..stop
-        },
-        count,
-    )
+    let given = returned_from(stack.registers(), register, count)?;
+    stack.pop();
+    hand(stack, taker, given);
+    Some(())
 }
 
 /// The value of a register that is there.
@@ -158,10 +136,11 @@ pub(crate) fn count_returned(i: Instruction) -> Option<usize>
     }
 }
 
-/// Whether this is the first register.
+/// Whether nothing of the frame on top is open or to be closed, by what is known of it.
 #[inline(always)]
-pub(crate) fn is_first(closed: Option<usize>) -> bool
-    ensures { result ≡ true → closed ≡ Some 0 }
+pub(crate) fn is_closed(stack: &Stack, closed: Option<usize>) -> bool
+    requires { IfSome closed (λ register. IsClosedFrom stack.now register) }
+    ensures { result ≡ true → IsClosedFrom stack.now 0 }
 {
     match closed {
         Some(register) => register == 0,
@@ -203,6 +182,17 @@ pub fn second_of(registers: &[Value], register: usize) -> Option<Value>
     register_of(registers, next)
 }
 
+/// What the frame below wants, where it is a Lua frame that takes at most two values.
+#[inline(always)]
+fn taker_below(stack: &Stack, functions: Functions) -> Option<Taker>
+    requires { HaveCode (program_of functions) }
+    ensures { IfSome result (λ t. IsTakerBelow stack.now (λ c. TakesIn (program_of functions.entry) c t)) }
+{
+    let caller = caller_of(stack)?;
+    let taker = taker_of(functions, caller)?;
+    Some(taker)
+}
+
 /// The frame below, where it is a Lua frame.
 #[inline(always)]
 pub(crate) fn caller_of(stack: &Stack) -> Option<LuaState>
@@ -217,12 +207,7 @@ pub fn taker_of(functions: Functions, caller: LuaState) -> Option<Taker>
     requires { HaveCode (program_of functions) }
     ensures { IfSome result (λ t. TakesIn (program_of functions.entry) caller t) }
 {
-    if caller.function.0 >= functions.funcs.len() {
-        return None;
-    }
-    let code = functions
-        .codes
-        .get(functions.funcs.get(caller.function.0).code);
+    let code = code_of(functions, caller.function)?;
     taker_in(&code.words, caller)
 }
 

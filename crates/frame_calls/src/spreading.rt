@@ -1,30 +1,25 @@
-// Calls of Lua functions with all values of an open list, which change nothing but the stack (OP_CALL and OP_TAILCALL of lvm.c, where B is 0).
+// Open lists whose values are given to a Lua function or go back to a Lua frame, which change nothing but the stack (OP_CALL, OP_TAILCALL and OP_RETURN of lvm.c,
+// where B is 0).
 ghost use Rattle.std.specs.Prelude.{◌≡◌, IfNone, IfSome, Some, true};
 ghost use Rattle.code_core.specs.Check.{leaves, open_from};
 ghost use Rattle.code_core.specs.Instruction.{b_of, opcode_of};
 ghost use Rattle.code_core.specs.declared.opcode.Opcode.TheVariants.{Return};
 ghost use Rattle.lua_stack.specs.Frames.{HasLuaTop};
-ghost use Rattle.frame_calls.specs.Calling.{MayLeave, program_of};
-ghost use Rattle.frame_calls.specs.Spreading.{IsSpread, ListEnds, ReplacesOver, ReturnsOpen, SpreadsOver};
+ghost use Rattle.frame_calls.specs.Arguments.{AreArguments, ListEnds};
+ghost use Rattle.frame_calls.specs.Calling.{EntersIn, MayLeave, program_of};
+ghost use Rattle.frame_calls.specs.Returning.{ReturnsOpen};
+ghost use Rattle.frame_calls.specs.Standing.{IsClosedFrom};
 
-use crate::calling::{callee, may_give_up, shape_of};
-use crate::returning::{in_front, is_first, return_counted};
+use crate::calling::{enterable, one_less};
+use crate::returning::{in_front, return_counted};
 use crate::stop::Stop;
 use code_core::{Instruction, Opcode};
-use lua_stack::{GREATEST_DEPTH, Shape, Stack, Wait};
-use table_core::FuncId;
-
-/// A Lua function that is called, and how many values it gets: those behind its register up to the end of the open list.
-#[derive(Clone, Copy)]
-pub(crate) struct SpreadCall {
-    given: usize,
-    id: FuncId,
-    shape: Shape,
-}
+use lua_stack::{Stack, Wait};
 
 /// A RETURN of all values from a register up to the end of the open list, to a Lua frame that wants at most two.
 pub(crate) fn return_open(stack: &mut Stack, stop: Stop) -> Option<()>
     requires may { MayLeave stack.old stop }
+    requires closed { IsClosedFrom stack.old 0 }
     requires all { (opcode_of stop.word ≡ Some Return) × (b_of stop.word ≡ 0) }
     ensures returns { IfSome result (λ _. ReturnsOpen stack.old stack.new (program_of stop.entry.functions) stop.entry.words.now stop.entry.pc stop.entry.word) }
     ensures kept { IfNone result (stack.new ≡ stack.old) }
@@ -38,64 +33,51 @@ pub(crate) fn return_open(stack: &mut Stack, stop: Stop) -> Option<()>
 
 /// A CALL with an open list: the function's frame is on top. `None`, with all as before, where the call takes more than the stack.
 pub(crate) fn enter_with_list(stack: &mut Stack, stop: Stop) -> Option<()>
-    requires { MayLeave stack.old stop }
-    ensures enters { IfSome result (λ _. SpreadsOver stack.old stack.new stop.entry.size (program_of stop.entry.functions) stop.entry.words.now stop.entry.pc stop.entry.word) }
+    requires may { MayLeave stack.old stop }
+    requires all { b_of stop.word ≡ 0 }
+    ensures enters { IfSome result (λ _. EntersIn stack.old stack.new stop.entry.size (program_of stop.entry.functions) stop.entry.words.now stop.entry.pc stop.entry.word) }
     ensures kept { IfNone result (stack.new ≡ stack.old) }
     ensures listed { stack.new.open_cells ≡ stack.old.open_cells }
 {
-    if stack.len() >= GREATEST_DEPTH {
-        return None;
-    }
     let register = stop.word.a() as usize;
-    let called = spread_callee(stack, stop)?;
-    if !may_give_up(stack, register, stop.size, stop.size, stop.closed) {
-        return None;
-    }
+    let given = count_listed(stack, stop)?;
+    let callee = enterable(stack, stop, register, given, register, stop.size)?;
     match stack.call(
         register,
-        called.given,
+        given,
         Wait::ForCall,
         stop.size,
-        called.id,
-        called.shape,
+        callee.id,
+        callee.shape,
     ) {
         Ok(()) => Some(()),
         Err(_) => None,
     }
 }
 
-/// A TAILCALL with an open list: the function's frame takes the place of the one on top. `None`, with all as before, where the call takes more than the stack.
-pub(crate) fn replace_with_list(stack: &mut Stack, stop: Stop) -> Option<()>
-    requires { MayLeave stack.old stop }
-    ensures replaces { IfSome result (λ _. ReplacesOver stack.old stack.new (program_of stop.entry.functions) stop.entry.words.now stop.entry.pc stop.entry.word) }
-    ensures kept { IfNone result (stack.new ≡ stack.old) }
-    ensures listed { stack.new.open_cells ≡ stack.old.open_cells }
+/// How many values a call gives: as many as it says, or those of the open list.
+#[inline(always)]
+pub(crate) fn count_given(stack: &Stack, stop: Stop) -> Option<usize>
+    requires { HasLuaTop stack.now }
+    ensures { IfSome result (λ given. AreArguments stack.now stop.entry.words.now stop.entry.pc stop.entry.word given) }
 {
-    if !is_first(stop.closed) {
-        return None;
+    if stop.word.b() == 0 {
+        return count_listed(stack, stop);
     }
-    if stack.len() > GREATEST_DEPTH {
-        return None;
-    }
-    let register = stop.word.a() as usize;
-    let called = spread_callee(stack, stop)?;
-    match stack.tail_call(register, called.given, called.id, called.shape) {
-        Ok(()) => Some(()),
-        Err(_) => None,
-    }
+    let given = one_less(stop.word.b())?;
+    Some(given)
 }
 
-/// The Lua function that an instruction calls with an open list.
-fn spread_callee(stack: &Stack, stop: Stop) -> Option<SpreadCall>
-    requires { MayLeave stack.now stop }
-    ensures { IfSome result (λ call. IsSpread stack.now (program_of stop.entry.functions) stop.entry.words.now stop.entry.pc stop.entry.word call) }
+/// How many values stand behind the register of a call up to the end of the open list.
+fn count_listed(stack: &Stack, stop: Stop) -> Option<usize>
+    requires top { HasLuaTop stack.now }
+    requires all { b_of stop.word ≡ 0 }
+    ensures { IfSome result (λ given. AreArguments stack.now stop.entry.words.now stop.entry.pc stop.entry.word given) }
 {
     let register = stop.word.a() as usize;
     let end = list_end(stack, stop.words, stop.pc)?;
     let given = end.checked_sub(register + 1)?;
-    let id = callee(stack.registers(), register, given)?;
-    let shape = shape_of(stop.functions, id)?;
-    Some(SpreadCall { given, id, shape })
+    Some(given)
 }
 
 /// Behind which register the open list ends that the instruction in front of a place leaves.

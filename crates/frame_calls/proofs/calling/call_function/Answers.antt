@@ -18,5 +18,5 @@ returns-clause-calls c =
     record {
       is_call = call_is (opcode_of c.args.stop.word) (sym c.is_call.ensures ∙ yes);
       paid = paid;
-      enters = subst (λ (s : KeptStack). EntersIn s c.enter.new.stack c.args.stop.size (program_of c.args.stop.functions) c.args.stop.word) c.closed_from-closed.ensures.kept c.in_ok-enter.ensures.enters;
+      enters = subst (λ (s : KeptStack). EntersIn s c.enter.new.stack c.args.stop.size (program_of c.args.stop.functions) c.args.stop.words.now c.args.stop.pc c.args.stop.word) c.closed_from-closed.ensures.kept c.in_ok-enter.ensures.enters;
     }

@@ -1,4 +1,4 @@
 use Rattle.frame_calls.proofs.closing.closed_from.Goals as goal
 
 pub returns-then-is_bare-clause-closed : goal.returns-then-is_bare-clause-closed
-returns-then-is_bare-clause-closed c = record { none = c.is_bare.ensures.cells c.if-is_bare.true; pending = c.is_bare.ensures.pending c.if-is_bare.true }
+returns-then-is_bare-clause-closed c = c.is_bare.ensures c.if-is_bare.true

@@ -1,16 +1,14 @@
-use Rattle.std.proofs.Common.{◌≡◌, ◌<◌, length, rules, arith, true, ap, ◌∙◌, sym, subst}
-use Rattle.std.proofs.lemmas.List.{length-map}
+use Rattle.std.proofs.Common.{◌≡◌, ◌<◌, length, rules, arith, true, subst}
 use Rattle.int_core.specs.Value.{write_all}
 use Rattle.lua_stack.specs.Frames.{TopBecomes, with_opened, with_registers}
+use Rattle.frame_calls.proofs.Calls.{has_registers}
 use Rattle.frame_calls.proofs.Listed.{goes_behind, list_is, written_on_top}
 use Rattle.frame_calls.proofs.listing.list_varargs.Goals as goal
 
 pub write_varargs-requires : goal.write_varargs-requires
 write_varargs-requires c =
-    let h = c.requires.top in
-    let many = ap length (sym (c.registers.ensures h.value h.below h.top h.is)) ∙ length-map c.registers.result.now h.value in
     let room : c.a-register.result < length c.registers.result.now = search (rules, arith) in
-    record { value = h.value; below = h.below; top = h.top; is = h.is; room = omega (arith, many, room) }
+    has_registers c.registers.result.now c.requires.top c.registers.ensures (omega (arith, room))
 
 pub set_pc-requires : goal.set_pc-requires
 set_pc-requires c =

@@ -1,42 +1,32 @@
-use Rattle.std.proofs.Common.{◌≡◌, subst, ◌∙◌, rules, true}
-use Rattle.std.specs.Prelude.{IfSome}
-use Rattle.frame_calls.specs.Returning.{IsGiven}
-use Rattle.frame_calls.specs.Standing.{IsClosedFrom}
-use Rattle.frame_calls.proofs.Takers.{both_changes, caller_kept, frames_there, top_after}
+use Rattle.std.proofs.Common.{subst, ◌∙◌}
+use Rattle.frame_calls.specs.Returning.{HandsBack}
+use Rattle.frame_calls.proofs.Takers.{caller_kept, top_after}
 use Rattle.frame_calls.proofs.opening.return_list.Goals as goal
 
-pub pop-requires : goal.pop-requires
-pop-requires c =
-    let yes : c.is_first.result ≡ true = search rules in
-    let closed = subst (λ o. IfSome o (λ register. IsClosedFrom c.args.stack.now register)) (c.is_first.ensures yes) c.requires.closed in
-    record { there = frames_there c.requires.top; closed = λ f below t e. closed.none }
-
-pub hand-requires : goal.hand-requires
-hand-requires c = record { few = c.in_ok-taker.ensures.takes.few; room = caller_kept _ c.in_ok-caller.ensures c.pop.ensures.frames c.in_ok-taker.ensures.takes.room }
+pub hand_back-requires : goal.hand_back-requires
+hand_back-requires c = record {
+  top = c.requires.may.top;
+  closed = c.requires.closed.none;
+  few = c.in_ok-taker.ensures.takes.few;
+  below = record { caller = c.in_ok-caller.caller; calls = c.in_ok-caller.ensures; room = c.in_ok-taker.ensures.takes.room };
+}
 
 pub set_opened-requires : goal.set_opened-requires
-set_opened-requires c = top_after (caller_kept _ c.in_ok-caller.ensures c.pop.ensures.frames c.in_ok-taker.ensures.takes.room) c.hand.ensures
+set_opened-requires c =
+    let back = c.in_ok-hand_back.ensures.back in
+    top_after (caller_kept _ c.in_ok-caller.ensures back.pops c.in_ok-taker.ensures.takes.room) back.hands
 
 pub returns-clause-returns : goal.returns-clause-returns
-returns-clause-returns c =
-    let yes : c.is_first.result ≡ true = search rules in
-    record {
-      count = c.in_ok-count.count;
-      is = search rules;
-      closed = subst (λ o. IfSome o (λ register. IsClosedFrom c.args.stack.now register)) (c.is_first.ensures yes) c.requires.closed;
-      registers = c.registers.result.now;
-      are = c.registers.ensures;
-      given = c.in_ok-given.given;
-      gives = subst (λ a. IsGiven c.registers.result.now a c.in_ok-count.count c.in_ok-given.given) c.a.ensures c.in_ok-given.ensures;
-      caller = c.in_ok-caller.caller;
-      calls = c.in_ok-caller.ensures;
-      taker = c.in_ok-taker.taker;
-      takes = c.in_ok-taker.ensures;
-      popped = c.pop.new.self;
-      pops = c.pop.ensures.frames;
-      hands = both_changes c.hand.ensures c.set_opened.ensures;
-      listed = c.set_opened.ensures.cells ∙ c.hand.ensures.cells ∙ c.pop.ensures.cells;
-    }
+returns-clause-returns c = record {
+  count = c.args.count;
+  is = c.requires.says;
+  closed = c.requires.closed;
+  taker = c.in_ok-taker.taker;
+  below = record { caller = c.in_ok-caller.caller; calls = c.in_ok-caller.ensures; takes = c.in_ok-taker.ensures };
+  handed = c.hand_back.new.stack;
+  back = subst (λ a. HandsBack c.args.stack.now c.hand_back.new.stack a c.args.count c.in_ok-taker.taker) c.a.ensures c.in_ok-hand_back.ensures.back;
+  opens = c.set_opened.ensures;
+}
 
 pub returns-clause-listed : goal.returns-clause-listed
-returns-clause-listed c = c.set_opened.ensures.cells ∙ c.hand.ensures.cells ∙ c.pop.ensures.cells
+returns-clause-listed c = c.set_opened.ensures.cells ∙ c.in_ok-hand_back.ensures.listed

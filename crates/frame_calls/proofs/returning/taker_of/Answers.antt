@@ -1,18 +1,7 @@
-use Rattle.std.proofs.Common.{subst}
 use Rattle.std.proofs.lemmas.Option.{IfSome_then}
 use Rattle.frame_calls.specs.Returning.{IsTaker}
+use Rattle.frame_calls.proofs.Takers.{takes_by}
 use Rattle.frame_calls.proofs.returning.taker_of.Goals as goal
 
-pub get-code-requires : goal.get-code-requires
-get-code-requires c = c.requires.code_there c.args.caller.function.0 c.get.result.now c.get.ensures
-
 pub returns : goal.returns
-returns c =
-    IfSome_then c.taker_in.result c.taker_in.ensures
-    (λ taker takes. record {
-      func = c.get.result.now;
-      func_there = c.get.ensures;
-      code = c.get-code.result.now;
-      code_there = c.get-code.ensures;
-      takes = subst (λ words. IsTaker words c.args.caller taker) c.deref.ensures.value takes;
-    })
+returns c = IfSome_then c.taker_in.result c.taker_in.ensures (λ taker takes. takes_by (λ words. IsTaker words c.args.caller taker) c.in_ok-code.ensures c.deref.ensures.value takes)

@@ -1,6 +1,6 @@
 use Rattle.std.proofs.Common.{◌≡◌, Some, ap, sym, ◌∙◌, arith, rules}
 use Rattle.code_core.specs.Instruction.{c_of}
-use Rattle.frame_calls.proofs.SpreadCalls.{call_opens, varargs_open}
+use Rattle.frame_calls.proofs.OpenLists.{call_opens, varargs_open}
 use Rattle.frame_calls.proofs.spreading.opened_from.Goals as goal
 
 pub returns-in-Some-Call : goal.returns-in-Some-Call
