@@ -1,17 +1,16 @@
 -- The whole of the tokens.
-use Rattle.std.proofs.Common.{◌≡◌, ℕ, ◌+◌, ◌-◌, List, [], ◌∷◌, ◌++◌, length, drop, Option, Some, None, Bool, true, false, refl, sym, ap, subst, ◌∙◌, arith, length-append}
+use Rattle.std.proofs.Common.{◌≡◌, ℕ, ◌-◌, List, [], ◌∷◌, ◌++◌, length, drop, Some, Bool, true, false, refl, sym, ap, subst, ◌∙◌, arith, length-append}
 use Rattle.std.specs.Prelude.{slice_get}
 use Rattle.std.specs.Option.{option_map}
 use Rattle.tree_core.specs.Tree.{Block}
 use Rattle.lua_lex.specs.Lexical.{EndsOnce, LastWhere, is_end}
-use Rattle.token_cursor.specs.Words.{Lexeme}
+use Rattle.token_cursor.specs.Words.{Lexeme, first}
 use Rattle.lua_parse.specs.Moves.{a_block, chunk, block, gives}
 use Rattle.lua_parse.specs.Grammar.{expects, pass_if}
-use Rattle.lua_parse.specs.Reading.{whole, stuck, Reads, within_stuck, Derives, Stop}
-use Rattle.token_cursor.specs.Words.{first}
+use Rattle.lua_parse.specs.Reading.{whole, stuck, Reads, within_stuck, Derives}
 use Rattle.lua_parse.specs.Answers.{IsRefusal}
 use Rattle.lua_parse.proofs.StopLemmas.{stands, stops, no_tree, stuck_starts}
-use Rattle.lua_parse.proofs.Steps.{Comes, Leads, starts, picked, turned, passed, refused, found, ended}
+use Rattle.lua_parse.proofs.Steps.{Comes, starts, picked, turned, passed, refused, found, ended}
 
 last_behind : (front rest : List Lexeme) → EndsOnce (front ++ rest) → Comes rest → is_end (first rest).0 ≡ true → drop 1 rest ≡ []
 last_behind [] [] once comes is = absurd once

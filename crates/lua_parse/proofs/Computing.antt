@@ -1,5 +1,5 @@
 -- A reading that computes, for examples: with enough steps it says how a list is read.
-use Rattle.std.proofs.Common.{◌≡◌, ℕ, zero, suc, ◌-◌, List, [], ◌∷◌, length, Option, Some, None, refl, sym, ◌∙◌}
+use Rattle.std.proofs.Common.{◌≡◌, ℕ, zero, suc, ◌-◌, List, [], ◌∷◌, length, Option, Some, None, refl}
 use Rattle.token_cursor.specs.Words.{Lexeme}
 use Rattle.lua_parse.specs.Moves.{Piece, Part, Move, pick, pass, refuse, within, gives}
 use Rattle.lua_parse.specs.Grammar.{expects}

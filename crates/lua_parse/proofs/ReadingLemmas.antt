@@ -1,9 +1,8 @@
 -- Each list is read in one way.
-use Rattle.std.proofs.Common.{◌≡◌, ℕ, ◌-◌, List, [], ◌∷◌, length, refl, sym, ◌∙◌}
+use Rattle.std.proofs.Common.{◌≡◌, List, refl}
 use Rattle.token_cursor.specs.Words.{Lexeme}
-use Rattle.lua_parse.specs.Moves.{Move, pick, pass, refuse, within, gives}
-use Rattle.lua_parse.specs.Grammar.{expects}
-use Rattle.lua_parse.specs.Reading.{Outcome, whole, cut, stuck, Reads, picks, picks_none, passes, passes_none, refuses, refuses_none, is_whole, within_whole, within_cut, within_stuck}
+use Rattle.lua_parse.specs.Moves.{Move}
+use Rattle.lua_parse.specs.Reading.{Outcome, whole, Reads, picks, picks_none, passes, passes_none, refuses, refuses_none, is_whole, within_whole, within_cut, within_stuck}
 
 pub only : {move : Move} {tokens : List Lexeme} {o p : Outcome} → Reads move tokens o → Reads move tokens p → o ≡ p
 only (picks h) (picks h') = only h h'

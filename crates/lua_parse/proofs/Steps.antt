@@ -1,17 +1,28 @@
 -- The steps of the parser through a production.
-use Rattle.std.proofs.Common.{◌≡◌, ℕ, ◌+◌, ◌-◌, ◌<◌, ◌≤◌, List, [], ◌∷◌, ◌++◌, drop, length, Option, Some, None, Result, Ok, Err, IfOk, refl, sym, ap, subst, ◌∙◌, arith, true, false, Bool}
+use Rattle.std.proofs.Common.{◌≡◌, ℕ, ◌-◌, ◌<◌, ◌≤◌, List, [], ◌∷◌, ◌++◌, drop, length, Option, Result, Ok, Err, refl, sym, ap, ap₂, subst, ◌∙◌, arith, true, false, Bool}
 use Rattle.std.specs.Prelude.{nat_lt, map, if◌then◌else◌, ◌||◌}
 use Rattle.std.proofs.lemmas.Bool.Decides.{nat_tests}
 use Rattle.std.proofs.lemmas.List.{map-append}
 use Rattle.lua_parse.specs.declared.fault.Fault.{Fault}
 use Rattle.lua_parse.specs.declared.fault.Fault.TheVariants.{Refused, Memory}
-use Rattle.token_cursor.specs.Words.{Lexeme}
-use Rattle.lua_parse.specs.Moves.{Piece, Part, Move, pick, pass, refuse, within, gives}
-use Rattle.lua_parse.specs.Grammar.{expects, only}
+use Rattle.lua_lex.specs.declared.token.Token.{Token}
+use Rattle.std.specs.Option.{option_map}
+use Rattle.std.specs.declared.boxed.Box.{Box}
+use Rattle.std.specs.declared.alloc.Global.{Global}
+use Rattle.tree_core.specs.Tree as tree
+use Rattle.tree_core.specs.declared.tree.Exp.{Exp}
+use Rattle.tree_core.specs.declared.operator.UnOp.{UnOp}
+use Rattle.tree_making.specs.Made.{plain_boxed}
+use Rattle.tree_making.specs.declared.operator.Infix.{Infix}
+use Rattle.token_cursor.specs.declared.level.Level.{Level}
+use Rattle.token_cursor.specs.declared.word.Word.{Word}
+use Rattle.token_cursor.specs.declared.start.Start.{Start}
+use Rattle.token_cursor.specs.Words.{Lexeme, is_word, start_of, unary_of, operator_of, first}
+use Rattle.lua_parse.specs.Moves.{Piece, Part, Move, pick, pass, refuse, within, gives, stat, unary, behind}
+use Rattle.lua_parse.specs.Grammar.{expects, only, stat_move, unary_move, operator_move}
+use Rattle.lua_parse.specs.Words.{constant_of}
 use Rattle.lua_parse.specs.Reading.{Outcome, whole, cut, stuck, Reads, picks, passes, refuses, is_whole, within_whole, within_cut, within_stuck}
 use Rattle.lua_parse.specs.Answers.{Answers}
-use Rattle.token_cursor.specs.Words.{first}
-use Rattle.lua_parse.proofs.StopLemmas.{shorter}
 
 -- the list of tokens has a first one
 abbrev pub Comes : List Lexeme → Type 0
@@ -61,9 +72,36 @@ holds {here = here} other l e = turned l (ap (λ v. if v then here else other) e
 pub fails : {move : Move} {tokens rest : List Lexeme} {b : Bool} {other : Move} (here : Move) → Leads move tokens (if b then here else other) rest → b ≡ false → Leads move tokens other rest
 fails {other = other} here l e = turned l (ap (λ v. if v then here else other) e)
 
+-- what the next token is decides
+decided : {A : Type 0} {move : Move} {tokens rest : List Lexeme} {token : Token} {found given : A} (of : Token → A) (by : A → Move) → Leads move tokens (by (of (first rest).0)) rest → token ≡ (first rest).0 → found ≡ of token → found ≡ given → Leads move tokens (by given) rest
+decided of by l is made e = turned l (ap by (ap of (sym is) ∙ sym made ∙ e))
+
+-- a statement begins with a token of this kind
+pub stat_begins : (room : ℕ) {tokens : List Lexeme} {token : Token} {found given : Start} → Comes tokens → token ≡ (first tokens).0 → found ≡ start_of token → found ≡ given → Leads (expects room stat) tokens (stat_move room (first tokens).1 given) tokens
+stat_begins room {tokens = tokens} comes = decided start_of (stat_move room (first tokens).1) (picked (starts stat room tokens) comes)
+
+-- an operand begins with this operator, or with none
+pub unary_begins : (room : ℕ) {tokens : List Lexeme} {token : Token} {found given : Option UnOp} → Comes tokens → token ≡ (first tokens).0 → found ≡ unary_of token → found ≡ given → Leads (expects room unary) tokens (unary_move room (first tokens).1 given) tokens
+unary_begins room {tokens = tokens} comes = decided unary_of (unary_move room (first tokens).1) (picked (starts unary room tokens) comes)
+
+-- this operator stands behind an operand, or none does
+pub operator_follows : {move : Move} {tokens rest : List Lexeme} {token : Token} {found given : Option Infix} (room : ℕ) (level : Level) (left : tree.Exp) (height : ℕ) → Leads move tokens (expects room (behind level left height)) rest → Comes rest → token ≡ (first rest).0 → found ≡ operator_of level token → found ≡ given → Leads move tokens (operator_move room level left height (first rest).1 given) rest
+operator_follows {rest = rest} room level left height l comes = decided (operator_of level) (operator_move room level left height (first rest).1) (picked l comes)
+
+-- the next token is this expression by itself, or none
+pub constant_is : {token : Token} {line : ℕ} {node made : Option (Box Exp Global)} (t : Lexeme) → token ≡ t.0 → line ≡ t.1 → option_map plain_boxed node ≡ constant_of (token, line) → node ≡ made → constant_of t ≡ option_map plain_boxed made
+constant_is t is at of e = ap₂ (λ a b. constant_of (a, b)) (sym is) (sym at) ∙ sym of ∙ ap (option_map plain_boxed) e
+
 -- the rest is this list
 pub stayed : {move : Move} {tokens rest end : List Lexeme} {place : Move} → Leads move tokens place rest → end ≡ rest → Leads move tokens place end
 stayed {move = move} {tokens = tokens} {place = place} l e = subst (λ ts. Leads move tokens place ts) (sym e) l
+
+-- a word was taken, or not
+pub taken : {move : Move} {tokens rest end : List Lexeme} {here : Move} {b : Bool} (w : Word) (other : Move) → Leads move tokens (if is_word w (first rest).0 then pass here else other) rest → Comes rest → b ≡ is_word w (first rest).0 → end ≡ (if b then drop 1 rest else rest) → b ≡ true → Leads move tokens here end
+taken {rest = rest} w other l comes is end e = passed (holds other l (sym is ∙ e)) comes (end ∙ ap (λ v. if v then drop 1 rest else rest) e)
+
+pub not_taken : {move : Move} {tokens rest end : List Lexeme} {other : Move} {b : Bool} (w : Word) (here : Move) → Leads move tokens (if is_word w (first rest).0 then here else other) rest → Comes rest → b ≡ is_word w (first rest).0 → end ≡ (if b then drop 1 rest else rest) → b ≡ false → Leads move tokens other end
+not_taken {rest = rest} w here l comes is end e = stayed (fails here l (sym is ∙ e)) (end ∙ ap (λ v. if v then drop 1 rest else rest) e)
 
 -- the part stands behind what was made
 pub placed : {B : Type 0} {move : Move} {tokens rest : List Lexeme} {height height' : ℕ} {x y : B} (room : ℕ) (part : B → ℕ → Part) → Leads move tokens (expects room (part x height)) rest → y ≡ x → height' ≡ height → Leads move tokens (expects room (part y height')) rest

@@ -1,11 +1,11 @@
 -- A reading that is stuck, and what the lists in front of it are.
-use Rattle.std.proofs.Common.{◌≡◌, ℕ, zero, suc, ◌+◌, ◌-◌, ◌<◌, ◌≤◌, List, [], ◌∷◌, ◌++◌, length, take, drop, Option, Some, None, refl, sym, ap, subst, ◌∙◌, append_assoc, arith, length-append, length-drop}
+use Rattle.std.proofs.Common.{◌≡◌, ℕ, ◌+◌, ◌-◌, ◌≤◌, List, [], ◌∷◌, ◌++◌, length, take, drop, Option, Some, None, refl, sym, ap, subst, ◌∙◌, append_assoc, arith, length-append, length-drop}
 use Rattle.std.specs.Prelude.{slice_get}
 use Rattle.std.proofs.lemmas.List.{take-append-drop}
 use Rattle.std.proofs.Math.Seq.{take-append-add}
 use Rattle.tree_core.specs.Tree.{Block}
 use Rattle.token_cursor.specs.Words.{Lexeme}
-use Rattle.lua_parse.specs.Moves.{Piece, a_block, Part, chunk, Move, pick, pass, refuse, within, gives}
+use Rattle.lua_parse.specs.Moves.{Piece, Part, chunk, Move, pick, pass, refuse, within}
 use Rattle.lua_parse.specs.Grammar.{expects}
 use Rattle.lua_parse.specs.Reading.{Outcome, whole, cut, stuck, Reads, picks, picks_none, passes, passes_none, refuses, refuses_none, is_whole, within_whole, within_cut, within_stuck, Derives, Front, ends_within, is_all, Stop}
 use Rattle.lua_parse.proofs.ReadingLemmas.{only}

@@ -1,7 +1,5 @@
 -- What the parser's answers say of the tokens.
-use Rattle.std.specs.Prelude.{◌≡◌, ℕ, List, [], ◌∷◌, Bool, true, false, Result, Ok, Err, if◌then◌else◌, map, Option, Some, ◌+◌, slice_get}
-use Rattle.lua_lex.specs.declared.token.Token.TheVariants.{End}
-use Rattle.lua_lex.specs.Lexical.{is_end}
+use Rattle.std.specs.Prelude.{◌≡◌, ℕ, List, Result, Ok, Err, map, Option, Some, ◌+◌, slice_get}
 use Rattle.tree_making.specs.declared.part.Found.{Found}
 use Rattle.lua_parse.specs.declared.fault.Fault.{Fault}
 use Rattle.lua_parse.specs.declared.fault.Fault.TheVariants.{Refused, Memory}

@@ -1,14 +1,14 @@
 -- The grammar (Lua 5.4 manual, 3.3, 3.4 and 9), a production for each part. `expects room part` is what may follow where the part begins and
 -- `room` more levels may be opened. Brackets, blocks, function bodies, operators and suffixes each open one level over what they hold; what a part
 -- gives has a height, which is the number of levels within it.
-use Rattle.std.specs.Prelude.{ℕ, ◌+◌, ◌-◌, max, nat_lt, if◌then◌else◌, ◌||◌, ◌&&◌, Bool, true, false, Option, Some, None, List, [], ◌∷◌, ◌++◌, codes}
+use Rattle.std.specs.Prelude.{ℕ, ◌+◌, ◌-◌, max, nat_lt, if◌then◌else◌, ◌&&◌, Bool, true, false, Option, Some, None, List, [], ◌∷◌, ◌++◌, codes}
 use Rattle.tree_core.specs.declared.name.Name.{Name}
 use Rattle.tree_core.specs.declared.name.Declared.{Declared}
 use Rattle.tree_core.specs.declared.name.Attrib.TheVariants.{Plain}
 use Rattle.tree_core.specs.declared.name.Place.TheVariants.{Unset}
 use Rattle.tree_core.specs.declared.operator.UnOp.{UnOp}
 use Rattle.tree_core.specs.Tree as tree
-use Rattle.tree_making.specs.Made.{above, key_of}
+use Rattle.tree_making.specs.Made.{above, key_of, joined}
 use Rattle.tree_core.specs.Plain.{block_of, if_of, num_for_of}
 use Rattle.lua_lex.specs.Lexical.{is_end}
 use Rattle.tree_making.specs.declared.operator.Infix.{Infix}
@@ -18,8 +18,7 @@ use Rattle.token_cursor.specs.declared.start.Start.{Start}
 use Rattle.token_cursor.specs.declared.start.Start.TheVariants as start
 use Rattle.token_cursor.specs.declared.word.Word.{Word}
 use Rattle.token_cursor.specs.declared.word.TheConstants.{DO, ELSE, ELSEIF, END, FOR, FUNCTION, GOTO, IF, IN, LOCAL, REPEAT, RETURN, THEN, UNTIL, WHILE, LESS, GREATER, ASSIGN, OPEN_ROUND, CLOSE_ROUND, OPEN_CURLY, CLOSE_CURLY, OPEN_SQUARE, CLOSE_SQUARE, LABEL, SEMICOLON, COLON, COMMA, DOT, DOTS}
-use Rattle.token_cursor.specs.Words.{Lexeme, is_word, is_string, name_of, string_of, ends_block, begins_suffix, is_separator, operator_of, unary_of, start_of}
-use Rattle.tree_making.specs.Made.{joined}
+use Rattle.token_cursor.specs.Words.{is_word, is_string, name_of, string_of, ends_block, begins_suffix, is_separator, operator_of, unary_of, start_of}
 use Rattle.lua_parse.specs.Words.{constant_of, attrib_of}
 use Rattle.tree_making.specs.Form.{is_target, is_call, variable_of}
 use Rattle.lua_parse.specs.Moves.{Piece, a_line, a_name, some_names, some_params, a_declared, some_declared, an_exp, maybe_exp, some_exps, a_field, some_fields, a_target, an_arm, some_arms, some_items, a_stat, a_block, maybe_block, a_body, Part, chunk, word, opener, name, chain, behind, unary, simple, table, more_fields, separated_field, field, keyed, item, prefix, primary, paren, suffixes, suffix, dotted, indexed, method, call, method_arguments, arguments, listed, string_argument, explist, more_exps, body, params, more_params, block, items, returned, stat, label_stat, goto_stat, do_stat, while_stat, repeat_stat, if_stat, arms, more_arms, arm, else_part, do_block, for_stat, numeric, step, generic, more_names, function_stat, function_name, path, local_stat, local_function, local_names, more_declared, declared, values, prefix_stat, assignment, more_targets, Move, pick, pass, refuse, within, gives}

@@ -1,5 +1,5 @@
 -- What lists of tokens are by the grammar.
-use Rattle.std.specs.Prelude.{◌≡◌, ℕ, ◌-◌, ◌<◌, List, [], ◌∷◌, take, length}
+use Rattle.std.specs.Prelude.{ℕ, ◌-◌, ◌<◌, List, [], ◌∷◌, take, length}
 use Rattle.tree_core.specs.Tree.{Block}
 use Rattle.token_cursor.specs.Words.{Lexeme}
 use Rattle.lua_parse.specs.Moves.{Piece, a_block, Part, chunk, Move, pick, pass, refuse, within, gives}

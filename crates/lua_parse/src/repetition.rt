@@ -50,17 +50,16 @@ fn step(alloc: Global, cursor: &mut Cursor, room: Room) -> Parsed<Option<Box<Exp
     ensures reads { Answers given_step step room.max cursor.old result cursor.new }
     ensures bound { IfOk result (λ found. (found.height ≤ room.max) × (length cursor.new ≤ length cursor.old)) }
 {
-    if !cursor.is(COMMA) {
+    if cursor.take(COMMA) {
+        let value = expression(alloc, cursor, room)?;
         return Ok(Found {
-            node: None,
-            height: 0,
+            node: Some(value.node),
+            height: value.height,
         });
     }
-    cursor.skip();
-    let value = expression(alloc, cursor, room)?;
     Ok(Found {
-        node: Some(value.node),
-        height: value.height,
+        node: None,
+        height: 0,
     })
 }
 

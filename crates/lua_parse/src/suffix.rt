@@ -190,8 +190,7 @@ fn listed(alloc: Global, cursor: &mut Cursor, room: Room) -> Parsed<Vec<Exp>>
     ensures reads { Answers given_exps listed room.max cursor.old result cursor.new }
     ensures bound { IfOk result (λ found. (found.height ≤ room.max) × (length cursor.new < length cursor.old)) }
 {
-    if cursor.is(CLOSE_ROUND) {
-        cursor.skip();
+    if cursor.take(CLOSE_ROUND) {
         return Ok(tree_making::no_exps(alloc));
     }
     let items = explist(alloc, cursor, room)?;

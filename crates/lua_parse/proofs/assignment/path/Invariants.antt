@@ -1,11 +1,6 @@
-use Rattle.token_cursor.specs.Words.{rank}
-use Rattle.lua_parse.specs.Moves.{an_exp}
-use Rattle.lua_parse.specs.Grammar.{operand}
-use Rattle.lua_parse.specs.Reading.{Reads, whole}
-use Rattle.std.proofs.Common.{◌≡◌, ◌≤◌, ◌<◌, ℕ, ◌+◌, ◌-◌, ◌*◌, length, map, [], ◌∷◌}
+use Rattle.std.proofs.Common.{length}
 use Rattle.tree_making.specs.Made.{plain_boxed}
-use Rattle.tree_core.specs.Plain.{plain_exp, plain_exps, plain_field, plain_stat, plain_arm}
-use Rattle.lua_parse.specs.Moves.{chain, behind, more_fields, prefix, suffixes, explist, more_exps, params, more_params, items, arms, more_arms, more_names, path, more_declared, more_targets}
+use Rattle.lua_parse.specs.Moves.{path}
 use Rattle.lua_parse.specs.Grammar.{expects}
 use Rattle.lua_parse.proofs.Steps.{Grows}
 use Rattle.lua_parse.proofs.assignment.path.Given as goal

@@ -1,4 +1,4 @@
-use Rattle.std.proofs.Common.{◌≡◌, Ok, Err, true, false, refl, sym, subst, ap, ◌∙◌}
+use Rattle.std.proofs.Common.{◌≡◌, Err, true, false, sym, subst, ap, ◌∙◌}
 use Rattle.tree_core.specs.Plain.{plain_block}
 use Rattle.lua_lex.specs.Lexical.{is_end}
 use Rattle.lua_parse.specs.declared.fault.Fault.TheVariants.{Refused}

@@ -1,10 +1,5 @@
-use Rattle.token_cursor.specs.Words.{rank}
-use Rattle.lua_parse.specs.Moves.{an_exp}
-use Rattle.lua_parse.specs.Grammar.{operand}
-use Rattle.lua_parse.specs.Reading.{Reads, whole}
-use Rattle.std.proofs.Common.{◌≡◌, ◌≤◌, ◌<◌, ℕ, ◌+◌, ◌-◌, ◌*◌, length, map, [], ◌∷◌}
-use Rattle.tree_core.specs.Plain.{plain_exp, plain_exps, plain_field, plain_stat, plain_arm}
-use Rattle.lua_parse.specs.Moves.{chain, behind, more_fields, prefix, suffixes, explist, more_exps, params, more_params, items, arms, more_arms, more_names, path, more_declared, more_targets}
+use Rattle.std.proofs.Common.{length, [], ◌∷◌}
+use Rattle.lua_parse.specs.Moves.{more_names}
 use Rattle.lua_parse.specs.Grammar.{expects}
 use Rattle.lua_parse.proofs.Steps.{Follows}
 use Rattle.lua_parse.proofs.repetition.names.Given as goal

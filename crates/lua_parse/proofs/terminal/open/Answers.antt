@@ -1,9 +1,8 @@
-use Rattle.std.proofs.Common.{◌≡◌, ◌<◌, drop, true, false, Ok, Err, refl, sym, ap, ◌∙◌}
+use Rattle.std.proofs.Common.{◌≡◌, drop, true, false, refl, sym, ap, ◌∙◌}
 use Rattle.std.specs.Prelude.{Bool, if◌then◌else◌, ◌&&◌, nat_lt}
-use Rattle.token_cursor.specs.Words.{is_word}
+use Rattle.token_cursor.specs.Words.{is_word, first}
 use Rattle.lua_parse.specs.Moves.{opener, a_line, gives}
 use Rattle.lua_parse.specs.Grammar.{pass_if}
-use Rattle.token_cursor.specs.Words.{first}
 use Rattle.lua_parse.proofs.Steps.{starts, picked, turned, passed, refused, ended_as, has_room, no_room}
 use Rattle.lua_parse.proofs.terminal.open.Goals as goal
 
