@@ -1,5 +1,5 @@
 -- Lists of expressions and fields that are written one by one.
-use Rattle.std.proofs.Common.{arith, ℕ, suc, ◌+◌, ◌≡◌, ◌≤◌, ◌<◌, Bool, true, false, List, [], ◌∷◌, ◌++◌, refl, sym, ap, ◌∙◌, append_assoc, length, map, drop}
+use Rattle.std.proofs.Common.{arith, ℕ, suc, ◌+◌, ◌≡◌, ◌≤◌, ◌<◌, Bool, true, false, List, [], ◌∷◌, ◌++◌, refl, sym, ap, ◌∙◌, append_assoc, length, map, drop, None}
 use Rattle.std.specs.Prelude.{slice_index_or, nat_eq, ◌&&◌}
 use Rattle.std.proofs.lemmas.Bool.Decides.{nat_tests}
 use Rattle.std.proofs.lemmas.List.{drop_more, drop_all, length-drop}
@@ -10,12 +10,14 @@ use Rattle.tree_core.specs.Plain.{plain_exp, plain_exps, plain_field}
 use Rattle.code_core.specs.declared.proto.Const.{Const}
 use Rattle.code_core.specs.declared.opcode.Opcode.TheVariants.{NewTable, ExtraArg}
 use Rattle.code_core.specs.Instruction.{op_ax}
-use Rattle.code_of.specs.Coded.{with_abc}
+use Rattle.code_of.specs.Coded.{Coded, with_abc}
+use Rattle.code_of.specs.Operands.{local_of, seat, unless, operand_code}
+use Rattle.code_of.specs.Operators.{self_code}
 use Rattle.code_of.specs.Expressions.{Wanted, field_of, wanted_after, is_open, is_last_open, made_by, made_in, made_in_fields, made_by_field, exp_code, exps_code, fields_code, nils_code, waiting_code}
 use Rattle.code_emitter.specs.Listing.{Listing, listed, followed}
 use Rattle.code_expr.specs.declared.items.Items.{Items}
-use Rattle.code_expr.specs.Parts.{field_where, wanted_where, so_many, items_behind, keyed_code, field_code}
-use Rattle.code_emitter.proofs.Joining.{after, after_listed, none_made}
+use Rattle.code_expr.specs.Parts.{field_where, wanted_where, so_many, items_behind, passed_code, method_code, keyed_code, field_code}
+use Rattle.code_emitter.proofs.Joining.{after, after_listed, none_made, then_listed}
 
 front : {X : Type 0} (xs : List X) (i : ℕ) (x : X) → i < length xs → x ≡ slice_index_or xs i x → drop i xs ≡ x ∷ drop (i + 1) xs
 front xs i x h e = drop_more xs i x h ∙ ap (λ y. y ∷ drop (i + 1) xs) (sym e)
@@ -139,3 +141,25 @@ table_written s q t line fs written =
     let extra = (op_ax ExtraArg 0, line) ∷ [] in
     let code = fields_code s.constants fs 0 0 t s.made line in
     written ∙ after_listed (listed s table) extra code (made_in_fields fs) ∙ after_listed s table (extra ++ code) (made_in_fields fs)
+
+-- what is called and its arguments, and then the instructions of the call
+
+module _ (s r q : Listing) (e : tree.Exp) (es : tree.Exps) (t line : ℕ) (last : List Coded) where
+  abbrev made : ℕ
+  made = made_by e + made_in es
+
+  pub called_written : r ≡ followed s (passed_code s.constants e es t s.made line) made → q ≡ listed r last
+      → q ≡ followed s (exp_code s.constants e t s.made 2 ++ (exps_code s.constants es None (t + 1) (s.made + made_by e) line ++ last)) made
+  called_written passed put =
+      let first = exp_code s.constants e t s.made 2 in
+      let rest = exps_code s.constants es None (t + 1) (s.made + made_by e) line in
+      then_listed s r q (first ++ rest) made (λ k. last) passed put ∙ ap (λ code. followed s code made) (append_assoc first rest last)
+
+  pub method_written : (name : List ℕ) → r ≡ followed s (method_code s.constants e name es t s.made line) made → q ≡ listed r last
+      → q ≡ followed s (operand_code (local_of e) (exp_code s.constants e t s.made 2) t (λ x. self_code s.constants name x t line ++ (exps_code s.constants es None (t + 2) (s.made + made_by e) line ++ last))) made
+  method_written name passed put =
+      let first = unless (local_of e) (exp_code s.constants e t s.made 2) in
+      let found = self_code s.constants name (seat (local_of e) t) t line in
+      let rest = exps_code s.constants es None (t + 2) (s.made + made_by e) line in
+      then_listed s r q (first ++ (found ++ rest)) made (λ k. last) passed put
+      ∙ ap (λ code. followed s code made) (append_assoc first (found ++ rest) last ∙ ap (λ code. first ++ code) (append_assoc found rest last))

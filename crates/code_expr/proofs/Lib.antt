@@ -3,6 +3,7 @@ pub mod ValueSeats
 pub mod FieldSeats
 pub mod TargetSeats
 pub mod Rows
+pub mod LiteralCode
 pub mod Ends
 pub mod Waiting
 pub mod Going

@@ -8,7 +8,7 @@ use Rattle.code_of.specs.Stores.{FieldKey, a_name, an_index, a_register, evaluat
 use Rattle.code_of.specs.Targets.{waiting_key, text_number, text_key}
 use Rattle.code_of.proofs.Targets.{Waits, key_waits}
 use Rattle.code_emitter.specs.Listing.{Listing, listed, followed}
-use Rattle.code_expr.specs.Stores.{key_seat, seat_code, seat_made}
+use Rattle.code_expr.specs.Stores.{key_seat, code_if, is_above, made_if}
 use Rattle.code_expr.specs.declared.stores.KeySeat.TheVariants.{Name, Index as Numeral, Above}
 use Rattle.code_emitter.proofs.Joining.{listing, then_made}
 use Rattle.code_expr.proofs.FieldSeats.{seat_code_is}
@@ -32,7 +32,7 @@ pub nothing_listed : (s : Listing) → s ≡ listed s []
 nothing_listed s = ap (λ xs. listing s.constants xs s.made) (sym (append-nil s.steps))
 
 -- a key that waits in the store makes no function
-waiting_makes : (s : FieldKey) (constants : List Const) (key : Exp) → Waits constants key s → seat_made (key_seat s) (made_by key) ≡ made_by key
+waiting_makes : (s : FieldKey) (constants : List Const) (key : Exp) → Waits constants key s → made_if (is_above (key_seat s)) (made_by key) ≡ made_by key
 waiting_makes evaluated constants key waits = refl
 waiting_makes (a_name number) constants key waits = sym (ap made_by waits.is)
 waiting_makes (an_index n) constants key waits = sym (ap made_by waits.is)
@@ -40,7 +40,7 @@ waiting_makes (a_register r) constants key waits = absurd waits
 
 pub field_aimed :
     (s0 s1 q : Listing) (object key : Exp) (r : ℕ) → s1 ≡ followed s0 (exp_code s0.constants object r s0.made 2) (made_by object)
-    → q ≡ followed s1 (seat_code (key_seat (waiting_key s0.constants key)) (exp_code s1.constants key (r + 1) s1.made 2)) (seat_made (key_seat (waiting_key s0.constants key)) (made_by key))
+    → q ≡ followed s1 (code_if (is_above (key_seat (waiting_key s0.constants key))) (exp_code s1.constants key (r + 1) s1.made 2)) (made_if (is_above (key_seat (waiting_key s0.constants key))) (made_by key))
     → q ≡ followed s0 (exp_code s0.constants object r s0.made 2 ++ key_code (waiting_key s0.constants key) (exp_code s0.constants key (r + 1) (s0.made + made_by object) 2)) (made_by object + made_by key)
 field_aimed s0 s1 q object key r e1 e2 =
     let s = waiting_key s0.constants key in

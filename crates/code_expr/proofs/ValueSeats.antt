@@ -13,7 +13,7 @@ use Rattle.code_of.specs.StoredValues.{stored_value}
 use Rattle.code_of.specs.Targets.{global_store, local_store_by}
 use Rattle.code_of.proofs.Operands.{local_makes}
 use Rattle.code_of.proofs.StoredValues.{ValueStands, stored_makes}
-use Rattle.code_expr.specs.Stores.{key_seat, seat_store, value_place, place_code, place_made, place_store}
+use Rattle.code_expr.specs.Stores.{key_seat, seat_store, value_place, code_if, is_made, made_if, place_store}
 use Rattle.code_emitter.specs.declared.emitter.Step.{Step}
 use Rattle.code_expr.specs.declared.stores.ValueSeat.TheVariants.{Constant, Local, Made}
 use Rattle.code_expr.specs.Targets.{stored_step}
@@ -29,13 +29,13 @@ seat_made constants e h l = ap₂ (λ o m. value_place (value_by o m)) h l
 
 -- what is written of it
 
-pub place_code_is : (v : StoredValue) (code : List Coded) → place_code (value_place v) code ≡ value_code v code
+pub place_code_is : (v : StoredValue) (code : List Coded) → code_if (is_made (value_place v)) code ≡ value_code v code
 place_code_is made_value code = refl
 place_code_is (constant_value number) code = refl
 place_code_is (local_value r) code = refl
 
 -- what stands makes no function
-pub place_makes : (v : StoredValue) (constants : List Const) (e : Exp) → ValueStands constants e v → place_made (value_place v) (made_by e) ≡ made_by e
+pub place_makes : (v : StoredValue) (constants : List Const) (e : Exp) → ValueStands constants e v → made_if (is_made (value_place v)) (made_by e) ≡ made_by e
 place_makes made_value constants e stands = refl
 place_makes (constant_value number) constants e stands = sym (stored_makes constants e number stands)
 place_makes (local_value r) constants e stands = sym (local_makes e r stands)

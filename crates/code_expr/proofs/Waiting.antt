@@ -24,24 +24,27 @@ some_wait s q stored (suc more) t line some written = written
 
 -- so many items as are stored at once, or fewer
 
-module _ (s : Listing) (stored waiting t line : ℕ) where
+module _ (s : Listing) (n : Items) (t line : ℕ) where
+  abbrev count : ℕ
+  count = n.stored + n.waiting
+
   abbrev either_stored : Bool → List Coded
-  either_stored full = cond full (set_list t waiting stored line) []
+  either_stored full = cond full (set_list t n.waiting n.stored line) []
 
   abbrev either_behind : Bool → Items
-  either_behind full = cond full (so_many (stored + waiting) 0) (so_many stored waiting)
+  either_behind full = cond full (so_many count 0) n
 
-  pub few_stored : is_full (stored + waiting) ≡ false → s ≡ listed s (cond (is_full (stored + waiting)) (set_list t waiting stored line) [])
+  pub few_stored : is_full count ≡ false → s ≡ listed s (either_stored (is_full count))
   few_stored few = nothing_listed s ∙ ap (λ b. listed s (either_stored b)) (sym few)
 
-  pub few_behind : is_full (stored + waiting) ≡ false → so_many stored waiting ≡ cond (is_full (stored + waiting)) (so_many (stored + waiting) 0) (so_many stored waiting)
+  pub few_behind : is_full count ≡ false → n ≡ either_behind (is_full count)
   few_behind few = ap either_behind (sym few)
 
-  pub full_stored : (q : Listing) → is_full (stored + waiting) ≡ true → q ≡ listed s (set_list t waiting stored line) → q ≡ listed s (cond (is_full (stored + waiting)) (set_list t waiting stored line) [])
+  pub full_stored : (q : Listing) → is_full count ≡ true → q ≡ listed s (set_list t n.waiting n.stored line) → q ≡ listed s (either_stored (is_full count))
   full_stored q full written = written ∙ ap (λ b. listed s (either_stored b)) (sym full)
 
-  pub full_behind : (count : ℕ) → is_full (stored + waiting) ≡ true → count ≡ stored + waiting → so_many count 0 ≡ cond (is_full (stored + waiting)) (so_many (stored + waiting) 0) (so_many stored waiting)
-  full_behind count full counted = ap (λ n. so_many n 0) counted ∙ ap either_behind (sym full)
+  pub full_behind : (all : ℕ) → is_full count ≡ true → all ≡ count → so_many all 0 ≡ either_behind (is_full count)
+  full_behind all full counted = ap (λ m. so_many m 0) counted ∙ ap either_behind (sym full)
 
 -- an item that waits
 

@@ -74,22 +74,7 @@ fn link_right(emitter: &mut Emitter, exp: &Exp, target: usize, line: u32) -> All
             }
             last_link(emitter, exp, target)
         }
-        ExpNode::Nil
-        | ExpNode::True
-        | ExpNode::False
-        | ExpNode::Int(_)
-        | ExpNode::Str(_)
-        | ExpNode::Vararg
-        | ExpNode::Function(_)
-        | ExpNode::Var(_)
-        | ExpNode::Index(_, _)
-        | ExpNode::Call(_, _)
-        | ExpNode::Method(_, _, _)
-        | ExpNode::Unary(_, _)
-        | ExpNode::And(_, _)
-        | ExpNode::Or(_, _)
-        | ExpNode::Paren(_)
-        | ExpNode::Table(_) => last_link(emitter, exp, target),
+        _ => last_link(emitter, exp, target),
     }
 }
 

@@ -1,22 +1,23 @@
 // Expressions (Lua 5.4 manual, 3.4), whose values go to registers.
 ghost use Rattle.std.specs.Prelude.{◌≡◌, ◌+◌, ◌++◌, OnOk, IfOk, map, nat_eq};
-ghost use Rattle.tree_core.specs.Tree.{exps, fields, Call, Method, Index, Binary, Unary, Table};
+ghost use Rattle.tree_core.specs.Tree.{exps, fields, Index, Binary, Unary, Table};
 ghost use Rattle.tree_core.specs.Plain.{plain_exp, plain_exps, plain_field};
-ghost use Rattle.code_of.specs.Expressions.{exp_code, exps_code, waiting_code, made_by, made_in, made_in_fields, made_by_field};
+ghost use Rattle.code_of.specs.Expressions.{exp_code, exps_code, list_field, waiting_code, made_by, made_in, made_in_fields, made_by_field};
 ghost use Rattle.code_of.specs.Operands.{local_of, seat, unless};
 ghost use Rattle.code_of.specs.Parts.{direct_code};
 ghost use Rattle.code_emitter.specs.Listing.{followed};
 ghost use Rattle.code_emitter.specs.declared.operands.Second.TheVariants.{Register};
 ghost use Rattle.code_emitter.specs.Operands.{stays_code, stays_made, stays_at};
-ghost use Rattle.code_expr.specs.Parts.{so_many, keyed_code, field_code, items_behind};
+ghost use Rattle.code_expr.specs.Parts.{so_many, passed_code, method_code, keyed_code, field_code, items_behind};
 ghost use Rattle.code_expr.specs.Testing.{either_value};
 
 use crate::chains::{join, joins};
 use crate::items::{Items, item, plus, store_items};
 use crate::keeping::keep;
 use crate::lists::{field_where, fills, list_field, wanted_where};
+use crate::literals::literal;
 use crate::quiet::is_quiet;
-use crate::stores::{key_seat, name_in, put_value, value_seat, write_key, write_value};
+use crate::stores::{Slot, fill, key_seat, name_in, value_seat};
 use code_core::Opcode;
 use code_emitter::{Emitter, Operands, Second, key_staying, local_of, next};
 use int_core::Allocated;
@@ -31,11 +32,9 @@ pub fn expression(emitter: &mut Emitter, exp: &Exp, target: usize, results: usiz
 {
     let line = exp.line;
     match &exp.node {
-        ExpNode::Nil => emitter.put_abc(Opcode::LoadNil, target, 0, 0, line),
-        ExpNode::True => emitter.put_abc(Opcode::LoadTrue, target, 0, 0, line),
-        ExpNode::False => emitter.put_abc(Opcode::LoadFalse, target, 0, 0, line),
-        ExpNode::Int(integer) => emitter.load_integer(*integer, target, line),
-        ExpNode::Str(bytes) => emitter.load_text(bytes, target, line),
+        ExpNode::Nil | ExpNode::True | ExpNode::False | ExpNode::Int(_) | ExpNode::Str(_) => {
+            literal(emitter, exp, target)
+        }
         ExpNode::Vararg => emitter.put_abc(Opcode::VarArg, target, 0, results, line),
         ExpNode::Function(body) => emitter.put_closure(target, body.line),
         ExpNode::Var(name) => emitter.read_name(name, target, target, line),
@@ -45,9 +44,13 @@ pub fn expression(emitter: &mut Emitter, exp: &Exp, target: usize, results: usiz
         ExpNode::Index(object, key) => index(emitter, object, key, target, target, line),
         ExpNode::And(left, right) => either(emitter, false, left, right, target),
         ExpNode::Or(left, right) => either(emitter, true, left, right, target),
-        ExpNode::Call(called, arguments) => call(emitter, called, arguments, target, results, line),
+        ExpNode::Call(called, arguments) => {
+            let field = pass(emitter, called, arguments, target, line)?;
+            emitter.put_abc(Opcode::Call, target, field, results, line)
+        }
         ExpNode::Method(object, name, arguments) => {
-            method(emitter, object, name, arguments, target, results, line)
+            let field = pass_method(emitter, object, name, arguments, target, line)?;
+            emitter.put_abc(Opcode::Call, target, field, results, line)
         }
         ExpNode::Table(list) => table(emitter, list, target, line),
     }
@@ -189,55 +192,41 @@ fn either(
     Ok(())
 }
 
-/// Writes a call.
+/// Writes what is called and the arguments behind it, and answers the field B of the call.
 #[cycle(expressions)]
-fn call(
+pub fn pass(
     emitter: &mut Emitter,
     called: &Exp,
     arguments: &Vec<Exp>,
     target: usize,
-    results: usize,
     line: u32,
-) -> Allocated<()>
-    ensures { OnOk result (emitter.new ≡ followed emitter.old (exp_code emitter.old.constants (Call line (plain_exp called.now) (exps (plain_exps arguments.now.items))) target emitter.old.made results) (made_by (Call line (plain_exp called.now) (exps (plain_exps arguments.now.items))))) }
+) -> Allocated<usize>
+    ensures code { OnOk result (emitter.new ≡ followed emitter.old (passed_code emitter.old.constants (plain_exp called.now) (exps (plain_exps arguments.now.items)) target emitter.old.made line) (made_by (plain_exp called.now) + made_in (exps (plain_exps arguments.now.items)))) }
+    ensures field { IfOk result (λ field. field ≡ list_field 0 (exps (plain_exps arguments.now.items))) }
 {
     expression(emitter, called, target, 2)?;
     list(emitter, arguments, None, next(target)?, line)?;
-    emitter.put_abc(
-        Opcode::Call,
-        target,
-        list_field(0, arguments),
-        results,
-        line,
-    )?;
-    Ok(())
+    Ok(list_field(0, arguments))
 }
 
-/// Writes the call of a method.
+/// Writes a method with its object and the arguments behind them, and answers the field B of the call.
 #[cycle(expressions)]
-fn method(
+pub fn pass_method(
     emitter: &mut Emitter,
     object: &Exp,
     name: &Name,
     arguments: &Vec<Exp>,
     target: usize,
-    results: usize,
     line: u32,
-) -> Allocated<()>
-    ensures { OnOk result (emitter.new ≡ followed emitter.old (exp_code emitter.old.constants (Method line (plain_exp object.now) name.now (exps (plain_exps arguments.now.items))) target emitter.old.made results) (made_by (Method line (plain_exp object.now) name.now (exps (plain_exps arguments.now.items))))) }
+) -> Allocated<usize>
+    ensures code { OnOk result (emitter.new ≡ followed emitter.old (method_code emitter.old.constants (plain_exp object.now) name.now.text (exps (plain_exps arguments.now.items)) target emitter.old.made line) (made_by (plain_exp object.now) + made_in (exps (plain_exps arguments.now.items)))) }
+    ensures field { IfOk result (λ field. field ≡ list_field 1 (exps (plain_exps arguments.now.items))) }
 {
     let above = next(target)?;
     let register = operand(emitter, object, target)?;
     emitter.look_up_method(&name.text, register, target, line)?;
     list(emitter, arguments, None, next(above)?, line)?;
-    emitter.put_abc(
-        Opcode::Call,
-        target,
-        list_field(1, arguments),
-        results,
-        line,
-    )?;
-    Ok(())
+    Ok(list_field(1, arguments))
 }
 
 /// Writes a list of expressions, whose values go to the registers from one on: as many as are
@@ -282,7 +271,7 @@ fn table(emitter: &mut Emitter, list: &Vec<Field>, target: usize, line: u32) -> 
         left -= 1;
         items = table_field(emitter, field, left, items, target, line)?;
     }
-    store_items(emitter, items.stored, items.waiting, target, line)?;
+    store_items(emitter, items, target, line)?;
     Ok(())
 }
 
@@ -331,12 +320,15 @@ fn keyed(
     let above = next(target)?;
     let top = next(above)?;
     let stored = plus(items.stored, items.waiting)?;
-    store_items(emitter, items.stored, items.waiting, target, table_line)?;
+    store_items(emitter, items, target, table_line)?;
     let seat = value_seat(emitter, value);
     let quiet = is_quiet(value);
-    let stands = key_seat(emitter, quiet, key);
-    write_key(emitter, stands, key, above)?;
-    write_value(emitter, seat, value, top)?;
-    put_value(emitter, stands, seat, target, above, top, line)?;
+    let slot = Slot {
+        object: target,
+        key: key_seat(emitter, quiet, key),
+        above,
+        line,
+    };
+    fill(emitter, slot, key, seat, value, top)?;
     Ok(Items { stored, waiting: 0 })
 }

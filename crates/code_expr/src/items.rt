@@ -1,14 +1,14 @@
 // Items of a constructor (Lua 5.4 manual, 3.4.9). Those during whose evaluation nothing is asked wait in registers behind the table's, and are stored together.
-ghost use Rattle.std.specs.Prelude.{◌≡◌, ◌+◌, true, false, [], OnOk, IfOk, cond};
+ghost use Rattle.std.specs.Prelude.{◌≡◌, ◌+◌, true, [], OnOk, IfOk, cond};
 ghost use Rattle.tree_core.specs.Plain.{plain_exp};
 ghost use Rattle.code_of.specs.Expressions.{exp_code, made_by, set_list, waiting_code};
 ghost use Rattle.code_of.specs.Items.{is_own, waits, is_full};
 ghost use Rattle.code_emitter.specs.Listing.{listed, followed};
-ghost use Rattle.code_expr.specs.Parts.{so_many, held_code, alone_code, item_behind, one_item};
+ghost use Rattle.code_expr.specs.Parts.{so_many, held_code, item_behind, one_item};
 
 use crate::expressions::expression;
 use crate::lists::{item_field, stored_field};
-use crate::quiet::is_literal;
+use crate::literals::is_literal;
 use code_emitter::{Emitter, next};
 use int_core::Allocated;
 use std::alloc::AllocError;
@@ -60,43 +60,37 @@ fn is_full(items: usize) -> bool
 /// Stores the items that wait, behind those that are stored.
 pub(crate) fn store_items(
     emitter: &mut Emitter,
-    stored: usize,
-    waiting: usize,
+    items: Items,
     target: usize,
     line: u32,
 ) -> Allocated<()>
-    ensures { OnOk result (emitter.new ≡ listed emitter.old (waiting_code stored waiting target line)) }
+    ensures { OnOk result (emitter.new ≡ listed emitter.old (waiting_code items.stored items.waiting target line)) }
 {
-    if waiting == 0 {
+    if items.waiting == 0 {
         return Ok(());
     }
-    emitter.set_list(target, waiting, stored, line)?;
+    emitter.set_list(target, items.waiting, items.stored, line)?;
     Ok(())
 }
 
 /// Stores the items that wait if there are as many as are stored at once, and answers how many there are then.
-fn store_full(
-    emitter: &mut Emitter,
-    stored: usize,
-    waiting: usize,
-    target: usize,
-    line: u32,
-) -> Allocated<Items>
-    ensures code { OnOk result (emitter.new ≡ listed emitter.old (cond (is_full (stored + waiting)) (set_list target waiting stored line) [])) }
-    ensures items { IfOk result (λ n. n ≡ cond (is_full (stored + waiting)) (so_many (stored + waiting) 0) (so_many stored waiting)) }
+fn store_full(emitter: &mut Emitter, items: Items, target: usize, line: u32) -> Allocated<Items>
+    ensures code { OnOk result (emitter.new ≡ listed emitter.old (cond (is_full (items.stored + items.waiting)) (set_list target items.waiting items.stored line) [])) }
+    ensures items { IfOk result (λ n. n ≡ cond (is_full (items.stored + items.waiting)) (so_many (items.stored + items.waiting) 0) items) }
 {
-    let count = plus(stored, waiting)?;
+    let count = plus(items.stored, items.waiting)?;
     if !is_full(count) {
-        return Ok(Items { stored, waiting });
+        return Ok(items);
     }
-    emitter.set_list(target, waiting, stored, line)?;
+    emitter.set_list(target, items.waiting, items.stored, line)?;
     Ok(Items {
         stored: count,
         waiting: 0,
     })
 }
 
-/// Writes an item, of which all values are wanted or the first one, and answers how many there are then.
+/// Writes an item, of which all values are wanted or the first one, and answers how many there are then. One that does
+/// not wait is stored by itself, behind those that do.
 #[cycle(expressions)]
 pub(crate) fn item(
     emitter: &mut Emitter,
@@ -112,7 +106,13 @@ pub(crate) fn item(
     if waits(value) {
         return waiting_item(emitter, value, items, target, line);
     }
-    lone_item(emitter, value, whole, items, target, line)
+    let above = next(target)?;
+    let count = plus(items.stored, items.waiting)?;
+    let stored = next(count)?;
+    store_items(emitter, items, target, line)?;
+    expression(emitter, value, above, item_field(whole))?;
+    emitter.set_list(target, stored_field(whole), count, line)?;
+    Ok(Items { stored, waiting: 0 })
 }
 
 /// Writes an item that waits.
@@ -131,28 +131,10 @@ fn waiting_item(
     let register = plus(above, items.waiting)?;
     let waiting = next(items.waiting)?;
     expression(emitter, value, register, 2)?;
-    let behind = store_full(emitter, items.stored, waiting, target, line)?;
+    let held = Items {
+        stored: items.stored,
+        waiting,
+    };
+    let behind = store_full(emitter, held, target, line)?;
     Ok(behind)
-}
-
-/// Writes an item that is stored by itself, behind those that wait.
-#[cycle(expressions)]
-fn lone_item(
-    emitter: &mut Emitter,
-    value: &Exp,
-    whole: bool,
-    items: Items,
-    target: usize,
-    line: u32,
-) -> Allocated<Items>
-    ensures code { OnOk result (emitter.new ≡ followed emitter.old (alone_code (exp_code emitter.old.constants (plain_exp value.now) (target + 1) emitter.old.made (cond whole 0 2)) items.stored items.waiting (cond whole 0 1) target line) (made_by (plain_exp value.now))) }
-    ensures items { IfOk result (λ n. n ≡ item_behind false items) }
-{
-    let above = next(target)?;
-    let count = plus(items.stored, items.waiting)?;
-    let stored = next(count)?;
-    store_items(emitter, items.stored, items.waiting, target, line)?;
-    expression(emitter, value, above, item_field(whole))?;
-    emitter.set_list(target, stored_field(whole), count, line)?;
-    Ok(Items { stored, waiting: 0 })
 }

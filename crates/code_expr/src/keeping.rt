@@ -54,7 +54,7 @@ pub(crate) fn keep(
 }
 
 /// Writes `and` or `or`, whose own first operand decides if its truth is `decides`. Where that value is
-/// not wanted, the first operand is only tested.
+/// wanted, a value of either operand is kept; else the first operand is only tested.
 #[cycle(expressions)]
 fn keep_either(
     emitter: &mut Emitter,
@@ -67,29 +67,15 @@ fn keep_either(
     ensures { IfOk result (λ places. Opened emitter.old emitter.new (λ ahead. either_keep emitter.old.constants decides (plain_exp first.now) (plain_exp second.now) k ahead target emitter.old.made) (made_by (plain_exp first.now) + made_by (plain_exp second.now)) places.items) }
 {
     if decides == k {
-        return keep_both(emitter, first, second, k, target);
+        let mut decided = keep(emitter, first, decides, target)?;
+        let mut away = keep(emitter, second, k, target)?;
+        away.append(&mut decided)?;
+        return Ok(away);
     }
     let passed = condition(emitter, first, !decides, target)?;
     let away = keep(emitter, second, k, target)?;
     let end = emitter.steps().len();
     emitter.lead(&passed, end)?;
-    Ok(away)
-}
-
-/// Writes `and` or `or` of which a value of either operand is kept.
-#[cycle(expressions)]
-fn keep_both(
-    emitter: &mut Emitter,
-    first: &Exp,
-    second: &Exp,
-    k: bool,
-    target: usize,
-) -> Allocated<Vec<usize>>
-    ensures { IfOk result (λ places. Opened emitter.old emitter.new (λ ahead. either_keep emitter.old.constants k (plain_exp first.now) (plain_exp second.now) k ahead target emitter.old.made) (made_by (plain_exp first.now) + made_by (plain_exp second.now)) places.items) }
-{
-    let mut decided = keep(emitter, first, k, target)?;
-    let mut away = keep(emitter, second, k, target)?;
-    away.append(&mut decided)?;
     Ok(away)
 }
 

@@ -7,13 +7,14 @@ mod expressions;
 mod items;
 mod keeping;
 mod lists;
+mod literals;
 mod locals;
 mod quiet;
 mod stores;
 mod targets;
 
 pub use conditions::condition;
-pub use expressions::{expression, list, operand};
+pub use expressions::{expression, list, operand, pass, pass_method};
 pub use lists::{is_open, list_field, lone_local};
 pub use locals::{direct, direct_local};
 pub use stores::{is_field, store};

@@ -9,7 +9,7 @@ ghost use Rattle.code_emitter.specs.Listing.{followed};
 ghost use Rattle.code_emitter.specs.Operands.{made_directly};
 
 use crate::expressions::{index, operands, unary};
-use code_core::Opcode;
+use crate::literals::literal;
 use code_emitter::{Emitter, local_at};
 use int_core::Allocated;
 use tree_core::{BinOp, Exp, ExpNode};
@@ -80,17 +80,15 @@ fn binary_into(
 
 /// Writes a value straight to a register, where the registers from another one on are free. Of an
 /// expression that has no instruction for it nothing is written.
-#[tactic(auto, using(code_emitter::proofs::Seats::nothing_more, code_emitter::proofs::Joining::none_made))]
+#[tactic(auto, using(code_emitter::proofs::Seats::nothing_more, code_emitter::proofs::Joining::none_made, crate::proofs::LiteralCode::literal_direct))]
 pub fn direct(emitter: &mut Emitter, exp: &Exp, target: usize, free: usize) -> Allocated<()>
     ensures { OnOk result (emitter.new ≡ followed emitter.old (direct_code emitter.old.constants (plain_exp exp.now) target free emitter.old.made) (made_directly (plain_exp exp.now))) }
 {
     let line = exp.line;
     match &exp.node {
-        ExpNode::Nil => emitter.put_abc(Opcode::LoadNil, target, 0, 0, line),
-        ExpNode::True => emitter.put_abc(Opcode::LoadTrue, target, 0, 0, line),
-        ExpNode::False => emitter.put_abc(Opcode::LoadFalse, target, 0, 0, line),
-        ExpNode::Int(integer) => emitter.load_integer(*integer, target, line),
-        ExpNode::Str(bytes) => emitter.load_text(bytes, target, line),
+        ExpNode::Nil | ExpNode::True | ExpNode::False | ExpNode::Int(_) | ExpNode::Str(_) => {
+            literal(emitter, exp, target)
+        }
         ExpNode::Var(name) => emitter.read_name(name, target, free, line),
         ExpNode::Paren(inner) => direct(emitter, inner, target, free),
         ExpNode::Unary(op, operand) => unary(emitter, *op, operand, target, free, line),

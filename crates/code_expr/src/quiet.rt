@@ -1,9 +1,9 @@
 // Expressions during whose evaluation no other code runs, so no local is assigned.
 ghost use Rattle.std.specs.Prelude.{◌≡◌};
 ghost use Rattle.tree_core.specs.Plain.{plain_exp};
-ghost use Rattle.code_of.specs.Operands.{is_literal};
 ghost use Rattle.code_of.specs.Stores.{is_near, is_quiet, beside_quiet};
 
+use crate::literals::is_literal;
 use tree_core::{Exp, ExpNode, Name, Place, UnOp};
 
 /// Whether a name is that of a local variable or of an upvalue.
@@ -11,16 +11,6 @@ fn is_near(name: &Name) -> bool
     ensures { result ≡ is_near name.now.place }
 {
     matches!(name.place, Place::Local(_) | Place::Upvalue(_))
-}
-
-/// Whether an expression is an integer, a string, nil or a Boolean, written as such.
-pub(crate) fn is_literal(exp: &Exp) -> bool
-    ensures { result ≡ is_literal (plain_exp exp.now) }
-{
-    matches!(
-        &exp.node,
-        ExpNode::Nil | ExpNode::True | ExpNode::False | ExpNode::Int(_) | ExpNode::Str(_)
-    )
 }
 
 /// Whether an expression is quiet.

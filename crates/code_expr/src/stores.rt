@@ -8,7 +8,7 @@ ghost use Rattle.code_of.specs.Parts.{field_code};
 ghost use Rattle.code_of.specs.Stores.{name_in, field_key, is_field};
 ghost use Rattle.code_of.specs.StoredValues.{stored_value};
 ghost use Rattle.code_emitter.specs.Listing.{followed, listed};
-ghost use Rattle.code_expr.specs.Stores.{key_seat, object_at, made_unless, seat_code, seat_made, seat_store, value_place, place_code, place_made, place_store, made_in_field};
+ghost use Rattle.code_expr.specs.Stores.{key_seat, is_above, object_at, made_unless, code_if, made_if, seat_store, value_place, is_made, place_store, filled_code, made_in_field};
 
 use crate::expressions::expression;
 use crate::quiet::{beside_quiet, is_quiet};
@@ -40,6 +40,37 @@ pub(crate) enum ValueSeat {
     Local(usize),
     /// It is made above the key.
     Made,
+}
+
+impl KeySeat {
+    /// Whether the key is made.
+    pub(crate) fn is_above(self) -> bool
+        ensures { result ≡ is_above self }
+    {
+        matches!(self, KeySeat::Above)
+    }
+}
+
+impl ValueSeat {
+    /// Whether the value is made.
+    pub(crate) fn is_made(self) -> bool
+        ensures { result ≡ is_made self }
+    {
+        matches!(self, ValueSeat::Made)
+    }
+}
+
+/// A field that a value is stored in.
+#[derive(Clone, Copy, Debug, PartialEq, Eq)]
+pub(crate) struct Slot {
+    /// The register of the object.
+    pub(crate) object: usize,
+    /// Where the key stands.
+    pub(crate) key: KeySeat,
+    /// The register of a key that is made.
+    pub(crate) above: usize,
+    /// The line of the store.
+    pub(crate) line: u32,
 }
 
 /// The register in which the object stays, or none for one that is made.
@@ -115,92 +146,73 @@ fn stand(emitter: &mut Emitter, stays: Option<usize>, exp: &Exp, target: usize) 
     Ok(target)
 }
 
-/// Writes a key that is made.
+/// Writes an expression where it is made, or nothing where it stands elsewhere.
 #[cycle(expressions)]
 #[tactic(auto, using(code_emitter::proofs::Seats::nothing_more))]
-pub(crate) fn write_key(
+pub(crate) fn write_made(
     emitter: &mut Emitter,
-    stands: KeySeat,
-    key: &Exp,
+    made: bool,
+    exp: &Exp,
     target: usize,
 ) -> Allocated<()>
-    ensures { OnOk result (emitter.new ≡ followed emitter.old (seat_code stands (exp_code emitter.old.constants (plain_exp key.now) target emitter.old.made 2)) (seat_made stands (made_by (plain_exp key.now)))) }
+    ensures { OnOk result (emitter.new ≡ followed emitter.old (code_if made (exp_code emitter.old.constants (plain_exp exp.now) target emitter.old.made 2)) (made_if made (made_by (plain_exp exp.now)))) }
 {
-    match stands {
-        KeySeat::Above => expression(emitter, key, target, 2),
-        KeySeat::Name(_) => Ok(()),
-        KeySeat::Index(_) => Ok(()),
-        KeySeat::Register(_) => Ok(()),
+    if !made {
+        return Ok(());
     }
+    expression(emitter, exp, target, 2)
 }
 
-/// Writes a value that is made.
-#[cycle(expressions)]
-#[tactic(auto, using(code_emitter::proofs::Seats::nothing_more))]
-pub(crate) fn write_value(
-    emitter: &mut Emitter,
-    seat: ValueSeat,
-    value: &Exp,
-    target: usize,
-) -> Allocated<()>
-    ensures { OnOk result (emitter.new ≡ followed emitter.old (place_code seat (exp_code emitter.old.constants (plain_exp value.now) target emitter.old.made 2)) (place_made seat (made_by (plain_exp value.now)))) }
-{
-    match seat {
-        ValueSeat::Made => expression(emitter, value, target, 2),
-        ValueSeat::Constant(_) => Ok(()),
-        ValueSeat::Local(_) => Ok(()),
-    }
-}
-
-/// Writes the store of a constant or of a register's value, where the object stands in a register and a key that is made in another.
+/// Writes the store of a constant or of a register's value.
 pub(crate) fn put_store(
     emitter: &mut Emitter,
-    stands: KeySeat,
-    object: usize,
-    above: usize,
+    slot: Slot,
     constant: bool,
     value: usize,
-    line: u32,
 ) -> Allocated<()>
-    ensures { OnOk result (emitter.new ≡ listed emitter.old (seat_store stands object above constant value line ∷ [])) }
+    ensures { OnOk result (emitter.new ≡ listed emitter.old (seat_store slot.key slot.object slot.above constant value slot.line ∷ [])) }
 {
-    match stands {
-        KeySeat::Name(number) => {
-            emitter.put_flagged(Opcode::SetField, object, number, value, constant, line)
-        }
-        KeySeat::Index(number) => {
-            emitter.put_flagged(Opcode::SetI, object, number, value, constant, line)
-        }
-        KeySeat::Register(key) => {
-            emitter.put_flagged(Opcode::SetTable, object, key, value, constant, line)
-        }
-        KeySeat::Above => {
-            emitter.put_flagged(Opcode::SetTable, object, above, value, constant, line)
-        }
-    }
+    let (opcode, key) = match slot.key {
+        KeySeat::Name(number) => (Opcode::SetField, number),
+        KeySeat::Index(number) => (Opcode::SetI, number),
+        KeySeat::Register(key) => (Opcode::SetTable, key),
+        KeySeat::Above => (Opcode::SetTable, slot.above),
+    };
+    emitter.put_flagged(opcode, slot.object, key, value, constant, slot.line)
 }
 
 /// Writes the store of a value, which stands in the register `top` if it is made.
 pub(crate) fn put_value(
     emitter: &mut Emitter,
-    stands: KeySeat,
+    slot: Slot,
     seat: ValueSeat,
-    object: usize,
-    above: usize,
     top: usize,
-    line: u32,
 ) -> Allocated<()>
-    ensures { OnOk result (emitter.new ≡ listed emitter.old (place_store stands seat object above top line ∷ [])) }
+    ensures { OnOk result (emitter.new ≡ listed emitter.old (place_store slot.key seat slot.object slot.above top slot.line ∷ [])) }
 {
     match seat {
-        ValueSeat::Constant(number) => {
-            put_store(emitter, stands, object, above, true, number, line)
-        }
-        ValueSeat::Local(register) => {
-            put_store(emitter, stands, object, above, false, register, line)
-        }
-        ValueSeat::Made => put_store(emitter, stands, object, above, false, top, line),
+        ValueSeat::Constant(number) => put_store(emitter, slot, true, number),
+        ValueSeat::Local(register) => put_store(emitter, slot, false, register),
+        ValueSeat::Made => put_store(emitter, slot, false, top),
     }
+}
+
+/// Writes a key and a value where they are made, the value in the register `top`, and the store of it.
+#[cycle(expressions)]
+pub(crate) fn fill(
+    emitter: &mut Emitter,
+    slot: Slot,
+    key: &Exp,
+    seat: ValueSeat,
+    value: &Exp,
+    top: usize,
+) -> Allocated<()>
+    ensures { OnOk result (emitter.new ≡ followed emitter.old (filled_code emitter.old.constants slot (plain_exp key.now) seat (plain_exp value.now) top emitter.old.made) (made_if (is_above slot.key) (made_by (plain_exp key.now)) + made_if (is_made seat) (made_by (plain_exp value.now)))) }
+{
+    write_made(emitter, slot.key.is_above(), key, slot.above)?;
+    write_made(emitter, seat.is_made(), value, top)?;
+    put_value(emitter, slot, seat, top)?;
+    Ok(())
 }
 
 /// Writes a value that goes to the field of an object, where the registers from one on are free.
@@ -220,9 +232,13 @@ fn store_field(
     let quiet = is_quiet(value);
     let stands = key_seat(emitter, quiet, key);
     let first = stand(emitter, object_at(stands, quiet, object), object, free)?;
-    write_key(emitter, stands, key, above)?;
-    write_value(emitter, seat, value, top)?;
-    put_value(emitter, stands, seat, first, above, top, line)?;
+    let slot = Slot {
+        object: first,
+        key: stands,
+        above,
+        line,
+    };
+    fill(emitter, slot, key, seat, value, top)?;
     Ok(())
 }
 

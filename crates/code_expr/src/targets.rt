@@ -1,5 +1,5 @@
 // Targets of assignments, whose tables and keys wait in registers for the values (Lua 5.4 manual, 3.3.3).
-ghost use Rattle.std.specs.Prelude.{◌≡◌, ◌+◌, ◌++◌, [], ◌∷◌, Some, OnOk};
+ghost use Rattle.std.specs.Prelude.{◌≡◌, ◌+◌, ◌++◌, [], ◌∷◌, false, Some, OnOk};
 ghost use Rattle.tree_core.specs.Plain.{plain_exp};
 ghost use Rattle.code_core.specs.declared.proto.Const.TheVariants.{Str};
 ghost use Rattle.code_of.specs.Constants.{loads};
@@ -8,11 +8,11 @@ ghost use Rattle.code_of.specs.Stores.{key_code, field_store};
 ghost use Rattle.code_of.specs.StoredValues.{stored_value};
 ghost use Rattle.code_of.specs.Targets.{waiting_key, text_key, text_number, global_store, local_store_by, local_store};
 ghost use Rattle.code_emitter.specs.Listing.{followed, listed};
-ghost use Rattle.code_expr.specs.Stores.{key_seat, seat_code};
+ghost use Rattle.code_expr.specs.Stores.{key_seat, is_above, code_if, seat_store};
 ghost use Rattle.code_expr.specs.Targets.{stored_step};
 
 use crate::expressions::expression;
-use crate::stores::{KeySeat, name_in, put_store, write_key};
+use crate::stores::{KeySeat, Slot, name_in, put_store, write_made};
 use code_constants::{numeral_of, short};
 use code_core::Opcode;
 use code_emitter::{Emitter, Step, local_of, next, word_abc};
@@ -81,14 +81,12 @@ fn load_key(
     target: usize,
     line: u32,
 ) -> Allocated<()>
-    ensures { OnOk result (emitter.new ≡ listed emitter.old (seat_code stands (loads emitter.old.constants (Str text.now) target line))) }
+    ensures { OnOk result (emitter.new ≡ listed emitter.old (code_if (is_above stands) (loads emitter.old.constants (Str text.now) target line))) }
 {
-    match stands {
-        KeySeat::Above => emitter.load_text(text, target, line),
-        KeySeat::Name(_) => Ok(()),
-        KeySeat::Index(_) => Ok(()),
-        KeySeat::Register(_) => Ok(()),
+    if !stands.is_above() {
+        return Ok(());
     }
+    emitter.load_text(text, target, line)
 }
 
 /// Writes the table and the key of a field to two registers, but for a key that the store names.
@@ -98,7 +96,7 @@ pub fn aim_field(emitter: &mut Emitter, object: &Exp, key: &Exp, register: usize
     let above = next(register)?;
     let stands = waiting_seat(emitter, key);
     expression(emitter, object, register, 2)?;
-    write_key(emitter, stands, key, above)?;
+    write_made(emitter, stands.is_above(), key, above)?;
     Ok(())
 }
 
@@ -108,6 +106,26 @@ pub fn aim_name(emitter: &mut Emitter, text: &Bytes, target: usize, line: u32) -
 {
     let stands = text_seat(emitter, text);
     load_key(emitter, stands, text, target, line)?;
+    Ok(())
+}
+
+/// Writes the store of a value by a key, which stands above the table in its register if it is made.
+fn put_waiting(
+    emitter: &mut Emitter,
+    key: KeySeat,
+    register: usize,
+    value: usize,
+    line: u32,
+) -> Allocated<()>
+    ensures { OnOk result (emitter.new ≡ listed emitter.old (seat_store key register (register + 1) false value line ∷ [])) }
+{
+    let slot = Slot {
+        object: register,
+        key,
+        above: next(register)?,
+        line,
+    };
+    put_store(emitter, slot, false, value)?;
     Ok(())
 }
 
@@ -121,9 +139,8 @@ pub fn store_waiting(
 ) -> Allocated<()>
     ensures { OnOk result (emitter.new ≡ listed emitter.old (field_store (waiting_key emitter.old.constants (plain_exp key.now)) register register value line ∷ [])) }
 {
-    let above = next(register)?;
     let stands = waiting_seat(emitter, key);
-    put_store(emitter, stands, register, above, false, value, line)?;
+    put_waiting(emitter, stands, register, value, line)?;
     Ok(())
 }
 
@@ -137,9 +154,8 @@ pub fn store_name(
 ) -> Allocated<()>
     ensures { OnOk result (emitter.new ≡ listed emitter.old (field_store (text_key emitter.old.constants text.now) register register value line ∷ [])) }
 {
-    let above = next(register)?;
     let stands = text_seat(emitter, text);
-    put_store(emitter, stands, register, above, false, value, line)?;
+    put_waiting(emitter, stands, register, value, line)?;
     Ok(())
 }
 

@@ -1,19 +1,20 @@
-use Rattle.std.proofs.Common.{arith, rules, ◌≡◌, ℕ, suc, ◌+◌, ◌-◌, ◌<◌, ◌≤◌, ◌&&◌, true, false, [], ◌∷◌, ◌++◌, cond, refl, sym, ap, ◌∙◌, subst, Some, None, length, map}
+use Rattle.std.proofs.Common.{arith, rules, ◌≡◌, ℕ, suc, ◌+◌, ◌-◌, ◌<◌, ◌≤◌, ◌&&◌, true, false, List, [], ◌∷◌, ◌++◌, cond, sym, ap, ◌∙◌, subst, Some, None, length, map}
 use Rattle.std.specs.Prelude.{nat_eq, IfOk}
 use Rattle.tree_core.specs.Tree as tree
 use Rattle.tree_core.specs.declared.operator.UnOp.TheVariants.{Not as Negation}
 use Rattle.tree_core.specs.Plain.{plain_exp, plain_exps, plain_field}
 use Rattle.code_core.specs.declared.opcode.Opcode.TheVariants.{GetTable, GetI, GetField, Concat, ExtraArg}
 use Rattle.code_core.specs.declared.opcode.Opcode.TheVariants.{Call as CallCode}
+use Rattle.code_core.specs.declared.proto.Const.{Const}
 use Rattle.code_core.specs.Instruction.{op_ax}
 use Rattle.code_of.specs.Coded.{with_abc}
-use Rattle.code_of.specs.Operands.{local_of, joins, second_of, key_operand, seat, unless}
+use Rattle.code_of.specs.Operands.{local_of, is_literal, joins, key_operand, seat, unless}
 use Rattle.code_of.specs.Stores.{name_in, is_quiet, field_key}
 use Rattle.code_of.specs.FieldReads.{read_code}
-use Rattle.code_expr.proofs.FieldSeats.{name_makes, keyed_written}
+use Rattle.code_expr.proofs.FieldSeats.{name_makes, stored_written}
 use Rattle.code_of.specs.StoredValues.{stored_value}
-use Rattle.code_expr.specs.Stores.{key_seat, seat_code, seat_made, value_place, place_code, place_made, place_store}
-use Rattle.code_of.proofs.Operands.{operator_stands, key_stands}
+use Rattle.code_expr.specs.Stores.{key_seat, code_if, is_above, made_if, value_place, is_made, place_store}
+use Rattle.code_of.proofs.Operands.{key_stands}
 use Rattle.code_of.specs.Operations.{constant_in, constant_code, operation_code}
 use Rattle.code_of.specs.Chains.{continues, links, unjoined, chain_code}
 use Rattle.code_emitter.proofs.ConstantSeats.{operation_written}
@@ -24,8 +25,9 @@ use Rattle.code_of.specs.Items.{waits}
 use Rattle.code_emitter.specs.Listing.{listed, followed}
 use Rattle.code_emitter.proofs.Joining.{then_made, then_listed, listed_then}
 use Rattle.code_expr.specs.Parts.{so_many, item_behind, keyed_code}
-use Rattle.code_expr.proofs.Going.{fields_from, next_exp, next_field, all_fields, table_written}
+use Rattle.code_expr.proofs.Going.{fields_from, next_exp, next_field, all_fields, table_written, called_written, method_written}
 use Rattle.code_expr.proofs.Waiting.{held_written, held_behind, alone_written, item_held, item_alone}
+use Rattle.code_expr.proofs.LiteralCode.{literal_value}
 use Rattle.code_expr.proofs.Links.{whole_written, chain_is_binary, link_written, link_counted, last_written, last_counted, apart_ends, joined_written}
 use Rattle.std.proofs.lemmas.Result.{on_ok_weaker, IfOk-weaker}
 use Rattle.std.proofs.Common.{ap₂}
@@ -37,28 +39,40 @@ use Rattle.code_expr.specs.Testing.{Tests, either_test, is_valued, is_plain, is_
 use Rattle.code_emitter.proofs.Leading.{opened_at}
 use Rattle.code_expr.proofs.Testing.{paren_tests, and_tests, or_tests, not_tests, by_value_tests, valued_is, operator_is, comparison_tests, other_tests, value_opened, compared_opened, either_here, either_away}
 use Rattle.code_expr.proofs.Kept.{paren_keeps, and_keeps, or_keeps, leaf_keeps, truth_keeps, loaded_keeps, local_keeps, made_keeps, both_keep, one_keeps, either_written}
-use Rattle.code_expr.proofs.Rows.{line_is, binary_plain}
+use Rattle.code_expr.proofs.Rows.{line_is, no_chain, binary_plain}
 use Rattle.code_expr.proofs.+expressions.Goals as goal
 
-pub expressions::expression-returns-in-Call : goal.expressions::expression-returns-in-Call
-expressions::expression-returns-in-Call t c =
-    let es = tree.exps (plain_exps c.in-Call.arguments.items) in
-    let is : plain_exp c.args.exp.now ≡ tree.Call c.args.exp.now.line (plain_exp c.in-Call.called.value) es =
-    ap (λ node. plain_exp_node node c.args.exp.now.line) c.in-Call.is ∙ plain-call c.args.exp.now.line c.in-Call.called c.in-Call.arguments in
-    let called = plain_exp c.deref-in-Call.result.now in
-    let same : tree.Call c.args.exp.now.line called es ≡ plain_exp c.args.exp.now = ap (λ e. tree.Call c.args.exp.now.line (plain_exp e) es) c.deref-in-Call.ensures ∙ sym is in
-    on_ok_weaker c.call.result (whole_written c.args.emitter.now c.call.new.emitter (tree.Call c.args.exp.now.line called es) (plain_exp c.args.exp.now) c.args.target c.args.results same) c.call.ensures
+pub expressions::expression-returns-in-Nil : goal.expressions::expression-returns-in-Nil
+expressions::expression-returns-in-Nil t c =
+    let e = plain_exp c.args.exp.now in
+    let is : is_literal e ≡ true = search rules in
+    on_ok_weaker c.literal.result (literal_value c.args.emitter.now c.literal.new.emitter e c.args.target c.args.results is) c.literal.ensures
 
-pub expressions::expression-returns-in-Method : goal.expressions::expression-returns-in-Method
-expressions::expression-returns-in-Method t c =
+pub expressions::expression-returns-in_ok-field-in-Call : goal.expressions::expression-returns-in_ok-field-in-Call
+expressions::expression-returns-in_ok-field-in-Call t c =
+    let x = c.args.exp.now in
+    let es = tree.exps (plain_exps c.in-Call.arguments.items) in
+    let e = plain_exp c.deref-in-Call.result.now in
+    let same : tree.Call x.line e es ≡ plain_exp x = ap (λ y. tree.Call x.line (plain_exp y) es) c.deref-in-Call.ensures ∙ sym (ap (λ node. plain_exp_node node x.line) c.in-Call.is ∙ plain-call x.line c.in-Call.called c.in-Call.arguments) in
+    let last = λ (n : ℕ). with_abc CallCode c.args.target n c.args.results x.line ∷ [] in
+    on_ok_weaker c.put_abc-in-Call.result
+    (λ put. whole_written c.args.emitter.now c.put_abc-in-Call.new.self (tree.Call x.line e es) (plain_exp x) c.args.target c.args.results same
+    (called_written c.args.emitter.now c.pass.new.emitter c.put_abc-in-Call.new.self e es c.args.target x.line (last (list_field 0 es)) c.in_ok-field-in-Call.ensures.code
+    (put ∙ ap (λ n. listed c.pass.new.emitter (last n)) c.in_ok-field-in-Call.ensures.field))) c.put_abc-in-Call.ensures
+
+pub expressions::expression-returns-in_ok-field-in-Method : goal.expressions::expression-returns-in_ok-field-in-Method
+expressions::expression-returns-in_ok-field-in-Method t c =
+    let x = c.args.exp.now in
+    let name = c.in-Method.name in
     let es = tree.exps (plain_exps c.in-Method.arguments.items) in
-    let is : plain_exp c.args.exp.now ≡ tree.Method c.args.exp.now.line (plain_exp c.in-Method.object.value) c.in-Method.name es =
-    ap (λ node. plain_exp_node node c.args.exp.now.line) c.in-Method.is ∙ plain-method c.args.exp.now.line c.in-Method.object c.in-Method.name c.in-Method.arguments in
-    let object = plain_exp c.deref-in-Method.result.now in
-    let same : tree.Method c.args.exp.now.line object c.in-Method.name es ≡ plain_exp c.args.exp.now =
-    ap (λ e. tree.Method c.args.exp.now.line (plain_exp e) c.in-Method.name es) c.deref-in-Method.ensures ∙ sym is in
-    on_ok_weaker c.method.result
-    (whole_written c.args.emitter.now c.method.new.emitter (tree.Method c.args.exp.now.line object c.in-Method.name es) (plain_exp c.args.exp.now) c.args.target c.args.results same) c.method.ensures
+    let e = plain_exp c.deref-in-Method.result.now in
+    let same : tree.Method x.line e name es ≡ plain_exp x =
+    ap (λ y. tree.Method x.line (plain_exp y) name es) c.deref-in-Method.ensures ∙ sym (ap (λ node. plain_exp_node node x.line) c.in-Method.is ∙ plain-method x.line c.in-Method.object name c.in-Method.arguments) in
+    let last = λ (n : ℕ). with_abc CallCode c.args.target n c.args.results x.line ∷ [] in
+    on_ok_weaker c.put_abc-in-Method.result
+    (λ put. whole_written c.args.emitter.now c.put_abc-in-Method.new.self (tree.Method x.line e name es) (plain_exp x) c.args.target c.args.results same
+    (method_written c.args.emitter.now c.pass_method.new.emitter c.put_abc-in-Method.new.self e es c.args.target x.line (last (list_field 1 es)) name.text c.in_ok-field-in-Method.ensures.code
+    (put ∙ ap (λ n. listed c.pass_method.new.emitter (last n)) c.in_ok-field-in-Method.ensures.field))) c.put_abc-in-Method.ensures
 
 pub expressions::unary-returns : goal.expressions::unary-returns
 expressions::unary-returns t c =
@@ -137,17 +151,17 @@ chains::link_right-returns-else-continues-clause-count t c =
     let ends = apart_ends c.args.line own c.in-Binary.op e d (plain_exp c.args.exp.now) is (sym c.continues.ensures ∙ c.if-continues.false) in
     IfOk-weaker c.last_link.result (λ n. n ≡ 1) (λ n. n ≡ links c.args.line (plain_exp c.args.exp.now)) (last_counted c.args.line (plain_exp c.args.exp.now) ends) c.last_link.ensures.count
 
-pub chains::link_right-returns-in-Nil-clause-code : goal.chains::link_right-returns-in-Nil-clause-code
-chains::link_right-returns-in-Nil-clause-code t c =
+pub chains::link_right-returns-in_default-clause-code : goal.chains::link_right-returns-in_default-clause-code
+chains::link_right-returns-in_default-clause-code t c =
     let x = plain_exp c.args.exp.now in
-    let ends : continues c.args.line x ≡ false = search rules in
-    on_ok_weaker c.last_link-in-Nil.result (last_written c.args.line x ends c.args.emitter.now c.last_link-in-Nil.new.emitter c.args.target) c.last_link-in-Nil.ensures.code
+    let ends = no_chain c.args.line c.args.exp.now.line c.args.exp.now.node c.in_default.not-Binary in
+    on_ok_weaker c.last_link-in_default.result (last_written c.args.line x ends c.args.emitter.now c.last_link-in_default.new.emitter c.args.target) c.last_link-in_default.ensures.code
 
-pub chains::link_right-returns-in-Nil-clause-count : goal.chains::link_right-returns-in-Nil-clause-count
-chains::link_right-returns-in-Nil-clause-count t c =
+pub chains::link_right-returns-in_default-clause-count : goal.chains::link_right-returns-in_default-clause-count
+chains::link_right-returns-in_default-clause-count t c =
     let x = plain_exp c.args.exp.now in
-    let ends : continues c.args.line x ≡ false = search rules in
-    IfOk-weaker c.last_link-in-Nil.result (λ n. n ≡ 1) (λ n. n ≡ links c.args.line x) (last_counted c.args.line x ends) c.last_link-in-Nil.ensures.count
+    let ends = no_chain c.args.line c.args.exp.now.line c.args.exp.now.node c.in_default.not-Binary in
+    IfOk-weaker c.last_link-in_default.result (λ n. n ≡ 1) (λ n. n ≡ links c.args.line x) (last_counted c.args.line x ends) c.last_link-in_default.ensures.count
 
 pub expressions::operand-returns-in-Some-clause-code : goal.expressions::operand-returns-in-Some-clause-code
 expressions::operand-returns-in-Some-clause-code t c =
@@ -200,38 +214,29 @@ expressions::either-returns t c =
     either_written c.args.emitter.now c.keep.new.emitter c.expression.new.emitter c.lead.new.self c.args.decides c.args.target c.len-end.result (plain_exp c.args.first.now) (plain_exp c.args.second.now) c.in_ok-decided.decided.items
     c.in_ok-decided.ensures c.in_ok-expression.ensures end led
 
-pub expressions::call-returns : goal.expressions::call-returns
-expressions::call-returns t c =
+pub expressions::pass-returns-clause-code : goal.expressions::pass-returns-clause-code
+expressions::pass-returns-clause-code t c =
     let k = c.args.emitter.now.constants in
+    let e = plain_exp c.args.called.now in
     let es = tree.exps (plain_exps c.args.arguments.now.items) in
-    let called = with_abc CallCode c.args.target (list_field 0 es) c.args.results c.args.line in
     let values : c.list.new.emitter ≡ followed c.expression.new.emitter (exps_code c.expression.new.emitter.constants es None (c.args.target + 1) c.expression.new.emitter.made c.args.line) (made_in es) =
     rw c.in_ok-next.ensures at c.in_ok-list.ensures in
-    let call : c.put_abc.new.self ≡ listed c.list.new.emitter (called ∷ []) = rw c.list_field.ensures at c.in_ok-put_abc.ensures in
-    then_made c.args.emitter.now c.expression.new.emitter c.put_abc.new.self (exp_code k (plain_exp c.args.called.now) c.args.target c.args.emitter.now.made 2) (made_by (plain_exp c.args.called.now))
-    (λ k j. exps_code k es None (c.args.target + 1) j c.args.line ++ called ∷ []) (made_in es) c.in_ok-expression.ensures
-    (then_listed c.expression.new.emitter c.list.new.emitter c.put_abc.new.self (exps_code c.expression.new.emitter.constants es None (c.args.target + 1) c.expression.new.emitter.made c.args.line) (made_in es)
-    (λ k. called ∷ []) values call)
+    then_made c.args.emitter.now c.expression.new.emitter c.list.new.emitter (exp_code k e c.args.target c.args.emitter.now.made 2) (made_by e) (λ k j. exps_code k es None (c.args.target + 1) j c.args.line) (made_in es)
+    c.in_ok-expression.ensures values
 
-pub expressions::method-returns : goal.expressions::method-returns
-expressions::method-returns t c =
+pub expressions::pass_method-returns-clause-code : goal.expressions::pass_method-returns-clause-code
+expressions::pass_method-returns-clause-code t c =
     let k = c.args.emitter.now.constants in
     let e = plain_exp c.args.object.now in
     let x = seat (local_of e) c.args.target in
     let es = tree.exps (plain_exps c.args.arguments.now.items) in
-    let text = c.args.name.now.text in
-    let called = with_abc CallCode c.args.target (list_field 1 es) c.args.results c.args.line in
+    let found = λ (k : List Const). self_code k c.args.name.now.text x c.args.target c.args.line in
+    let rest = λ (k : List Const) (j : ℕ). exps_code k es None (c.args.target + 2) j c.args.line in
     let two : c.in_ok-next.field-0 ≡ c.args.target + 2 = omega (arith, c.in_ok-next.ensures, c.in_ok-above.ensures) in
-    let looked_up : c.look_up_method.new.self ≡ listed c.operand.new.emitter (self_code c.operand.new.emitter.constants text x c.args.target c.args.line) = rw c.in_ok-register.ensures.place at c.in_ok-look_up_method.ensures in
-    let values : c.list.new.emitter ≡ followed c.look_up_method.new.self (exps_code c.look_up_method.new.self.constants es None (c.args.target + 2) c.look_up_method.new.self.made c.args.line) (made_in es) =
-    rw two at c.in_ok-list.ensures in
-    let call : c.put_abc.new.self ≡ listed c.list.new.emitter (called ∷ []) = rw c.list_field.ensures at c.in_ok-put_abc.ensures in
-    then_made c.args.emitter.now c.operand.new.emitter c.put_abc.new.self (unless (local_of e) (exp_code k e c.args.target c.args.emitter.now.made 2)) (made_by e)
-    (λ k j. self_code k text x c.args.target c.args.line ++ (exps_code k es None (c.args.target + 2) j c.args.line ++ called ∷ [])) (made_in es) c.in_ok-register.ensures.code
-    (listed_then c.operand.new.emitter c.look_up_method.new.self c.put_abc.new.self (self_code c.operand.new.emitter.constants text x c.args.target c.args.line)
-    (λ k j. exps_code k es None (c.args.target + 2) j c.args.line ++ called ∷ []) (made_in es) looked_up
-    (then_listed c.look_up_method.new.self c.list.new.emitter c.put_abc.new.self (exps_code c.look_up_method.new.self.constants es None (c.args.target + 2) c.look_up_method.new.self.made c.args.line) (made_in es)
-    (λ k. called ∷ []) values call))
+    let looked_up : c.look_up_method.new.self ≡ listed c.operand.new.emitter (found c.operand.new.emitter.constants) = rw c.in_ok-register.ensures.place at c.in_ok-look_up_method.ensures in
+    let values : c.list.new.emitter ≡ followed c.look_up_method.new.self (rest c.look_up_method.new.self.constants c.look_up_method.new.self.made) (made_in es) = rw two at c.in_ok-list.ensures in
+    then_made c.args.emitter.now c.operand.new.emitter c.list.new.emitter (unless (local_of e) (exp_code k e c.args.target c.args.emitter.now.made 2)) (made_by e) (λ k j. found k ++ rest k j) (made_in es) c.in_ok-register.ensures.code
+    (listed_then c.operand.new.emitter c.look_up_method.new.self c.list.new.emitter (found c.operand.new.emitter.constants) rest (made_in es) looked_up values)
 
 pub expressions::list-loop-exp-preserved : goal.expressions::list-loop-exp-preserved
 expressions::list-loop-exp-preserved t c =
@@ -283,14 +288,22 @@ items::item-returns-then-waits-clause-items t c =
 pub items::item-returns-clause-code : goal.items::item-returns-clause-code
 items::item-returns-clause-code t c =
     let e = plain_exp c.args.value.now in
+    let items = c.args.items in
+    let r = c.store_items.new.emitter in
     let w : waits e ≡ false = sym c.waits.ensures ∙ c.if-waits.false in
-    on_ok_weaker c.lone_item.result (item_alone c.args.emitter.now c.lone_item.new.emitter e c.args.whole c.args.items c.args.target c.args.line w) c.lone_item.ensures.code
+    let value : c.expression.new.emitter ≡ followed r (exp_code r.constants e (c.args.target + 1) r.made (cond c.args.whole 0 2)) (made_by e) = rw c.in_ok-above.ensures at rw c.item_field.ensures at c.in_ok-expression.ensures in
+    let stored : c.set_list.new.self ≡ listed c.expression.new.emitter (set_list c.args.target (cond c.args.whole 0 1) (items.stored + items.waiting) c.args.line) =
+    rw c.in_ok-count.ensures at rw c.stored_field.ensures at c.in_ok-set_list.ensures in
+    item_alone c.args.emitter.now c.set_list.new.self e c.args.whole items c.args.target c.args.line w
+    (alone_written c.args.emitter.now r c.expression.new.emitter c.set_list.new.self e (cond c.args.whole 0 2) (cond c.args.whole 0 1) items.stored items.waiting (c.args.target + 1) c.args.target c.args.line
+    c.in_ok-store_items.ensures value stored)
 
 pub items::item-returns-clause-items : goal.items::item-returns-clause-items
 items::item-returns-clause-items t c =
-    let e = plain_exp c.args.value.now in
-    let w : waits e ≡ false = sym c.waits.ensures ∙ c.if-waits.false in
-    IfOk-weaker c.lone_item.result (λ n. n ≡ item_behind false c.args.items) (λ n. n ≡ item_behind (waits e) c.args.items) (λ n h. h ∙ ap (λ b. item_behind b c.args.items) (sym w)) c.lone_item.ensures.items
+    let items = c.args.items in
+    let w : waits (plain_exp c.args.value.now) ≡ false = sym c.waits.ensures ∙ c.if-waits.false in
+    let all : c.in_ok-stored.stored ≡ items.stored + items.waiting + 1 = omega (arith, c.in_ok-stored.ensures, c.in_ok-count.ensures) in
+    ap (λ n. so_many n 0) all ∙ ap (λ b. item_behind b items) (sym w)
 
 pub items::waiting_item-returns-clause-code : goal.items::waiting_item-returns-clause-code
 items::waiting_item-returns-clause-code t c =
@@ -302,43 +315,33 @@ items::waiting_item-returns-clause-code t c =
 pub items::waiting_item-returns-clause-items : goal.items::waiting_item-returns-clause-items
 items::waiting_item-returns-clause-items t c = c.in_ok-behind.ensures.items ∙ held_behind c.args.items c.in_ok-waiting.waiting c.in_ok-waiting.ensures
 
-pub items::lone_item-returns-clause-code : goal.items::lone_item-returns-clause-code
-items::lone_item-returns-clause-code t c =
-    let e = plain_exp c.args.value.now in
-    let items = c.args.items in
-    let r = c.store_items.new.emitter in
-    let field : c.item_field.result ≡ cond c.args.whole 0 2 = c.item_field.ensures in
-    let value : c.expression.new.emitter ≡ followed r (exp_code r.constants e (c.args.target + 1) r.made (cond c.args.whole 0 2)) (made_by e) = rw c.in_ok-above.ensures at rw field at c.in_ok-expression.ensures in
-    let stored : c.set_list.new.self ≡ listed c.expression.new.emitter (set_list c.args.target (cond c.args.whole 0 1) (items.stored + items.waiting) c.args.line) =
-    rw c.in_ok-count.ensures at rw c.stored_field.ensures at c.in_ok-set_list.ensures in
-    alone_written c.args.emitter.now r c.expression.new.emitter c.set_list.new.self e (cond c.args.whole 0 2) (cond c.args.whole 0 1) items.stored items.waiting (c.args.target + 1) c.args.target c.args.line
-    c.in_ok-store_items.ensures value stored
-
-pub items::lone_item-returns-clause-items : goal.items::lone_item-returns-clause-items
-items::lone_item-returns-clause-items t c =
-    let items = c.args.items in
-    let all : c.in_ok-stored.stored ≡ items.stored + items.waiting + 1 = omega (arith, c.in_ok-stored.ensures, c.in_ok-count.ensures) in
-    ap (λ n. so_many n 0) all
-
 pub expressions::keyed-returns-clause-code : goal.expressions::keyed-returns-clause-code
 expressions::keyed-returns-clause-code t c =
     let r = c.store_items.new.emitter in
     let key = plain_exp c.args.key.now in
     let e = plain_exp c.args.value.now in
-    let s = key_seat (field_key r.constants (is_quiet e) key) in
     let one = c.in_ok-above.ensures in
     let two : c.in_ok-top.top ≡ c.args.target + 2 = omega (arith, c.in_ok-above.ensures, c.in_ok-top.ensures) in
-    let stands : c.key_seat-stands.result ≡ s = rw c.is_quiet-quiet.ensures at c.key_seat-stands.ensures in
-    let made : c.write_key.new.emitter ≡ followed r (seat_code s (exp_code r.constants key (c.args.target + 1) r.made 2)) (seat_made s (made_by key)) = rw one at rw stands at c.in_ok-write_key.ensures in
-    let v = value_place (stored_value r.constants e) in
-    let held : c.value_seat-seat.result ≡ v = c.value_seat-seat.ensures in
-    let value : c.write_value.new.emitter ≡ followed c.write_key.new.emitter (place_code v (exp_code c.write_key.new.emitter.constants e (c.args.target + 2) c.write_key.new.emitter.made 2)) (place_made v (made_by e)) =
-    rw two at rw held at c.in_ok-write_value.ensures in
-    let store : c.put_value.new.emitter ≡ listed c.write_value.new.emitter (place_store s v c.args.target (c.args.target + 1) (c.args.target + 2) c.args.line ∷ []) =
-    rw two at rw one at rw held at rw stands at c.in_ok-put_value.ensures in
+    let stands : c.key_seat.result ≡ key_seat (field_key r.constants (is_quiet e) key) = rw c.is_quiet-quiet.ensures at c.key_seat.ensures in
+    let held : c.value_seat-seat.result ≡ value_place (stored_value r.constants e) = c.value_seat-seat.ensures in
     let before = waiting_code c.args.items.stored c.args.items.waiting c.args.target c.args.table_line in
-    listed_then c.args.emitter.now r c.put_value.new.emitter before (λ k j. keyed_code k key e c.args.target j c.args.line) (made_by key + made_by e) c.in_ok-store_items.ensures
-    (keyed_written r c.write_key.new.emitter c.write_value.new.emitter c.put_value.new.emitter c.args.line key e c.args.target made value store)
+    listed_then c.args.emitter.now r c.fill.new.emitter before (λ k j. keyed_code k key e c.args.target j c.args.line) (made_by key + made_by e) c.in_ok-store_items.ensures
+    (stored_written r c.fill.new.emitter r.constants c.args.line key e c.args.target c.args.target (rw two at rw one at rw held at rw stands at c.in_ok-fill.ensures))
+
+pub stores::fill-returns : goal.stores::fill-returns
+stores::fill-returns t c =
+    let slot = c.args.slot in
+    let key = plain_exp c.args.key.now in
+    let e = plain_exp c.args.value.now in
+    let r = c.write_made.new.emitter in
+    let made = made_if (is_made c.args.seat) (made_by e) in
+    let third = λ (k : List Const) (j : ℕ). code_if (is_made c.args.seat) (exp_code k e c.args.top j 2) in
+    let last = place_store slot.key c.args.seat slot.object slot.above c.args.top slot.line ∷ [] in
+    let first : r ≡ followed c.args.emitter.now (code_if (is_above slot.key) (exp_code c.args.emitter.now.constants key slot.above c.args.emitter.now.made 2)) (made_if (is_above slot.key) (made_by key)) =
+    rw c.is_above.ensures at c.in_ok-write_made.ensures in
+    let second : c.write_made-2.new.emitter ≡ followed r (third r.constants r.made) made = rw c.is_made.ensures at c.in_ok-write_made-2.ensures in
+    then_made c.args.emitter.now r c.put_value.new.emitter (code_if (is_above slot.key) (exp_code c.args.emitter.now.constants key slot.above c.args.emitter.now.made 2)) (made_if (is_above slot.key) (made_by key)) (λ k j. third k j ++ last) made first
+    (then_listed r c.write_made-2.new.emitter c.put_value.new.emitter (third r.constants r.made) made (λ k. last) second c.in_ok-put_value.ensures)
 
 pub expressions::keyed-returns-clause-items : goal.expressions::keyed-returns-clause-items
 expressions::keyed-returns-clause-items t c = ap (λ n. so_many n 0) c.in_ok-stored.ensures
@@ -490,28 +493,21 @@ keeping::keep_truth-returns t c =
 
 pub keeping::keep_either-returns-then-decides-k : goal.keeping::keep_either-returns-then-decides-k
 keeping::keep_either-returns-then-decides-k t c =
-    let same : c.args.decides ≡ c.args.k = search rules in
     let e = plain_exp c.args.first.now in
     let d = plain_exp c.args.second.now in
-    subst (λ b. IfOk c.keep_both.result (λ places. Opened c.args.emitter.now c.keep_both.new.emitter (λ ahead. either_keep c.args.emitter.now.constants b e d c.args.k ahead c.args.target c.args.emitter.now.made) (made_by e + made_by d) places.items)) (sym same)
-    c.keep_both.ensures
+    let same : c.args.decides ≡ c.args.k = search rules in
+    let items : c.append.new.self.items ≡ c.in_ok-away.away.items ++ c.in_ok-decided.decided.items = search rules in
+    opened_at c.args.emitter.now c.keep-then-decides-k.new.emitter (λ ahead. either_keep c.args.emitter.now.constants c.args.decides e d c.args.k ahead c.args.target c.args.emitter.now.made)
+    (made_by e + made_by d) (c.in_ok-away.away.items ++ c.in_ok-decided.decided.items) c.append.new.self.items items
+    (both_keep c.args.emitter.now c.keep.new.emitter c.keep-then-decides-k.new.emitter c.args.decides c.args.k c.args.target e d c.in_ok-decided.decided.items c.in_ok-away.away.items same c.in_ok-decided.ensures c.in_ok-away.ensures)
 
 pub keeping::keep_either-returns : goal.keeping::keep_either-returns
 keeping::keep_either-returns t c =
     let differ : c.args.decides ≡ c.args.k → ⊥ = search rules in
-    let end : c.len-end.result ≡ length c.keep.new.emitter.steps = search rules in
-    let led : c.lead.new.self ≡ led_on c.keep.new.emitter c.in_ok-passed.passed.items c.len-end.result = search rules in
-    one_keeps c.args.emitter.now c.condition.new.emitter c.keep.new.emitter c.lead.new.self c.args.decides c.args.k c.args.target c.len-end.result (plain_exp c.args.first.now) (plain_exp c.args.second.now)
-    c.in_ok-passed.passed.items c.in_ok-away.away.items differ c.in_ok-passed.ensures c.in_ok-away.ensures end led
-
-pub keeping::keep_both-returns : goal.keeping::keep_both-returns
-keeping::keep_both-returns t c =
-    let e = plain_exp c.args.first.now in
-    let d = plain_exp c.args.second.now in
-    let items : c.append.new.self.items ≡ c.in_ok-away.away.items ++ c.in_ok-decided.decided.items = search rules in
-    opened_at c.args.emitter.now c.keep-2.new.emitter (λ ahead. either_keep c.args.emitter.now.constants c.args.k e d c.args.k ahead c.args.target c.args.emitter.now.made)
-    (made_by e + made_by d) (c.in_ok-away.away.items ++ c.in_ok-decided.decided.items) c.append.new.self.items items
-    (both_keep c.args.emitter.now c.keep.new.emitter c.keep-2.new.emitter c.args.k c.args.k c.args.target e d c.in_ok-decided.decided.items c.in_ok-away.away.items refl c.in_ok-decided.ensures c.in_ok-away.ensures)
+    let end : c.len-end.result ≡ length c.keep-2.new.emitter.steps = search rules in
+    let led : c.lead.new.self ≡ led_on c.keep-2.new.emitter c.in_ok-passed.passed.items c.len-end.result = search rules in
+    one_keeps c.args.emitter.now c.condition.new.emitter c.keep-2.new.emitter c.lead.new.self c.args.decides c.args.k c.args.target c.len-end.result (plain_exp c.args.first.now) (plain_exp c.args.second.now)
+    c.in_ok-passed.passed.items c.in_ok-away-2.away.items differ c.in_ok-passed.ensures c.in_ok-away-2.ensures end led
 
 pub keeping::keep_value-returns-in-Some : goal.keeping::keep_value-returns-in-Some
 keeping::keep_value-returns-in-Some t c =
@@ -535,23 +531,23 @@ expressions::both-expression-requires-2 t c = (omega (arith, c.decreases), tt)
 pub expressions::either-expression-requires : goal.expressions::either-expression-requires
 expressions::either-expression-requires t c = (omega (arith, c.decreases), tt)
 
-pub expressions::keyed-write_value-requires : goal.expressions::keyed-write_value-requires
-expressions::keyed-write_value-requires t c = (omega (arith, c.decreases), tt)
+pub stores::fill-write_made-requires-2 : goal.stores::fill-write_made-requires-2
+stores::fill-write_made-requires-2 t c = (omega (arith, c.decreases), tt)
 
-pub expressions::call-list-requires : goal.expressions::call-list-requires
-expressions::call-list-requires t c = (omega (arith, c.decreases), tt)
+pub expressions::pass-list-requires : goal.expressions::pass-list-requires
+expressions::pass-list-requires t c = (omega (arith, c.decreases), tt)
 
-pub expressions::method-list-requires : goal.expressions::method-list-requires
-expressions::method-list-requires t c = (omega (arith, c.decreases), tt)
+pub expressions::pass_method-list-requires : goal.expressions::pass_method-list-requires
+expressions::pass_method-list-requires t c = (omega (arith, c.decreases), tt)
 
 pub conditions::either_of-condition-requires-2 : goal.conditions::either_of-condition-requires-2
 conditions::either_of-condition-requires-2 t c = (omega (arith, c.decreases), tt)
 
-pub keeping::keep_either-keep-requires : goal.keeping::keep_either-keep-requires
-keeping::keep_either-keep-requires t c = (omega (arith, c.decreases), tt)
+pub keeping::keep_either-keep-requires-then-decides-k : goal.keeping::keep_either-keep-requires-then-decides-k
+keeping::keep_either-keep-requires-then-decides-k t c = (omega (arith, c.decreases), tt)
 
-pub keeping::keep_both-keep-requires-2 : goal.keeping::keep_both-keep-requires-2
-keeping::keep_both-keep-requires-2 t c = (omega (arith, c.decreases), tt)
+pub keeping::keep_either-keep-requires-2 : goal.keeping::keep_either-keep-requires-2
+keeping::keep_either-keep-requires-2 t c = (omega (arith, c.decreases), tt)
 
 pub chains::link-link_right-requires : goal.chains::link-link_right-requires
 chains::link-link_right-requires t c = (omega (arith, c.decreases), tt)

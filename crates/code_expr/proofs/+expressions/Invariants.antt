@@ -74,20 +74,17 @@ decreases-keeping::keep l = 7 * the_size l.exp.now + 5
 abbrev pub decreases-keeping::keep_either : goal.decreases-keeping::keep_either
 decreases-keeping::keep_either l = 7 * max (the_size l.first.now) (the_size l.second.now) + 7
 
-abbrev pub decreases-keeping::keep_both : goal.decreases-keeping::keep_both
-decreases-keeping::keep_both l = 7 * max (the_size l.first.now) (the_size l.second.now) + 6
-
 abbrev pub decreases-keeping::keep_value : goal.decreases-keeping::keep_value
 decreases-keeping::keep_value l = 7 * the_size l.exp.now + 1
 
 abbrev pub decreases-keeping::keep_truth : goal.decreases-keeping::keep_truth
 decreases-keeping::keep_truth l = 7 * the_size l.exp.now + 4
 
-abbrev pub decreases-expressions::call : goal.decreases-expressions::call
-decreases-expressions::call l = 7 * max (the_size l.called.now) (greatest l.arguments.now.items) + 2
+abbrev pub decreases-expressions::pass : goal.decreases-expressions::pass
+decreases-expressions::pass l = 7 * max (the_size l.called.now) (greatest l.arguments.now.items) + 2
 
-abbrev pub decreases-expressions::method : goal.decreases-expressions::method
-decreases-expressions::method l = 7 * max (the_size l.object.now) (greatest l.arguments.now.items) + 2
+abbrev pub decreases-expressions::pass_method : goal.decreases-expressions::pass_method
+decreases-expressions::pass_method l = 7 * max (the_size l.object.now) (greatest l.arguments.now.items) + 2
 
 abbrev pub decreases-expressions::list : goal.decreases-expressions::list
 decreases-expressions::list l = 7 * greatest l.list.now.items + 1
@@ -104,17 +101,14 @@ decreases-items::item l = 7 * the_size l.value.now + 2
 abbrev pub decreases-items::waiting_item : goal.decreases-items::waiting_item
 decreases-items::waiting_item l = 7 * the_size l.value.now + 1
 
-abbrev pub decreases-items::lone_item : goal.decreases-items::lone_item
-decreases-items::lone_item l = 7 * the_size l.value.now + 1
-
 abbrev pub decreases-expressions::keyed : goal.decreases-expressions::keyed
-decreases-expressions::keyed l = 7 * max (the_size l.key.now) (the_size l.value.now) + 2
+decreases-expressions::keyed l = 7 * max (the_size l.key.now) (the_size l.value.now) + 3
 
-abbrev pub decreases-stores::write_key : goal.decreases-stores::write_key
-decreases-stores::write_key l = 7 * the_size l.key.now + 1
+abbrev pub decreases-stores::fill : goal.decreases-stores::fill
+decreases-stores::fill l = 7 * max (the_size l.key.now) (the_size l.value.now) + 2
 
-abbrev pub decreases-stores::write_value : goal.decreases-stores::write_value
-decreases-stores::write_value l = 7 * the_size l.value.now + 1
+abbrev pub decreases-stores::write_made : goal.decreases-stores::write_made
+decreases-stores::write_made l = 7 * the_size l.exp.now + 1
 
 abbrev pub decreases-chains::join : goal.decreases-chains::join
 decreases-chains::join l = 7 * max (the_size l.left.now) (the_size l.right.now) + 4
