@@ -8,7 +8,7 @@ use Rattle.machine_loop.specs.Running.{Running}
 use Rattle.frame_calls.specs.Standing.{RunsAt, standing}
 use Rattle.frame_calls.proofs.Chained.{reaches_none, reaches_then}
 use Rattle.running_frame.specs.Advancing.{Advances}
-use Rattle.running_frame.specs.Inheriting.{GoesWith}
+use Rattle.running_frame.specs.Between.{GoesWith}
 
 pub advances_none : (g : Running) (s : KeptStack) (ts : List Contents) (cs : List Cell) (fuel : ℕ) → Advances g s s ts ts cs cs fuel fuel
 advances_none g s ts cs fuel = record { reaches = reaches_none g.around.rows (standing g s ts cs fuel); opened = refl; listed = refl }

@@ -14,7 +14,7 @@ use Rattle.object_pool.specs.Pool.{Pool}
 use Rattle.table_core.specs.Table.{Contents}
 use Rattle.table_core.specs.declared.value.CellId.{CellId}
 use Rattle.table_core.specs.declared.value.CoroId.{CoroId}
-use Rattle.lua_stack.specs.Frames.{KeptStack, frames}
+use Rattle.lua_stack.specs.Frames.{KeptStack, OnTop, frames}
 use Rattle.lua_heap.specs.declared.codes.Code.{Code}
 use Rattle.lua_heap.specs.declared.world.World.{World as Memory}
 use Rattle.lua_heap.specs.declared.world.Cell.{Cell}
@@ -31,15 +31,15 @@ use Rattle.machine_loop.specs.Running.{Running}
 use Rattle.machine_loop.proofs.Alike.{still_open}
 use Rattle.move_laws.specs.Memory.{Runs, ChangesStack, InOrder}
 use Rattle.move_laws.proofs.Places.{place_is}
-use Rattle.move_laws.proofs.Running.{shown, changed_stack_is_put, place_put, with_top as at_with}
-use Rattle.machine_moves.proofs.OfCode.{function_kept, code_is}
+use Rattle.move_laws.proofs.Running.{shown, changed_stack_is_put, of_top, place_put, with_top as at_with}
+use Rattle.machine_moves.proofs.OfCode.{function_kept, function_there, code_is}
 use Rattle.step_laws.specs.Steps.{IsReady}
-use Rattle.step_laws.proofs.Ready.{ready_by_fuel}
+use Rattle.step_laws.proofs.Ready.{go_has_frame, ready_by_fuel}
 use Rattle.running_frame.specs.declared.place.Here.{Here}
 use Rattle.frame_calls.specs.Calling.{AreFunctions, program_in}
 use Rattle.running_frame.specs.Here.{is_none, IsHere}
 use Rattle.frame_calls.specs.Standing.{standing, MayRun}
-use Rattle.running_frame.specs.Apart.{IsHereIn, apart, IsApart}
+use Rattle.running_frame.specs.Apart.{IsHereIn, apart, IsApart, held_apart, place_or_any}
 use Rattle.running_frame.proofs.Words.{few_words}
 use Rattle.running_frame.proofs.Places.{has_word}
 use Rattle.frame_calls.proofs.Held.{reaches_by, stands_at, stacked_same, world_same}
@@ -190,6 +190,20 @@ ready_there primitives rows old new fuel left safe k o x = record {
   order = o;
 }
 
+-- the frame on top of a world in which nothing moves is held apart
+pub apart_there : (primitives : ℕ) (rows : ℕ → Row) (W : Memory) → PrimitivesSafe primitives rows → IsReady primitives go W → W.moving.items ≡ [] → IsApart (held_apart primitives rows W) W
+apart_there primitives rows W safe ready still =
+    let f = go_has_frame primitives W ready in
+    record {
+      place = f.place;
+      is = f.is;
+      held = ap (λ o. apart primitives rows W (place_or_any o)) f.is;
+      still = still;
+      safe = safe;
+      after = ready.after;
+      order = ready.order;
+    }
+
 -- the functions of a world in memory
 
 module _ (primitives : ℕ) (W : Memory) (after : SoundAfter primitives go (plain W 0)) (order : InOrder W) (law : CheckedCodeIsThere) where
@@ -210,3 +224,52 @@ module _ (primitives : ℕ) (W : Memory) (after : SoundAfter primitives go (plai
         let says = order.codes.each f.code.0 (prototype_at ps f.code.0) code (prototype_there ps f.code.0 (code_within n f e)) c in
         record { function = machine_function f; is = function_at n f e; words = says.words; params = says.params; vararg = says.vararg; stack = says.stack };
   }
+
+-- the frame that is held apart, over the stack on which it stands
+
+module _ (g : Running) (W : Memory) (h : IsApart g W) (co : CoroId) (s : KeptStack) (r : Runs W co s) where
+  pub own_is : co.0 ≡ g.around.context.coroutine
+  own_is = sym (shown W co s h.place r h.is).coroutine ∙ ap (λ (g : Running). g.around.context.coroutine) (sym h.held)
+
+  pub functions_so : CheckedCodeIsThere → AreFunctions g.around.context.base.functions (program_in W)
+  functions_so law = subst (λ (g : Running). AreFunctions g.around.context.base.functions (program_in W)) (sym h.held) (are_functions g.around.primitives W h.after h.order law)
+
+  -- its function and the code of that
+
+  module _ (n : ℕ) (same : OnTop s (λ f t. n ≡ t.function)) where
+    number : n ≡ h.place.top.function
+    number = of_top W co s h.place (λ f t. n ≡ t.function) r h.is same
+
+    pub top_func_within : n < length W.funcs.objects
+    top_func_within = function_there W h.place n (function_kept W h.place n h.is number)
+
+    module _ (f : Func) (there : slice_get W.funcs.objects n ≡ Some f) (law : CheckedCodeIsThere) where
+      pub top_code_within : f.code.0 < length W.codes.list.items
+      top_code_within = number_there g W h n f number there law
+
+      module _ (code : Code) (at : slice_get W.codes.list.items f.code.0 ≡ Some code) where
+        says : IsCodeKept W.strings f.code.0 h.place.function.code code
+        says = code_says g W h n f number there law code at
+
+        abbrev k : LoopCode
+        k = record { words = code.words.items; constants = code.constants.items; upvalues = f.cells.items; texts = W.strings }
+
+        pub size_so : code.stack ≡ g.around.context.closure.code.own.stack
+        size_so = says.stack ∙ ap (λ (g : Running). g.around.context.closure.code.own.stack) (sym h.held)
+
+        pub may_run_so : AreApart W.strings → AreShort W.strings → (fuel : ℕ) → MayRun g k s W.tables.objects W.cells.objects fuel
+        may_run_so a b fuel =
+            of_held (λ g. MayRun g k s W.tables.objects W.cells.objects fuel) g h
+            (may_run g.around.primitives g.around.rows W h.place h.is h.still co s r code f.code.0 f.cells.items fuel h.safe h.after h.order says (cells_are g W h n f number there) a b)
+
+        -- where it is with another stack in its place
+        pub here_so : (tables : Tables) (cells : Cells) (V : Memory) (u : KeptStack) → ChangesStack (with_parts W tables cells) V co u → (here : Here) → IsHereIn g k u here → IsHere V here
+        here_so tables cells V u c here x =
+            here_in g.around.primitives g.around.rows W h.place h.is h.still co s r tables cells V u code f.code.0 k here c says refl (subst (λ g. IsHereIn g k u here) h.held x)
+
+  -- another stack in its place
+  pub went_so : (tables : Tables) (cells : Cells) (V : Memory) (u : KeptStack) (fuel left : ℕ) → ChangesStack (with_parts W tables cells) V co u
+      → Reaches g.around.rows (standing g s W.tables.objects W.cells.objects fuel) (standing g u tables.objects cells.objects left) → Reaches g.around.rows (plain W fuel) (plain V left)
+  went_so tables cells V u fuel left c x =
+      went g.around.primitives g.around.rows W h.place h.is h.still co s r tables cells V u fuel left c
+      (subst (λ k. Reaches g.around.rows (standing k s W.tables.objects W.cells.objects fuel) (standing k u tables.objects cells.objects left)) h.held x)

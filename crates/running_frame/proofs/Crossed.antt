@@ -1,6 +1,6 @@
 -- Frame after frame of one stack, apart from the world in memory: what each supposes, and what becomes of the world that they stand for.
-use Rattle.std.proofs.Common.{◌≡◌, ℕ, ◌<◌, List, [], length, map, Some, refl, ap, sym, subst, ◌∙◌}
-use Rattle.std.specs.Prelude.{slice_get, slice_set}
+use Rattle.std.proofs.Common.{◌≡◌, ℕ, List, [], length, map, refl, ap, sym, subst, ◌∙◌}
+use Rattle.std.specs.Prelude.{slice_set}
 use Rattle.int_core.specs.Value.{last}
 use Rattle.machine_core.specs.Moves.{go}
 use Rattle.machine_focus.specs.Focus.{Reaches}
@@ -9,32 +9,26 @@ use Rattle.library_rows.specs.Library.{all_entries}
 use Rattle.object_pool.specs.Pool.{Pool}
 use Rattle.table_core.specs.Table.{Contents}
 use Rattle.table_core.specs.declared.value.CoroId.{CoroId}
-use Rattle.lua_stack.specs.Frames.{HasLuaTop, KeptStack, OnTop}
-use Rattle.lua_heap.specs.declared.codes.Code.{Code}
+use Rattle.lua_stack.specs.Frames.{HasLuaTop, KeptStack}
 use Rattle.lua_heap.specs.declared.codes.Codes.{Codes}
 use Rattle.lua_heap.specs.declared.world.Cell.{Cell}
 use Rattle.lua_heap.specs.declared.world.Coro.TheVariants.{Running as CoroRuns}
 use Rattle.lua_heap.specs.declared.world.Func.{Func}
 use Rattle.lua_heap.specs.declared.world.World.{World as Memory}
 use Rattle.lua_heap.specs.Cells.{open_cells_in}
-use Rattle.lua_heap.specs.Law.{CheckedCodeIsThere}
 use Rattle.lua_heap.specs.Plain.{plain}
-use Rattle.lua_heap.specs.Strings.{AreApart, AreShort}
 use Rattle.machine_arms_tables.specs.Frame.{AreOpenAlike}
 use Rattle.machine_loop.specs.Running.{Running}
 use Rattle.move_laws.specs.Memory.{ChangesStack, InOrder, Runs}
 use Rattle.move_laws.proofs.Order.{lists_same, order_after}
-use Rattle.move_laws.proofs.Running.{lua_top, of_top, shown}
-use Rattle.machine_moves.proofs.OfCode.{function_kept, function_there}
+use Rattle.move_laws.proofs.Running.{lua_top}
 use Rattle.machine_moves.proofs.OnTop.{kept_whole, runs_after}
 use Rattle.machine_moves.proofs.Stacks.{with_stack}
 use Rattle.step_laws.specs.Steps.{IsReady}
-use Rattle.step_laws.proofs.Ready.{go_has_frame}
-use Rattle.frame_calls.specs.Calling.{AreFunctions}
 use Rattle.running_frame.specs.Crossing.{Ground, Grounds, MayCross, one_or_any, runs_on, world_with}
-use Rattle.frame_calls.specs.Standing.{MayRun, standing}
-use Rattle.running_frame.specs.Apart.{IsApart, apart, held_apart, place_or_any}
-use Rattle.running_frame.proofs.Apart.{are_functions, cells_are, code_says, listed_alike, may_run, number_there, of_held, ready_there, went, with_parts}
+use Rattle.frame_calls.specs.Standing.{standing}
+use Rattle.running_frame.specs.Apart.{IsApart, held_apart}
+use Rattle.running_frame.proofs.Apart.{apart_there, listed_alike, ready_there, went_so, with_parts}
 
 module _ (n : Ground) (texts : List (List ℕ)) (funcs : Pool Func) (codes : Codes) (tables : Pool Contents) (cells : Pool Cell) (s : KeptStack) (m : MayCross n (world_with n s texts funcs codes tables cells) s) where
   abbrev now : Memory
@@ -44,54 +38,11 @@ module _ (n : Ground) (texts : List (List ℕ)) (funcs : Pool Func) (codes : Cod
   g = held_apart (length all_entries) n.rows now
 
   -- the frame on top is held apart
-  apart_so : IsApart g now
-  apart_so =
-      let f = go_has_frame (length all_entries) now m.ready in
-      record {
-        place = f.place;
-        is = f.is;
-        held = ap (λ o. apart (length all_entries) n.rows now (place_or_any o)) f.is;
-        still = m.still;
-        safe = m.safe;
-        after = m.ready.after;
-        order = m.ready.order;
-      }
+  pub apart_so : IsApart g now
+  apart_so = apart_there (length all_entries) n.rows now m.safe m.ready m.still
 
   pub top_there : HasLuaTop s
   top_there = lua_top now (runs_on n) s apart_so.place m.runs apart_so.is
-
-  pub own_so : (co : CoroId) → co ≡ runs_on n → co.0 ≡ g.around.context.coroutine
-  own_so co e =
-      ap (λ (c : CoroId). c.0) e
-      ∙ sym (shown now (runs_on n) s apart_so.place m.runs apart_so.is).coroutine
-      ∙ ap (λ (g : Running). g.around.context.coroutine) (sym apart_so.held)
-
-  -- its function
-
-  module _ (id : ℕ) (same : OnTop s (λ f t. id ≡ t.function)) where
-    number : id ≡ apart_so.place.top.function
-    number = of_top now (runs_on n) s apart_so.place (λ f t. id ≡ t.function) m.runs apart_so.is same
-
-    pub func_within : id < length funcs.objects
-    func_within = function_there now apart_so.place id (function_kept now apart_so.place id apart_so.is number)
-
-    module _ (f : Func) (there : slice_get funcs.objects id ≡ Some f) (law : CheckedCodeIsThere) where
-      pub code_within : f.code.0 < length codes.list.items
-      code_within = number_there g now apart_so id f number there law
-
-      pub functions_so : AreFunctions g.around.context.base.functions (record { funcs = funcs.objects; codes = codes })
-      functions_so = subst (λ (g : Running). AreFunctions g.around.context.base.functions (record { funcs = funcs.objects; codes = codes })) (sym apart_so.held) (are_functions (length all_entries) now m.ready.after m.ready.order law)
-
-      module _ (code : Code) (at : slice_get codes.list.items f.code.0 ≡ Some code) where
-        pub size_so : code.stack ≡ g.around.context.closure.code.own.stack
-        size_so = (code_says g now apart_so id f number there law code at).stack ∙ ap (λ (g : Running). g.around.context.closure.code.own.stack) (sym apart_so.held)
-
-        pub may_run_so : AreApart texts → AreShort texts → (fuel : ℕ) → MayRun g (record { words = code.words.items; constants = code.constants.items; upvalues = f.cells.items; texts = texts }) s tables.objects cells.objects fuel
-        may_run_so a b fuel =
-            let h = apart_so in
-            of_held (λ g. MayRun g (record { words = code.words.items; constants = code.constants.items; upvalues = f.cells.items; texts = texts }) s tables.objects cells.objects fuel) g h
-            (may_run (length all_entries) n.rows now h.place h.is h.still (runs_on n) s m.runs code f.code.0 f.cells.items fuel m.safe m.ready.after m.ready.order
-            (code_says g now h id f number there law code at) (cells_are g now h id f number there) a b)
 
   -- once it has run, and another frame is on top
 
@@ -107,10 +58,7 @@ module _ (n : Ground) (texts : List (List ℕ)) (funcs : Pool Func) (codes : Cod
     changes = record { rest = refl; objects = slot }
 
     pub reaches_after : Reaches n.rows (plain now fuel) (plain after left)
-    reaches_after =
-        let h = apart_so in
-        went (length all_entries) n.rows now h.place h.is h.still (runs_on n) s m.runs ts cs after u fuel left changes
-        (subst (λ k. Reaches n.rows (standing k s tables.objects cells.objects fuel) (standing k u ts.objects cs.objects left)) h.held x)
+    reaches_after = went_so g now apart_so (runs_on n) s m.runs ts cs after u fuel left changes x
 
     in_order : InOrder after
     in_order =

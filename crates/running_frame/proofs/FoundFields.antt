@@ -1,5 +1,5 @@
 -- GETFIELD and SELF of a field that handlers lead to without a call are steps that change registers of the frame on top alone.
-use Rattle.std.proofs.Common.{◌≡◌, ℕ, suc, ◌+◌, ◌<◌, List, [], ◌∷◌, ◌++◌, length, map, Option, Some, None, refl, ap, sym, subst, ◌∙◌, arith, true}
+use Rattle.std.proofs.Common.{◌≡◌, ℕ, suc, ◌+◌, ◌<◌, List, [], ◌∷◌, ◌++◌, length, map, Option, Some, None, refl, ap, sym, subst, ◌∙◌, arith, Bool, true, false}
 use Rattle.std.specs.Prelude.{cond, slice_get, slice_set}
 use Rattle.std.proofs.lemmas.List.{length-map}
 use Rattle.code_core.specs.Check.{at}
@@ -26,7 +26,7 @@ use Rattle.machine_sound.proofs.Steps.{steps_good}
 use Rattle.machine_sound.proofs.Values.{lt_true}
 use Rattle.machine_view.specs.View.{IsAt, held}
 use Rattle.machine_view.proofs.Going.{at_next, puts}
-use Rattle.machine_view.proofs.Places.{register_there}
+use Rattle.machine_view.proofs.Places.{next_there, register_there}
 use Rattle.machine_view.proofs.Rows.{settles, write_map}
 use Rattle.table_core.specs.Table.{Contents}
 use Rattle.table_core.specs.declared.value.CellId.{CellId}
@@ -39,9 +39,9 @@ use Rattle.lua_heap.specs.Reading.{value}
 use Rattle.machine_arms_tables.specs.Frame.{Code, IsReadyAt, Moment, RunsTo, moment}
 use Rattle.machine_arms_tables.proofs.Steps.{at_opcode}
 use Rattle.machine_loop.specs.Running.{Running}
-use Rattle.running_frame.specs.Inheriting.{Finds, GoesAmid, GoesWith, RunsWith}
+use Rattle.running_frame.specs.Inheriting.{Finds, GetsField, with_found}
+use Rattle.running_frame.specs.Between.{GoesAmid, GoesOver, GoesWith, RunsOver, RunsWith}
 use Rattle.frame_calls.specs.Standing.{RunsAt}
-use Rattle.running_frame.specs.Upvalues.{GoesOver, RunsOver}
 use Rattle.frame_calls.proofs.FrameRows.{own_runs, row_is}
 use Rattle.running_frame.proofs.OnStack.{round_reaches, round_runs}
 use Rattle.running_frame.proofs.OpenRead.{ready_at}
@@ -162,8 +162,22 @@ module _ (g : Running) (k : Code) (s : KeptStack) (ts : List Contents) (pc : ℕ
     registers_are : map (value g.around.texts) r ≡ x.may.top.own.registers
     registers_are = lent (value g.around.texts) g.around.context.below x.may.top x.may.is
 
-    pub read_at : (op : Opcode) (w : Instruction) → slice_get k.words pc ≡ Some w → opcode_of w ≡ Some op → IsAt op w k.words k.constants r pc
+    read_at : (op : Opcode) (w : Instruction) → slice_get k.words pc ≡ Some w → opcode_of w ≡ Some op → IsAt op w k.words k.constants r pc
     read_at op w e o = at_opcode g.around g.string_metatable k (moment ts cs r pc fuel) (ready_at g k s cs pc r lent ts fuel x) w op e o
+
+    -- the registers and the next instruction of one that reads a field by a constant
+
+    pub found_own : (receives : Bool) (w : Instruction) → slice_get k.words pc ≡ Some w → GetsField receives w → a_of w < length r
+    found_own true w e is = let l = register_there (read_at OpSelf w e is.is) 0 (a_of w + 1) refl in omega (arith, l)
+    found_own false w e is = register_there (read_at GetField w e is.is) 0 (a_of w) refl
+
+    pub found_behind : (receives : Bool) (w : Instruction) → slice_get k.words pc ≡ Some w → GetsField receives w → receives ≡ true → a_of w + 1 < length r
+    found_behind true w e is takes = register_there (read_at OpSelf w e is.is) 0 (a_of w + 1) refl
+    found_behind false w e is takes = absurd (cc)
+
+    pub found_next : (receives : Bool) (w : Instruction) → slice_get k.words pc ≡ Some w → GetsField receives w → pc + 1 < length k.words
+    found_next true w e is = next_there (read_at OpSelf w e is.is) refl
+    found_next false w e is = next_there (read_at GetField w e is.is) refl
 
     -- what is read of the same registers before they are lent
     pub read_of : (rs : List Kept) → OnTop s (λ f t. map f rs ≡ t.own.registers) → (n : ℕ) (v : Kept) → slice_get rs n ≡ Some v → slice_get (map (value g.around.texts) r) n ≡ Some (value g.around.texts v)
@@ -174,27 +188,31 @@ module _ (g : Running) (k : Code) (s : KeptStack) (ts : List Contents) (pc : ℕ
   module _ (q : List Kept) (long : length q ≡ length r) (to : ℕ) (u : KeptStack) (b : TopBecomes (with_top s q) u (λ f t. with_pc to t)) where
     goes_amid : ((cs : List KeptCell) (fuel : ℕ) → RunsAt g k s ts cs fuel pc
         → IsReadyAt g.around g.string_metatable k (moment ts cs q to fuel) × RunsTo g.around g.string_metatable (moment ts cs r pc fuel) (moment ts cs q to fuel)) → GoesAmid g k s u ts pc to
-    goes_amid stepped = record {
-      runs = λ cs fuel x. round_runs x r q lent long u ts cs to fuel b (stepped cs fuel x).0 refl;
-      reaches = λ cs fuel x. round_reaches x r q lent long u ts cs to fuel b (stepped cs fuel x).1;
+    goes_amid stepped = λ cs. record {
+      runs = λ fuel x. round_runs x r q lent long u ts cs to fuel b (stepped cs fuel x).0 refl;
+      reaches = λ fuel x. round_reaches x r q lent long u ts cs to fuel b (stepped cs fuel x).1;
       listed = b.cells;
     }
 
     module _ (w : Instruction) (word : slice_get k.words pc ≡ Some w) (next : to ≡ pc + 1) (rs : List Kept) (are : OnTop s (λ f t. map f rs ≡ t.own.registers)) (object key v : Kept)
         (receiver : slice_get rs (b_of w) ≡ Some object) (name : slice_get k.constants (c_of w) ≡ Some key) (finds : Finds g.around.texts ts g.string_metatable object key v) where
-      pub field_goes : opcode_of w ≡ Some GetField → q ≡ slice_set r (a_of w) v → GoesAmid g k s u ts pc to
+      field_goes : opcode_of w ≡ Some GetField → q ≡ slice_set r (a_of w) v → GoesAmid g k s u ts pc to
       field_goes o written = goes_amid (λ cs fuel x.
           let m = moment ts cs r pc fuel in
           let here = ready_at g k s cs pc r lent ts fuel x in
           let h = read_at cs fuel x GetField w word o in
           row_steps g k m here GetField w h q to (field_runs g k m here w h object key v (read_of cs fuel x rs are (b_of w) object receiver) name finds q to written next))
 
-      pub method_goes : opcode_of w ≡ Some OpSelf → k_of w ≡ true → q ≡ slice_set (slice_set r (a_of w + 1) object) (a_of w) v → GoesAmid g k s u ts pc to
+      method_goes : opcode_of w ≡ Some OpSelf → k_of w ≡ true → q ≡ slice_set (slice_set r (a_of w + 1) object) (a_of w) v → GoesAmid g k s u ts pc to
       method_goes o constant_key written = goes_amid (λ cs fuel x.
           let m = moment ts cs r pc fuel in
           let here = ready_at g k s cs pc r lent ts fuel x in
           let h = read_at cs fuel x OpSelf w word o in
           row_steps g k m here OpSelf w h q to (method_runs g k m here w h constant_key object key v (read_of cs fuel x rs are (b_of w) object receiver) name finds q to written next))
+
+      pub found_goes : (receives : Bool) → GetsField receives w → q ≡ with_found receives (a_of w) object v r → GoesAmid g k s u ts pc to
+      found_goes true is written = method_goes is.is (is.constant refl) written
+      found_goes false is written = field_goes is.is written
 
 -- what is found among the strings of the frame's world
 pub finds_here : (texts texts' : List (List ℕ)) (ts : List Contents) (meta meta' : Option ℕ) (object key v : Kept) → texts ≡ texts' → meta' ≡ meta → Finds texts' ts meta' object key v → Finds texts ts meta object key v
@@ -203,11 +221,8 @@ finds_here texts texts' ts meta meta' object key v e f d = subst (λ meta. Finds
 -- what runs over some tables, with the strings by their other name
 pub over_runs : {g : Running} {words : List Instruction} {constants : List Kept} {upvalues : List CellId} {texts : List (List ℕ)} {s : KeptStack} {ts : List Contents} {cs : List KeptCell} {pc : ℕ}
     → RunsWith g (record { words = words; constants = constants; upvalues = upvalues; texts = texts }) s ts cs pc → RunsOver g (record { words = words; constants = constants; upvalues = upvalues; texts = g.around.texts }) s cs pc
-over_runs {g} {words} {constants} {upvalues} {s = s} {ts = ts} {cs = cs} {pc = pc} x = record {
-  tables = ts;
-  fuel = x.fuel;
-  runs = subst (λ texts. RunsAt g (record { words = words; constants = constants; upvalues = upvalues; texts = texts }) s ts cs x.fuel pc) (sym x.runs.may.closure.texts_are) x.runs;
-}
+over_runs {g} {words} {constants} {upvalues} {s = s} {ts = ts} {cs = cs} {pc = pc} x =
+    (ts, subst (λ texts. RunsWith g (record { words = words; constants = constants; upvalues = upvalues; texts = texts }) s ts cs pc) (sym x.runs.may.closure.texts_are) x)
 
 -- what leads on whatever the tables are, or whatever the cells are
 
@@ -215,7 +230,7 @@ pub over_goes : {g : Running} {words : List Instruction} {constants : List Kept}
     → GoesOver g (record { words = words; constants = constants; upvalues = upvalues; texts = g.around.texts }) s u cs pc to
     → GoesWith g (record { words = words; constants = constants; upvalues = upvalues; texts = texts }) s u ts cs pc to
 over_goes {g} {words} {constants} {upvalues} {s = s} {u = u} {ts = ts} {cs = cs} {pc = pc} {to = to} e o =
-    subst (λ texts. GoesWith g (record { words = words; constants = constants; upvalues = upvalues; texts = texts }) s u ts cs pc to) e (record { runs = o.runs ts; reaches = o.reaches ts; listed = o.listed })
+    subst (λ texts. GoesWith g (record { words = words; constants = constants; upvalues = upvalues; texts = texts }) s u ts cs pc to) e (o ts)
 
 pub amid_goes : {g : Running} {k : Code} {s t u : KeptStack} {ts : List Contents} {cs : List KeptCell} {pc to : ℕ} → t ≡ s → GoesAmid g k t u ts pc to → GoesWith g k s u ts cs pc to
-amid_goes {g} {k} {u = u} {ts = ts} {cs = cs} {pc = pc} {to = to} e o = subst (λ (s : KeptStack). GoesWith g k s u ts cs pc to) e (record { runs = o.runs cs; reaches = o.reaches cs; listed = o.listed })
+amid_goes {g} {k} {u = u} {ts = ts} {cs = cs} {pc = pc} {to = to} e o = subst (λ (s : KeptStack). GoesWith g k s u ts cs pc to) e (o cs)

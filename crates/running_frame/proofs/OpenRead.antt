@@ -11,7 +11,7 @@ use Rattle.machine_core.specs.InstructionRows.{row_of, text_at, text_by}
 use Rattle.machine_core.specs.MachineStep.{steps, and_then}
 use Rattle.machine_focus.specs.Focus.{Held, frames as held_frames, local}
 use Rattle.machine_focus.proofs.Here.{held_is_step}
-use Rattle.machine_view.specs.View.{held, IsAt}
+use Rattle.machine_view.specs.View.{IsAt, held}
 use Rattle.table_core.specs.Table.{Contents}
 use Rattle.table_core.specs.declared.value.Value.{Value as Kept}
 use Rattle.lua_stack.specs.Frames.{KeptStack, OnTop, TopBecomes, frames, register_in, with_pc}
@@ -24,7 +24,8 @@ use Rattle.machine_arms_tables.proofs.Steps.{at_opcode}
 use Rattle.machine_loop.specs.Running.{Running}
 use Rattle.machine_loop.proofs.Recalled.{open_comes}
 use Rattle.frame_calls.specs.Standing.{RunsAt}
-use Rattle.running_frame.specs.Upvalues.{GoesOver, ListsOpen, StandsOpen, is_read}
+use Rattle.running_frame.specs.Upvalues.{ListsOpen, StandsOpen, is_read}
+use Rattle.running_frame.specs.Between.{GoesOver}
 use Rattle.running_frame.proofs.OnStack.{frames_are, loop_ready, round_reaches, round_runs}
 
 pub read_is : (o : Option Opcode) → is_read o ≡ true → o ≡ Some GetUpval
@@ -36,30 +37,28 @@ lists_open {s = s} {cs = cs} co e r = subst (λ n. ListsOpen n s cs) (sym e) (re
 
 -- what the row comes to
 
-module _ (g : Running) (k : Code) (m : Moment) (here : IsReadyAt g.around g.string_metatable k m) (w : Instruction) (h : IsAt GetUpval w k.words k.constants m.registers m.pc) (s : KeptStack) where
-  abbrev texts : List (List ℕ)
-  texts = g.around.texts
+-- the frame that runs at a moment
+abbrev held_at : Running → Moment → Held
+held_at g m = held g.around (heap g.around.texts m.tables g.string_metatable) (map (cell g.around.texts) m.cells) m.registers m.pc m.fuel
 
-  abbrev held_with : List Kept → ℕ → Held
-  held_with r to = held g.around (heap texts m.tables g.string_metatable) (map (cell texts) m.cells) r to m.fuel
+module _ (g : Running) (k : Code) (m : Moment) (here : IsReadyAt g.around g.string_metatable k m) (w : Instruction) (h : IsAt GetUpval w k.words k.constants m.registers m.pc) (s : KeptStack)
+    (same : frames (value g.around.texts) s ≡ held_frames g.around.context (held_at g m).own) (v : Kept) (open_there : StandsOpen g.around.context.coroutine k.upvalues s m.cells (b_of w) v)
+    (q : List Kept) (to : ℕ) (written : q ≡ slice_set m.registers (a_of w) v) (next : to ≡ m.pc + 1) where
+  abbrev after : Moment
+  after = moment m.tables m.cells q to m.fuel
 
-  abbrev now : Held
-  now = held_with m.registers m.pc
+  comes_to : local g.around.context (row_of g.around.context.closure.code m.pc GetUpval w) [] (held_at g m) ≡ Some (held_at g after)
+  comes_to =
+      open_comes g k m here w h v open_there.id open_there.coroutine open_there.frame open_there.register open_there.named open_there.holds open_there.own
+      (ap (register_in open_there.frame open_there.register) (sym same) ∙ open_there.has.reads (value g.around.texts)) q to written next
 
-  module _ (same : frames (value texts) s ≡ held_frames g.around.context now.own) (v : Kept) (open_there : StandsOpen g.around.context.coroutine k.upvalues s m.cells (b_of w) v) where
-    module _ (q : List Kept) (to : ℕ) (written : q ≡ slice_set m.registers (a_of w) v) (next : to ≡ m.pc + 1) where
-      comes_to : local g.around.context (row_of g.around.context.closure.code m.pc GetUpval w) [] now ≡ Some (held_with q to)
-      comes_to =
-          open_comes g k m here w h v open_there.id open_there.coroutine open_there.frame open_there.register open_there.named open_there.holds open_there.own
-          (ap (register_in open_there.frame open_there.register) (sym same) ∙ open_there.has.reads (value texts)) q to written next
-
-      pub read_step : IsReadyAt g.around g.string_metatable k (moment m.tables m.cells q to m.fuel) × RunsTo g.around g.string_metatable m (moment m.tables m.cells q to m.fuel)
-      read_step =
-          let p = g.around.context.closure.code in
-          let at_pc : at p m.pc ≡ Some w = ap (λ ws. slice_get ws m.pc) here.ready.code.code.words_are ∙ h.at_pc in
-          let text_is : text_at p m.pc ≡ row_of p m.pc GetUpval w = ap (λ (o : Option Instruction). elim o [ None ↦ trap | Some w ↦ text_by p m.pc w (opcode_of w) ]) at_pc ∙ ap (text_by p m.pc w) h.is_opcode in
-          let x = held_is_step g.around.primitives g.around.rows g.around.context now (held_with q to) here.ready.frame (ap (λ t. local g.around.context t [] now) text_is ∙ comes_to) in
-          (record { ready = record { code = here.ready.code; frame = x.1 }; upvalues_are = here.upvalues_are; texts_are = here.texts_are }, (1, ap (λ o. and_then o (steps g.around.rows 0)) x.0))
+  pub read_step : IsReadyAt g.around g.string_metatable k after × RunsTo g.around g.string_metatable m after
+  read_step =
+      let p = g.around.context.closure.code in
+      let at_pc : at p m.pc ≡ Some w = ap (λ ws. slice_get ws m.pc) here.ready.code.code.words_are ∙ h.at_pc in
+      let text_is : text_at p m.pc ≡ row_of p m.pc GetUpval w = ap (λ (o : Option Instruction). elim o [ None ↦ trap | Some w ↦ text_by p m.pc w (opcode_of w) ]) at_pc ∙ ap (text_by p m.pc w) h.is_opcode in
+      let x = held_is_step g.around.primitives g.around.rows g.around.context (held_at g m) (held_at g after) here.ready.frame (ap (λ t. local g.around.context t [] (held_at g m)) text_is ∙ comes_to) in
+      (record { ready = record { code = here.ready.code; frame = x.1 }; upvalues_are = here.upvalues_are; texts_are = here.texts_are }, (1, ap (λ o. and_then o (steps g.around.rows 0)) x.0))
 
 -- the frame on top of a stack
 
@@ -76,9 +75,9 @@ module _ (g : Running) (k : Code) (s : KeptStack) (cs : List KeptCell) (pc : ℕ
 
   pub read_goes : (w : Instruction) → slice_get k.words pc ≡ Some w → opcode_of w ≡ Some GetUpval → (v : Kept) → StandsOpen g.around.context.coroutine k.upvalues s cs (b_of w) v
       → (q : List Kept) → q ≡ slice_set r (a_of w) v → length q ≡ length r → (to : ℕ) → to ≡ pc + 1 → (u : KeptStack) → TopBecomes (with_top s q) u (λ f t. with_pc to t) → GoesOver g k s u cs pc to
-  read_goes w e o v open_there q written long to next u b = record {
-    runs = λ ts fuel x. round_runs x r q lent long u ts cs to fuel b (stepped ts fuel x).0 refl;
-    reaches = λ ts fuel x. round_reaches x r q lent long u ts cs to fuel b (stepped ts fuel x).1;
+  read_goes w e o v open_there q written long to next u b = λ ts. record {
+    runs = λ fuel x. round_runs x r q lent long u ts cs to fuel b (stepped ts fuel x).0 refl;
+    reaches = λ fuel x. round_reaches x r q lent long u ts cs to fuel b (stepped ts fuel x).1;
     listed = b.cells;
   }
     where

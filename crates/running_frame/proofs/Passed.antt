@@ -19,7 +19,7 @@ use Rattle.machine_loop.proofs.Closing.{close_so, next_is_there}
 use Rattle.running_frame.specs.Closing.{is_close}
 use Rattle.frame_calls.specs.Returning.{HasKept}
 use Rattle.frame_calls.specs.Standing.{RunsAt}
-use Rattle.running_frame.specs.Upvalues.{GoesOver}
+use Rattle.running_frame.specs.Between.{GoesOver}
 use Rattle.running_frame.proofs.OnStack.{loop_reaches, runs_at}
 use Rattle.running_frame.proofs.OpenRead.{ready_at}
 use Rattle.frame_calls.proofs.Takers.{top_by}
@@ -62,10 +62,10 @@ module _ (g : Running) (k : Code) (s : KeptStack) (cs : List Cell) (pc : ℕ) (h
         ∙ ap (λ (rs : List Value). g.around.context.below ++ lua (with_pc to (with_registers rs x.may.top)) ∷ []) (sym (same_registers ts fuel x))
 
     pub close_goes : GoesOver g k s u cs pc to
-    close_goes = record {
-      runs = λ ts fuel x.
+    close_goes = λ ts. record {
+      runs = λ fuel x.
           runs_at g k s ts cs fuel x.may r pc x.runs (sym x.at_pc) (same_registers ts fuel x) u ts cs r to fuel (steps_on ts fuel x).ready (becomes ts fuel x) b.cells refl;
-      reaches = λ ts fuel x.
+      reaches = λ fuel x.
           loop_reaches g k s ts cs fuel x.may r pc x.runs (sym x.at_pc) (same_registers ts fuel x) u ts cs r to fuel ((steps_on ts fuel x).runs (moment ts cs r pc fuel) (0, refl)) (becomes ts fuel x);
       listed = b.cells;
     }

@@ -5,6 +5,7 @@ pub mod Advancing
 pub mod Taking
 pub mod Closing
 pub mod Upvalues
+pub mod Between
 pub mod Inheriting
 pub mod Storing
 pub mod Remembering

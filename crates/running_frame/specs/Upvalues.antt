@@ -2,17 +2,12 @@
 use Rattle.std.specs.Prelude.{◌≡◌, ℕ, Bool, true, false, List, Option, Some, slice_get}
 use Rattle.code_core.specs.declared.opcode.Opcode.{Opcode}
 use Rattle.code_core.specs.declared.opcode.Opcode.TheVariants.{GetUpval}
-use Rattle.machine_focus.specs.Focus.{Reaches}
 use Rattle.lua_stack.specs.Frames.{KeptStack, RegisterIs, cell_at}
-use Rattle.table_core.specs.Table.{Contents}
 use Rattle.table_core.specs.declared.value.CellId.{CellId}
 use Rattle.table_core.specs.declared.value.CoroId.{CoroId}
 use Rattle.table_core.specs.declared.value.Value.{Value as Kept}
 use Rattle.lua_heap.specs.declared.world.Cell.{Cell}
 use Rattle.lua_heap.specs.declared.world.Cell.TheVariants.{Open}
-use Rattle.machine_arms_tables.specs.Frame.{Code}
-use Rattle.machine_loop.specs.Running.{Running}
-use Rattle.frame_calls.specs.Standing.{RunsAt, standing}
 
 -- an instruction that reads an upvalue
 abbrev pub is_read : Option Opcode → Bool
@@ -33,15 +28,3 @@ pub record StandsOpen (co : ℕ) (upvalues : List CellId) (s : KeptStack) (cells
   pub own : coroutine.0 ≡ co
   pub holds : slice_get cells id.0 ≡ Some (Open coroutine frame register)
   pub has : RegisterIs s frame register v
-
--- the frame on top runs at this place, over some tables and with some budget
-pub record RunsOver (g : Running) (k : Code) (s : KeptStack) (cells : List Cell) (pc : ℕ) : Type 0 where
-  pub tables : List Contents
-  pub fuel : ℕ
-  pub runs : RunsAt g k s tables cells fuel pc
-
--- some steps of the machine lead from one place of the frame to another, and change the stack alone
-pub record GoesOver (g : Running) (k : Code) (s u : KeptStack) (cells : List Cell) (pc to : ℕ) : Type 0 where
-  pub runs : (tables : List Contents) (fuel : ℕ) → RunsAt g k s tables cells fuel pc → RunsAt g k u tables cells fuel to
-  pub reaches : (tables : List Contents) (fuel : ℕ) → RunsAt g k s tables cells fuel pc → Reaches g.around.rows (standing g s tables cells fuel) (standing g u tables cells fuel)
-  pub listed : u.open_cells ≡ s.open_cells

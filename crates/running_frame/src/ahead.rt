@@ -23,6 +23,21 @@ use lua_heap::law::checked_code_is_there;
 use lua_heap::{Coro, World};
 use machine_moves::running;
 
+/// What the frames of a coroutine's stack share. It is written in place, since the stack is lent of the same world while that is read.
+macro_rules! surroundings {
+    ($world:ident, $co:ident) => {
+        Surroundings {
+            functions: Functions {
+                funcs: &$world.funcs,
+                codes: &$world.codes,
+            },
+            strings: &$world.strings,
+            co: $co,
+            string_meta: $world.string_meta,
+        }
+    };
+}
+
 /// Runs the Lua frame on top as long as it goes on by itself, and the functions that it calls: some steps of the machine, none where the frame waits. The world
 /// is ready for the next step, of whatever kind, which is at the place that is answered.
 pub fn run_ahead(world: &mut World, budget: &mut u64) -> Here
@@ -77,23 +92,9 @@ fn is_left(here: Here) -> bool {
     }
 }
 
-/// Goes from frame to frame, in a world in which nothing moves, as long as each stops at a call or a return that takes no more than the stack.
+/// Goes from frame to frame of the stack that runs, which is found once for all of them, as long as each stops at a call or a return that takes no more than the stack.
 #[inline(always)]
 fn cross_frames(world: &mut World, budget: &mut u64)
-    ghost rows: { ℕ → Row }
-    requires safe { PrimitivesSafe (length all_entries) rows }
-    requires ready { IsReady (length all_entries) go world.old }
-    requires still { world.old.moving.items ≡ [] }
-    ensures reaches { Reaches rows (plain world.old budget.old) (plain world.new budget.new) }
-    ensures ready { IsReady (length all_entries) go world.new }
-    ensures still { world.new.moving.items ≡ [] }
-{
-    cross_running(world, budget)
-}
-
-/// Does so over the stack that runs, which is found once for all of them.
-#[inline(always)]
-fn cross_running(world: &mut World, budget: &mut u64)
     ghost outside: { Ground }
     requires { Grounds outside world.old }
     ensures reaches { Reaches outside.rows (plain world.old budget.old) (plain world.new budget.new) }
@@ -103,38 +104,16 @@ fn cross_running(world: &mut World, budget: &mut u64)
     let co = running(world);
     match world.coros.get_mut(co.0) {
         Coro::Running(stack) => {
-            let around = Surroundings {
-                functions: Functions {
-                    funcs: &world.funcs,
-                    codes: &world.codes,
-                },
-                strings: &world.strings,
-                co,
-                string_meta: world.string_meta,
-            };
+            let around = surroundings!(world, co);
             cross_stack(stack, &around, &mut world.tables, &mut world.cells, budget)
         }
         _ => unreachable!(),
     }
 }
 
-/// Runs the frame on top of a world in which nothing moves. `None` where another frame is on top then.
+/// Runs the frame on top of a world in which nothing moves, held apart from that world. `None` where another frame is on top then.
 #[inline(never)]
 fn run_frame(world: &mut World, budget: &mut u64) -> Option<Here>
-    ghost rows: { ℕ → Row }
-    requires safe { PrimitivesSafe (length all_entries) rows }
-    requires ready { IsReady (length all_entries) go world.old }
-    requires still { world.old.moving.items ≡ [] }
-    ensures reaches { Reaches rows (plain world.old budget.old) (plain world.new budget.new) }
-    ensures ready { IsReady (length all_entries) go world.new }
-    ensures here { IfSome result (λ here. IsHere world.new here) }
-    ensures still { world.new.moving.items ≡ [] }
-{
-    run_top(world, budget)
-}
-
-/// Runs it, held apart from that world.
-fn run_top(world: &mut World, budget: &mut u64) -> Option<Here>
     ghost g: { Running }
     requires { IsApart g world.old }
     ensures reaches { Reaches g.around.rows (plain world.old budget.old) (plain world.new budget.new) }
@@ -149,15 +128,7 @@ fn run_top(world: &mut World, budget: &mut u64) -> Option<Here>
         Coro::Running(stack) => {
             let function = world.funcs.get(stack.function().0);
             let code = world.codes.get(function.code);
-            let around = Surroundings {
-                functions: Functions {
-                    funcs: &world.funcs,
-                    codes: &world.codes,
-                },
-                strings: &world.strings,
-                co,
-                string_meta: world.string_meta,
-            };
+            let around = surroundings!(world, co);
             run_frame_on_top(
                 stack,
                 Function {

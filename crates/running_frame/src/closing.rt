@@ -4,7 +4,7 @@ ghost use Rattle.code_core.specs.Instruction.{opcode_of};
 ghost use Rattle.machine_arms_tables.specs.Frame.{code};
 ghost use Rattle.machine_loop.specs.Running.{ClosesNothing, PassesClose, Running};
 ghost use Rattle.running_frame.specs.Closing.{is_close};
-ghost use Rattle.running_frame.specs.Upvalues.{GoesOver, RunsOver};
+ghost use Rattle.running_frame.specs.Between.{GoesOver, RunsOver};
 
 use code_core::{Instruction, Opcode, fetch};
 use lua_heap::Cell;
@@ -59,8 +59,5 @@ fn behind_close(
 fn is_close(i: Instruction) -> bool
     ensures { result ≡ is_close (opcode_of i) }
 {
-    match i.opcode() {
-        Some(Opcode::Close) => true,
-        _ => false,
-    }
+    matches!(i.opcode(), Some(Opcode::Close))
 }

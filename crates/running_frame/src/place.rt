@@ -3,15 +3,16 @@ ghost use Rattle.std.specs.Prelude.{◌≡◌, ◌<◌, ℕ, List, Some, length,
 ghost use Rattle.lua_heap.specs.Codes.{AreCodes};
 ghost use Rattle.lua_heap.specs.Reading.{value};
 ghost use Rattle.library_rows.specs.Library.{all_entries};
-ghost use Rattle.lua_stack.specs.Frames.{wait_of};
+ghost use Rattle.lua_stack.specs.Frames.{HasLuaTop, wait_of};
 ghost use Rattle.machine_core.specs.Moves.{go};
+ghost use Rattle.machine_moves.specs.Moves.{RunsOn};
 ghost use Rattle.move_laws.specs.Memory.{HasFrame, StandsAt};
 ghost use Rattle.step_laws.specs.Steps.{IsReady};
 ghost use Rattle.running_frame.specs.Here.{HasWord, IsAtWord, IsHere, RunsIf, is_none};
 
 use code_core::Instruction;
 use lua_heap::World;
-use lua_stack::Wait;
+use lua_stack::{Stack, Wait};
 use machine_moves::{code_on_top, running_stack};
 
 /// Where a Lua frame is in its code, the word there, and whether it runs or waits.
@@ -54,7 +55,17 @@ fn place_on_top(world: &World) -> usize
     requires { HasFrame world.now }
     ensures { StandsAt world.now result }
 {
-    running_stack(world).pc()
+    stack_of_frame(world).pc()
+}
+
+/// The stack on which it is.
+#[inline(always)]
+fn stack_of_frame(world: &World) -> &Stack
+    requires { HasFrame world.now }
+    ensures runs { RunsOn world.now result.now }
+    ensures top { HasLuaTop result.now }
+{
+    running_stack(world)
 }
 
 /// The word at that place.
@@ -72,7 +83,7 @@ pub(crate) fn is_running(world: &World) -> bool
     requires { HasFrame world.now }
     ensures { RunsIf world.now result }
 {
-    is_none(running_stack(world).wait())
+    is_none(stack_of_frame(world).wait())
 }
 
 /// Whether a wait is for nothing.

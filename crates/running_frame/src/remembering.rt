@@ -4,7 +4,8 @@ ghost use Rattle.machine_arms_tables.specs.Frame.{code};
 ghost use Rattle.machine_loop.specs.Knowing.{AllHold};
 ghost use Rattle.machine_loop.specs.Running.{Running};
 ghost use Rattle.running_frame.specs.Remembering.{KnowsBelow};
-ghost use Rattle.running_frame.specs.Upvalues.{ListsOpen, RunsOver};
+ghost use Rattle.running_frame.specs.Upvalues.{ListsOpen};
+ghost use Rattle.running_frame.specs.Between.{RunsOver};
 
 use crate::storing::open_below;
 use crate::upvalues::is_read;

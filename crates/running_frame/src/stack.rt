@@ -5,7 +5,8 @@ ghost use Rattle.machine_loop.specs.Knowing.{AllHold};
 ghost use Rattle.machine_loop.specs.Running.{ClosesNothing, Running};
 ghost use Rattle.running_frame.specs.Functions.{code_in};
 ghost use Rattle.running_frame.specs.Advancing.{Advances};
-ghost use Rattle.running_frame.specs.Inheriting.{GoesWith, RunsWith, metatable_number};
+ghost use Rattle.running_frame.specs.Inheriting.{metatable_number};
+ghost use Rattle.running_frame.specs.Between.{GoesWith, RunsWith};
 ghost use Rattle.frame_calls.specs.Standing.{IsClosedFrom, MayRun, RunsAt};
 ghost use Rattle.running_frame.specs.Apart.{IsHereIn};
 
@@ -14,7 +15,7 @@ use crate::inherited::read_inherited;
 use crate::place::{Here, here_at, is_none};
 use crate::remembering::remember;
 use crate::surroundings::{Function, Surroundings, closure_of};
-use crate::upvalues::{read_once, read_open};
+use crate::upvalues::read_open;
 use frame_calls::closed_from;
 use lua_heap::{Cell, Strings};
 use lua_stack::Stack;
@@ -60,39 +61,16 @@ pub(crate) fn run_stack(
         return Halt { here, closed: None };
     }
     let closed = closed_from(stack);
-    let here = run_on_top(
-        stack, function, around, tables, cells, budget, closed, start,
-    );
-    Halt { here, closed }
-}
-
-/// Runs the frame on top, which does not wait.
-fn run_on_top(
-    stack: &mut Stack,
-    function: Function,
-    around: Surroundings,
-    tables: &mut Pool<Table>,
-    cells: &mut Pool<Cell>,
-    budget: &mut u64,
-    closed: Option<usize>,
-    start: usize,
-) -> Here
-    ghost g: { Running }
-    requires runs { RunsAt g (code_in function.object.now function.proto.now around.strings.now) stack.old tables.old.objects cells.old.objects budget.old start }
-    requires closed { IfSome closed (λ register. ClosesNothing g.around cells.old.objects register) }
-    requires own { around.co.0 ≡ g.around.context.coroutine }
-    requires meta { metatable_number around.string_meta ≡ g.string_metatable }
-    ensures goes { Advances g stack.old stack.new tables.old.objects tables.new.objects cells.old.objects cells.new.objects budget.old budget.new }
-    ensures here { IsHereIn g (code_in function.entry.object.now function.entry.proto.now around.entry.strings.now) stack.new result }
-    ensures runs { RunsAt g (code_in function.entry.object.now function.entry.proto.now around.entry.strings.now) stack.new tables.new.objects cells.new.objects budget.new result.pc }
-{
     let pc = run_rounds(
         stack, function, around, tables, cells, budget, closed, start,
     );
-    here_at(&function.proto.words, pc, true)
+    Halt {
+        here: here_at(&function.proto.words, pc, true),
+        closed,
+    }
 }
 
-/// Runs it from the place `start` on, where the loop over instructions stopped before, and tells where it stops. That loop has the frame's own registers alone,
+/// Runs the frame on top, which does not wait, from the place `start` on, where the loop over instructions stopped before, and tells where it stops. That loop has the frame's own registers alone,
 /// follows handlers from tables to tables and closes nothing, so what stands in a register of a frame below, and what other handlers lead to, is read between
 /// two rounds of it, and a CLOSE is passed there. Nothing that is done here changes a frame below, so values that stand there are remembered.
 fn run_rounds(
@@ -262,9 +240,12 @@ pub(crate) fn run_round(
             budget,
             pc,
         );
-        let closure = closure_of(function);
         let is_last = round == ROUNDS - 1;
-        let Some(to) = read_once(stack, closure, cells, around.co, is_last, at) else {
+        if is_last {
+            return at;
+        }
+        let closure = closure_of(function);
+        let Some(to) = read_open(stack, closure, cells, around.co, at) else {
             return at;
         };
         pc = to;

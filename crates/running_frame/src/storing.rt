@@ -81,8 +81,5 @@ pub(crate) fn open_below(
 fn is_store(i: Instruction) -> bool
     ensures { result ≡ is_store (opcode_of i) }
 {
-    match i.opcode() {
-        Some(Opcode::SetUpval) => true,
-        _ => false,
-    }
+    matches!(i.opcode(), Some(Opcode::SetUpval))
 }

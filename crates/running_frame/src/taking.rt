@@ -8,7 +8,7 @@ ghost use Rattle.machine_focus.specs.Focus.{Reaches};
 ghost use Rattle.move_laws.specs.Memory.{InOrder};
 ghost use Rattle.step_laws.specs.Steps.{IsReady};
 ghost use Rattle.frame_calls.specs.Calling.{HaveCode, program_of};
-ghost use Rattle.running_frame.specs.Taking.{IsWaiting, Takes, TakesAll, TakesOnTop, TakesSo};
+ghost use Rattle.running_frame.specs.Taking.{IsWaiting, TakesOnTop, TakesSo};
 
 use crate::place::{is_none, is_running};
 use frame_calls::{Functions, Given, first_two, hand, list_taker_of, taker_of};
@@ -83,7 +83,7 @@ fn take_on_top(world: &mut World, given: Given, count: usize) -> Option<()>
     }
 }
 
-/// The frame on top of a stack, where it waits, takes them.
+/// The frame on top of a stack, where it waits, takes those that it wants, or all of them as an open list.
 fn take_waiting(stack: &mut Stack, functions: Functions, given: Given, count: usize) -> Option<()>
     requires top { HasLuaTop stack.old }
     requires codes { HaveCode (program_of functions) }
@@ -92,46 +92,10 @@ fn take_waiting(stack: &mut Stack, functions: Functions, given: Given, count: us
     ensures listed { stack.new.open_cells ≡ stack.old.open_cells }
 {
     let caller = waiting_top(stack)?;
-    match take_values(stack, functions, caller, given) {
-        Some(()) => Some(()),
-        None => take_list(stack, functions, caller, given, count),
+    if let Some(taker) = taker_of(functions, caller) {
+        hand(stack, taker, given);
+        return Some(());
     }
-}
-
-/// It takes those that it wants.
-fn take_values(
-    stack: &mut Stack,
-    functions: Functions,
-    caller: LuaState,
-    given: Given,
-) -> Option<()>
-    requires top { HasLuaTop stack.old }
-    requires waits { IsWaiting stack.old caller }
-    requires codes { HaveCode (program_of functions) }
-    ensures takes { IfSome result (λ _. Takes stack.old stack.new (program_of functions.entry) given) }
-    ensures kept { IfNone result (stack.new ≡ stack.old) }
-    ensures listed { stack.new.open_cells ≡ stack.old.open_cells }
-{
-    let taker = taker_of(functions, caller)?;
-    hand(stack, taker, given);
-    Some(())
-}
-
-/// It takes all of them as an open list.
-fn take_list(
-    stack: &mut Stack,
-    functions: Functions,
-    caller: LuaState,
-    given: Given,
-    count: usize,
-) -> Option<()>
-    requires top { HasLuaTop stack.old }
-    requires waits { IsWaiting stack.old caller }
-    requires codes { HaveCode (program_of functions) }
-    ensures takes { IfSome result (λ _. TakesAll stack.old stack.new (program_of functions.entry) given count) }
-    ensures kept { IfNone result (stack.new ≡ stack.old) }
-    ensures listed { stack.new.open_cells ≡ stack.old.open_cells }
-{
     let taker = list_taker_of(functions, caller, count)?;
     hand(stack, taker, given);
     stack.set_opened(count);

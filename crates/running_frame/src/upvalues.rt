@@ -3,7 +3,8 @@ ghost use Rattle.std.specs.Prelude.{◌≡◌, ◌+◌, ◌<◌, IfNone, IfSome,
 ghost use Rattle.code_core.specs.Instruction.{opcode_of};
 ghost use Rattle.machine_arms_tables.specs.Frame.{code};
 ghost use Rattle.machine_loop.specs.Running.{Running};
-ghost use Rattle.running_frame.specs.Upvalues.{GoesOver, ListsOpen, RunsOver, StandsOpen, is_read};
+ghost use Rattle.running_frame.specs.Upvalues.{ListsOpen, StandsOpen, is_read};
+ghost use Rattle.running_frame.specs.Between.{GoesOver, RunsOver};
 
 use code_core::{Instruction, Opcode, fetch};
 use lua_heap::Cell;
@@ -38,28 +39,6 @@ pub(crate) fn read_open(
     let to = next(closure.words, pc);
     stack.set_pc(to);
     Some(to)
-}
-
-/// Does so, but not `again`: a frame that reads more of them goes on where their values are remembered.
-#[inline(always)]
-pub(crate) fn read_once(
-    stack: &mut Stack,
-    closure: Closure,
-    cells: &Pool<Cell>,
-    co: CoroId,
-    again: bool,
-    pc: usize,
-) -> Option<usize>
-    ghost g: { Running }
-    requires runs { RunsOver g (code closure g.around.texts) stack.old cells.now.objects pc }
-    requires own { co.0 ≡ g.around.context.coroutine }
-    ensures goes { IfSome result (λ to. GoesOver g (code closure.entry g.around.texts) stack.old stack.new cells.now.objects pc to) }
-    ensures kept { IfNone result (stack.new ≡ stack.old) }
-{
-    if again {
-        return None;
-    }
-    read_open(stack, closure, cells, co, pc)
 }
 
 /// The value of an upvalue whose variable stands in a register of this coroutine.
@@ -106,10 +85,7 @@ pub(crate) fn cell_of(upvalues: &[CellId], upvalue: u8) -> Option<CellId>
 pub(crate) fn is_read(i: Instruction) -> bool
     ensures { result ≡ is_read (opcode_of i) }
 {
-    match i.opcode() {
-        Some(Opcode::GetUpval) => true,
-        _ => false,
-    }
+    matches!(i.opcode(), Some(Opcode::GetUpval))
 }
 
 /// The place after.

@@ -1,6 +1,9 @@
-use Rattle.std.proofs.Common.{ap}
+use Rattle.std.proofs.Common.{ap, ◌∙◌}
+use Rattle.table_core.specs.declared.value.CoroId.{CoroId}
+use Rattle.running_frame.specs.Crossing.{runs_on}
 use Rattle.running_frame.specs.Inheriting.{metatable_number}
-use Rattle.running_frame.proofs.Crossed.{code_within, func_within, functions_so, may_after, may_run_so, own_so, reaches_after, size_so, top_there}
+use Rattle.running_frame.proofs.Apart.{top_code_within, top_func_within, functions_so, may_run_so, own_is, size_so}
+use Rattle.running_frame.proofs.Crossed.{apart_so, may_after, reaches_after, top_there}
 use Rattle.running_frame.proofs.crossing.cross_next.Goals as goal
 
 pub function-requires : goal.function-requires
@@ -8,27 +11,33 @@ function-requires g c = top_there g.outside c.args.around.strings.now c.args.aro
 
 pub get-function-requires : goal.get-function-requires
 get-function-requires g c =
-    func_within g.outside c.args.around.strings.now c.args.around.functions.funcs.now c.args.around.functions.codes.now c.args.tables.now c.args.cells.now c.args.stack.now c.requires.0 c.function.result.0 c.function.ensures
+    let h = apart_so g.outside c.args.around.strings.now c.args.around.functions.funcs.now c.args.around.functions.codes.now c.args.tables.now c.args.cells.now c.args.stack.now c.requires.0 in
+    top_func_within _ _ h (runs_on g.outside) c.args.stack.now c.requires.0.runs c.function.result.0 c.function.ensures
 
 pub get-code-requires : goal.get-code-requires
 get-code-requires g c =
-    code_within g.outside c.args.around.strings.now c.args.around.functions.funcs.now c.args.around.functions.codes.now c.args.tables.now c.args.cells.now c.args.stack.now c.requires.0 c.function.result.0 c.function.ensures
-    c.get-function.result.now c.get-function.ensures c.checked_code_is_there.ensures
+    let h = apart_so g.outside c.args.around.strings.now c.args.around.functions.funcs.now c.args.around.functions.codes.now c.args.tables.now c.args.cells.now c.args.stack.now c.requires.0 in
+    top_code_within _ _ h (runs_on g.outside) c.args.stack.now c.requires.0.runs c.function.result.0 c.function.ensures c.get-function.result.now c.get-function.ensures c.checked_code_is_there.ensures
 
 pub cross_frame-requires : goal.cross_frame-requires
-cross_frame-requires g c = (
-  (may_run_so g.outside c.args.around.strings.now c.args.around.functions.funcs.now c.args.around.functions.codes.now c.args.tables.now c.args.cells.now c.args.stack.now c.requires.0 c.function.result.0 c.function.ensures c.get-function.result.now c.get-function.ensures c.checked_code_is_there.ensures
-      c.get-code.result.now c.get-code.ensures c.len.ensures.apart c.len.ensures.short c.args.budget.now),
-  (
-    record {
-      functions = functions_so g.outside c.args.around.strings.now c.args.around.functions.funcs.now c.args.around.functions.codes.now c.args.tables.now c.args.cells.now c.args.stack.now c.requires.0 c.function.result.0 c.function.ensures c.get-function.result.now c.get-function.ensures c.checked_code_is_there.ensures;
-      wants = size_so g.outside c.args.around.strings.now c.args.around.functions.funcs.now c.args.around.functions.codes.now c.args.tables.now c.args.cells.now c.args.stack.now c.requires.0 c.function.result.0 c.function.ensures c.get-function.result.now c.get-function.ensures c.checked_code_is_there.ensures c.get-code.result.now c.get-code.ensures;
-      own = own_so g.outside c.args.around.strings.now c.args.around.functions.funcs.now c.args.around.functions.codes.now c.args.tables.now c.args.cells.now c.args.stack.now c.requires.0 c.args.around.co c.requires.1.0;
-      meta = ap metatable_number c.requires.1.1.1;
-    },
-    c.requires.1.1.0,
-  ),
-)
+cross_frame-requires g c =
+    let h = apart_so g.outside c.args.around.strings.now c.args.around.functions.funcs.now c.args.around.functions.codes.now c.args.tables.now c.args.cells.now c.args.stack.now c.requires.0 in
+    let r = c.requires.0.runs in
+    let s = c.args.stack.now in
+    let law = c.checked_code_is_there.ensures in
+    let f = c.get-function.result.now in
+    let code = c.get-code.result.now in (
+      may_run_so _ _ h (runs_on g.outside) s r c.function.result.0 c.function.ensures f c.get-function.ensures law code c.get-code.ensures c.len.ensures.apart c.len.ensures.short c.args.budget.now,
+      (
+        record {
+          functions = functions_so _ _ h (runs_on g.outside) s r law;
+          wants = size_so _ _ h (runs_on g.outside) s r c.function.result.0 c.function.ensures f c.get-function.ensures law code c.get-code.ensures;
+          own = ap (λ (co : CoroId). co.0) c.requires.1.0 ∙ own_is _ _ h (runs_on g.outside) s r;
+          meta = ap metatable_number c.requires.1.1.1;
+        },
+        c.requires.1.1.0,
+      ),
+    )
 
 pub returns-clause-reaches : goal.returns-clause-reaches
 returns-clause-reaches g c =

@@ -1,20 +1,17 @@
 use Rattle.std.proofs.Common.{◌≡◌, refl, sym, subst, rules}
-use Rattle.std.specs.Prelude.{IfSome}
 use Rattle.lua_stack.specs.Frames.{KeptStack}
 use Rattle.machine_arms_tables.specs.Frame.{code}
 use Rattle.running_frame.specs.Advancing.{Advances}
-use Rattle.running_frame.specs.Inheriting.{GoesAmid}
 use Rattle.frame_calls.specs.Standing.{RunsAt}
 use Rattle.running_frame.proofs.crossing.read_or_ask.Goals as goal
 
 pub read_inherited-requires : goal.read_inherited-requires
-read_inherited-requires g c = (record { cells = c.args.cells.now.objects; fuel = c.args.budget.now; runs = c.requires.0 }, c.requires.1.meta)
+read_inherited-requires g c = ((c.args.cells.now.objects, record { fuel = c.args.budget.now; runs = c.requires.0 }), c.requires.1.meta)
 
 pub returns-in-Some : goal.returns-in-Some
 returns-in-Some g c =
-    let o =
-    subst (λ o. IfSome o (λ to. GoesAmid g.g (code c.args.body.closure c.args.around.strings.now) c.args.stack.now c.read_inherited.new.stack c.args.tables.now.objects c.args.pc to)) c.in-Some.is c.read_inherited.ensures.goes in
-    record { reaches = o.reaches c.args.cells.now.objects c.args.budget.now c.requires.0; opened = refl; listed = o.listed }
+    let o = c.in-Some.ensures.goes c.args.cells.now.objects in
+    record { reaches = o.reaches c.args.budget.now c.requires.0; opened = refl; listed = o.listed }
 
 pub ask_next-requires : goal.ask_next-requires
 ask_next-requires g c =

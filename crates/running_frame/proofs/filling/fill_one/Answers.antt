@@ -9,15 +9,10 @@ use Rattle.frame_calls.proofs.Listed.{written_on_top}
 use Rattle.frame_calls.proofs.Takers.{both_changes}
 use Rattle.running_frame.proofs.filling.fill_one.Goals as goal
 
-pub end_list-requires-clause-there : goal.end_list-requires-clause-there
-end_list-requires-clause-there c =
+pub end_list-requires : goal.end_list-requires
+end_list-requires c =
     let yes : c.may_give_up.result ≡ true = search rules in
-    c.may_give_up.ensures.there yes
-
-pub end_list-requires-clause-closed : goal.end_list-requires-clause-closed
-end_list-requires-clause-closed c =
-    let yes : c.may_give_up.result ≡ true = search rules in
-    c.may_give_up.ensures.closed yes
+    record { there = c.may_give_up.ensures.there yes; closed = c.may_give_up.ensures.closed yes }
 
 pub set_pc-requires : goal.set_pc-requires
 set_pc-requires c = written_on_top c.requires.top c.end_list.ensures

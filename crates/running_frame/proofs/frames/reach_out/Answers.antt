@@ -1,38 +1,30 @@
 use Rattle.std.proofs.Common.{◌≡◌, inl, inr, refl, subst, ◌∙◌}
-use Rattle.std.specs.Prelude.{IfNone, IfSome}
 use Rattle.std.proofs.lemmas.Option.{IfSome_then}
 use Rattle.lua_stack.specs.Frames.{KeptStack}
 use Rattle.frame_calls.specs.Calling.{program_of}
 use Rattle.frame_calls.proofs.Takers.{none_then, still_may}
 use Rattle.running_frame.specs.Asking.{AsksOver, ReadSame}
 use Rattle.running_frame.specs.Inheriting.{metatable_number}
-use Rattle.running_frame.specs.Storing.{StoresOpen}
 use Rattle.running_frame.proofs.frames.reach_out.Goals as goal
 
 pub store_open-requires-clause-top : goal.store_open-requires-clause-top
 store_open-requires-clause-top c = c.requires.may.top
 
 pub returns-in-Some-clause-reaches : goal.returns-in-Some-clause-reaches
-returns-in-Some-clause-reaches c =
-    inl (
-      subst (λ o. IfSome o (λ _. StoresOpen c.args.around.now.co.0 c.args.closure.upvalues.now c.args.stop.now.words.now c.args.stack.now c.store_open.new.stack c.args.cells.now.objects c.args.stop.now.pc c.args.stop.now.word)) c.in-Some.is c.store_open.ensures.stores,
-      refl,
-    )
+returns-in-Some-clause-reaches c = inl (c.in-Some.ensures.stores, refl)
 
 pub ask_over-requires : goal.ask_over-requires
-ask_over-requires c = still_may (subst (λ o. IfNone o (c.store_open.new.stack ≡ c.args.stack.now)) c.in-None.is c.store_open.ensures.kept) c.requires.may
+ask_over-requires c = still_may c.in-None.ensures.kept c.requires.may
 
 pub returns-in-None-clause-reaches : goal.returns-in-None-clause-reaches
 returns-in-None-clause-reaches c =
-    let k = subst (λ o. IfNone o (c.store_open.new.stack ≡ c.args.stack.now)) c.in-None.is c.store_open.ensures.kept in
     IfSome_then c.ask_over.result c.ask_over.ensures.asks
-    (λ o x. inr (subst (λ (s : KeptStack). AsksOver s c.ask_over.new.stack c.args.around.now.strings.now c.args.closure.constants.now c.args.tables.now.objects (metatable_number c.args.around.now.string_meta) (program_of c.args.stop.now.functions) c.args.stop.now.word c.args.budget.now c.ask_over.new.budget) k x))
+    (λ o x. inr (subst (λ (s : KeptStack). AsksOver s c.ask_over.new.stack c.args.around.now.strings.now c.args.closure.constants.now c.args.tables.now.objects (metatable_number c.args.around.now.string_meta) (program_of c.args.stop.now.functions) c.args.stop.now.word c.args.budget.now c.ask_over.new.budget) c.in-None.ensures.kept x))
 
 pub returns-in-None-clause-kept : goal.returns-in-None-clause-kept
 returns-in-None-clause-kept c =
-    let k = subst (λ o. IfNone o (c.store_open.new.stack ≡ c.args.stack.now)) c.in-None.is c.store_open.ensures.kept in
     none_then c.ask_over.result
-    (λ (e : ReadSame c.store_open.new.stack c.ask_over.new.stack × (c.ask_over.new.budget ≡ c.args.budget.now)). (subst (λ (s : KeptStack). ReadSame s c.ask_over.new.stack) k e.0, e.1)) c.ask_over.ensures.kept
+    (λ (e : ReadSame c.store_open.new.stack c.ask_over.new.stack × (c.ask_over.new.budget ≡ c.args.budget.now)). (subst (λ (s : KeptStack). ReadSame s c.ask_over.new.stack) c.in-None.ensures.kept e.0, e.1)) c.ask_over.ensures.kept
 
 pub returns-in-None-clause-listed : goal.returns-in-None-clause-listed
 returns-in-None-clause-listed c = c.ask_over.ensures.listed ∙ c.store_open.ensures.listed

@@ -3,8 +3,7 @@ use Rattle.std.specs.Prelude.{IfSome}
 use Rattle.std.proofs.lemmas.Option.{IfSome_then}
 use Rattle.lua_stack.specs.Frames.{KeptStack}
 use Rattle.machine_arms_tables.specs.Frame.{code}
-use Rattle.running_frame.specs.Inheriting.{GoesWith}
-use Rattle.running_frame.specs.Upvalues.{RunsOver}
+use Rattle.running_frame.specs.Between.{GoesWith, RunsOver}
 use Rattle.running_frame.proofs.FoundFields.{over_goes, over_runs}
 use Rattle.frame_calls.proofs.Takers.{none_then}
 use Rattle.running_frame.proofs.stack.pass_between.Goals as goal

@@ -1,10 +1,8 @@
 use Rattle.std.proofs.Common.{◌≡◌, sym, subst, ◌∙◌, rules}
-use Rattle.std.specs.Prelude.{IfSome}
 use Rattle.std.proofs.lemmas.Option.{IfSome_then}
 use Rattle.lua_stack.specs.Frames.{KeptStack}
 use Rattle.machine_arms_tables.specs.Frame.{code}
-use Rattle.running_frame.specs.Inheriting.{RunsAmid}
-use Rattle.running_frame.specs.Upvalues.{GoesOver}
+use Rattle.running_frame.specs.Between.{RunsAmid}
 use Rattle.running_frame.proofs.FoundFields.{amid_goes, over_goes, over_runs}
 use Rattle.frame_calls.proofs.Takers.{none_then}
 use Rattle.running_frame.proofs.stack.read_between.Goals as goal
@@ -13,15 +11,12 @@ pub read_open-requires : goal.read_open-requires
 read_open-requires g c = (over_runs c.requires.0, c.requires.1.0)
 
 pub returns-in-Some-clause-goes : goal.returns-in-Some-clause-goes
-returns-in-Some-clause-goes g c =
-    over_goes c.requires.0.runs.may.closure.texts_are
-    (subst (λ o. IfSome o (λ to. GoesOver g.g (code c.args.closure g.g.around.texts) c.args.stack.now c.read_open.new.stack c.args.cells.now.objects c.args.pc to)) c.in-Some.is c.read_open.ensures.goes)
+returns-in-Some-clause-goes g c = over_goes c.requires.0.runs.may.closure.texts_are c.in-Some.ensures.goes
 
 pub read_inherited-requires : goal.read_inherited-requires
 read_inherited-requires g c =
-    let x = c.requires.0 in
     let kept : c.read_open.new.stack ≡ c.args.stack.now = search rules in (
-      subst (λ (s : KeptStack). RunsAmid g.g (code c.args.closure c.args.around.strings.now) s c.args.tables.now.objects c.args.pc) (sym kept) (record { cells = c.args.cells.now.objects; fuel = x.fuel; runs = x.runs }),
+      subst (λ (s : KeptStack). RunsAmid g.g (code c.args.closure c.args.around.strings.now) s c.args.tables.now.objects c.args.pc) (sym kept) (c.args.cells.now.objects, c.requires.0),
       c.requires.1.1,
     )
 

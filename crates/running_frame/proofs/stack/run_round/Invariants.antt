@@ -6,8 +6,8 @@ use Rattle.running_frame.proofs.stack.run_round.Given as goal
 abbrev pub ghost-run_once : goal.ghost-run_once
 ghost-run_once g a = g.g
 
-abbrev pub ghost-read_once : goal.ghost-read_once
-ghost-read_once g a = g.g
+abbrev pub ghost-read_open : goal.ghost-read_open
+ghost-read_open g a = g.g
 
 abbrev pub invariant-loop-round : goal.invariant-loop-round
 invariant-loop-round g l = record {

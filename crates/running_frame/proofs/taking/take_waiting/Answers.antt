@@ -1,36 +1,23 @@
-use Rattle.std.proofs.Common.{◌≡◌, inl, inr, sym, subst, ◌∙◌}
-use Rattle.std.specs.Prelude.{IfNone, IfSome}
-use Rattle.std.proofs.lemmas.Option.{IfSome_then}
-use Rattle.lua_stack.specs.Frames.{HasLuaTop, KeptStack}
-use Rattle.frame_calls.specs.Calling.{program_of}
-use Rattle.running_frame.specs.Taking.{IsWaiting, Takes, TakesAll}
-use Rattle.frame_calls.proofs.Takers.{none_then}
+use Rattle.std.proofs.Common.{inl, inr, ◌∙◌}
+use Rattle.running_frame.proofs.Taken.{waiting_kept}
+use Rattle.frame_calls.proofs.Takers.{both_changes, top_after}
 use Rattle.running_frame.proofs.taking.take_waiting.Goals as goal
 
+pub hand-requires : goal.hand-requires
+hand-requires c = record { few = c.in-Some.ensures.takes.few; room = waiting_kept _ c.requires.top c.in_ok-caller.ensures c.in-Some.ensures.takes.room }
+
 pub returns-in-Some-clause-takes : goal.returns-in-Some-clause-takes
-returns-in-Some-clause-takes c =
-    inl (subst (λ o. IfSome o (λ _. Takes c.args.stack.now c.take_values.new.stack (program_of c.args.functions) c.args.given)) c.in-Some.is c.take_values.ensures.takes)
+returns-in-Some-clause-takes c = inl (record { caller = c.in_ok-caller.caller; waits = c.in_ok-caller.ensures; taker = c.in-Some.taker; takes = c.in-Some.ensures; hands = c.hand.ensures })
 
-pub take_list-requires-clause-top : goal.take_list-requires-clause-top
-take_list-requires-clause-top c =
-    let k = subst (λ o. IfNone o (c.take_values.new.stack ≡ c.args.stack.now)) c.in-None.is c.take_values.ensures.kept in
-    subst HasLuaTop (sym k) c.requires.top
+pub hand-requires-2 : goal.hand-requires-2
+hand-requires-2 c = record { few = c.in_ok-taker.ensures.takes.few; room = waiting_kept _ c.requires.top c.in_ok-caller.ensures c.in_ok-taker.ensures.takes.room }
 
-pub take_list-requires-clause-waits : goal.take_list-requires-clause-waits
-take_list-requires-clause-waits c =
-    let k = subst (λ o. IfNone o (c.take_values.new.stack ≡ c.args.stack.now)) c.in-None.is c.take_values.ensures.kept in
-    subst (λ (s : KeptStack). IsWaiting s c.in_ok-caller.caller) (sym k) c.in_ok-caller.ensures
+pub set_opened-requires : goal.set_opened-requires
+set_opened-requires c = top_after (waiting_kept _ c.requires.top c.in_ok-caller.ensures c.in_ok-taker.ensures.takes.room) c.hand-2.ensures
 
-pub returns-in-None-clause-takes : goal.returns-in-None-clause-takes
-returns-in-None-clause-takes c =
-    let k = subst (λ o. IfNone o (c.take_values.new.stack ≡ c.args.stack.now)) c.in-None.is c.take_values.ensures.kept in
-    IfSome_then c.take_list.result c.take_list.ensures.takes
-    (λ o x. inr (subst (λ (s : KeptStack). TakesAll s c.take_list.new.stack (program_of c.args.functions) c.args.given c.args.count) k x))
+pub returns-clause-takes : goal.returns-clause-takes
+returns-clause-takes c =
+    inr (record { caller = c.in_ok-caller.caller; waits = c.in_ok-caller.ensures; taker = c.in_ok-taker.taker; takes = c.in_ok-taker.ensures; hands = both_changes c.hand-2.ensures c.set_opened.ensures })
 
-pub returns-in-None-clause-kept : goal.returns-in-None-clause-kept
-returns-in-None-clause-kept c =
-    let k = subst (λ o. IfNone o (c.take_values.new.stack ≡ c.args.stack.now)) c.in-None.is c.take_values.ensures.kept in
-    none_then c.take_list.result (λ (e : c.take_list.new.stack ≡ c.take_values.new.stack). e ∙ k) c.take_list.ensures.kept
-
-pub returns-in-None-clause-listed : goal.returns-in-None-clause-listed
-returns-in-None-clause-listed c = c.take_list.ensures.listed ∙ c.take_values.ensures.listed
+pub returns-clause-listed : goal.returns-clause-listed
+returns-clause-listed c = c.set_opened.ensures.cells ∙ c.hand-2.ensures.cells

@@ -9,15 +9,15 @@ use Rattle.running_frame.proofs.OpenRead.{lists_open, read_at, read_goes, read_i
 use Rattle.running_frame.proofs.upvalues.read_open.Goals as goal
 
 pub fetch-i-requires : goal.fetch-i-requires
-fetch-i-requires g c = place_within c.requires.0.runs
+fetch-i-requires g c = place_within c.requires.0.1.runs
 
 pub open_value-requires : goal.open_value-requires
-open_value-requires g c = lists_open c.args.co.0 c.requires.1 c.requires.0.runs
+open_value-requires g c = lists_open c.args.co.0 c.requires.1 c.requires.0.1.runs
 
 pub put-requires : goal.put-requires
 put-requires g c =
     let yes : c.is_read.result ≡ true = search rules in
-    let at = read_at g.g (code c.args.closure g.g.around.texts) c.args.stack.now c.args.cells.now.objects c.args.pc c.registers_mut-registers.result.now c.registers_mut-registers.ensures.registers c.requires.0.tables c.requires.0.fuel c.requires.0.runs c.fetch-i.result c.fetch-i.ensures (read_is (opcode_of c.fetch-i.result) (sym c.is_read.ensures ∙ yes)) in
+    let at = read_at g.g (code c.args.closure g.g.around.texts) c.args.stack.now c.args.cells.now.objects c.args.pc c.registers_mut-registers.result.now c.registers_mut-registers.ensures.registers c.requires.0.0 c.requires.0.1.fuel c.requires.0.1.runs c.fetch-i.result c.fetch-i.ensures (read_is (opcode_of c.fetch-i.result) (sym c.is_read.ensures ∙ yes)) in
     let l = register_there at 0 (a_of c.fetch-i.result) refl in
     let e = c.a.ensures in
     omega (arith, l, e)
@@ -25,10 +25,10 @@ put-requires g c =
 pub next-to-requires : goal.next-to-requires
 next-to-requires g c =
     let yes : c.is_read.result ≡ true = search rules in
-    next_there (read_at g.g (code c.args.closure g.g.around.texts) c.args.stack.now c.args.cells.now.objects c.args.pc c.registers_mut-registers.result.now c.registers_mut-registers.ensures.registers c.requires.0.tables c.requires.0.fuel c.requires.0.runs c.fetch-i.result c.fetch-i.ensures (read_is (opcode_of c.fetch-i.result) (sym c.is_read.ensures ∙ yes))) refl
+    next_there (read_at g.g (code c.args.closure g.g.around.texts) c.args.stack.now c.args.cells.now.objects c.args.pc c.registers_mut-registers.result.now c.registers_mut-registers.ensures.registers c.requires.0.0 c.requires.0.1.fuel c.requires.0.1.runs c.fetch-i.result c.fetch-i.ensures (read_is (opcode_of c.fetch-i.result) (sym c.is_read.ensures ∙ yes))) refl
 
 pub set_pc-requires : goal.set_pc-requires
-set_pc-requires g c = stays_so c.requires.0.runs c.registers_mut-registers.result.now c.put.new.registers c.registers_mut-registers.ensures.registers c.put.auto.registers
+set_pc-requires g c = stays_so c.requires.0.1.runs c.registers_mut-registers.result.now c.put.new.registers c.registers_mut-registers.ensures.registers c.put.auto.registers
 
 pub returns-clause-goes : goal.returns-clause-goes
 returns-clause-goes g c =

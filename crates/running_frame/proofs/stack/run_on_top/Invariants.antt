@@ -1,4 +1,0 @@
-use Rattle.running_frame.proofs.stack.run_on_top.Given as goal
-
-abbrev pub ghost-run_rounds : goal.ghost-run_rounds
-ghost-run_rounds g a = g.g
