@@ -1,5 +1,5 @@
 // Whether a function can be written as a chunk.
-ghost use Rattle.std.specs.Prelude.{◌≡◌, ◌^◌, ◌-◌, min};
+ghost use Rattle.std.specs.Prelude.{Bool, ◌≡◌, ◌^◌, ◌-◌, min};
 ghost use Rattle.std.specs.List.{list_all};
 ghost use Rattle.code_core.specs.Prototype.{count};
 ghost use Rattle.code_core.specs.Writable as writable;
@@ -24,16 +24,6 @@ fn length_fits(n: usize) -> bool
     n < 1 << 31
 }
 
-/// Whether a name, if there is one, is short enough.
-fn name_fits(name: &Option<Bytes>) -> bool
-    ensures { result ≡ writable.name_fits name.now }
-{
-    match name {
-        Some(bytes) => bytes.len() <= GREATEST_STRING,
-        None => true,
-    }
-}
-
 /// Whether an integer has 64 bits, as each of this type has.
 fn integer_fits(n: i64) -> bool
     ensures { result ≡ writable.signed_fits 63 n }
@@ -48,50 +38,86 @@ fn byte_fits(n: u8) -> bool
     n <= u8::MAX
 }
 
-/// Whether an instruction has 32 bits, as each of this type has.
-fn word_fits(instruction: Instruction) -> bool
-    ensures { result ≡ writable.word_fits instruction }
-{
-    instruction.0 <= u32::MAX
+/// An entry of a function's lists.
+trait Entry: Drop {
+    // which ones a chunk can hold
+    ghost fitting: { Self → Bool };
+
+    /// Whether a chunk can hold it.
+    fn fits(&self) -> bool
+        ensures told { result ≡ fitting self.now };
 }
 
-/// Whether the change of a line has 8 bits, as each of this type has.
-fn change_fits(change: i8) -> bool
-    ensures { result ≡ writable.change_fits change }
-{
-    change >= i8::MIN
-}
+impl Entry for Instruction {
+    ghost fitting = { writable.word_fits };
 
-/// Whether a constant can be written.
-fn constant_fits(constant: &Const) -> bool
-    ensures { result ≡ writable.constant_fits constant.now }
-{
-    match constant {
-        Const::Str(bytes) => bytes.len() <= GREATEST_STRING,
-        Const::Int(n) => integer_fits(*n),
-        _ => true,
+    // It has 32 bits, as each of this type has.
+    fn fits(&self) -> bool {
+        self.0 <= u32::MAX
     }
 }
 
-/// Whether an upvalue can be written.
-fn upvalue_fits(upvalue: &UpDesc) -> bool
-    ensures { result ≡ writable.upvalue_fits upvalue.now }
-{
-    byte_fits(upvalue.index) && upvalue.kind <= 3
+impl Entry for Const {
+    ghost fitting = { writable.constant_fits };
+
+    fn fits(&self) -> bool {
+        match self {
+            Const::Str(bytes) => bytes.len() <= GREATEST_STRING,
+            Const::Int(n) => integer_fits(*n),
+            _ => true,
+        }
+    }
 }
 
-/// Whether the line of an instruction can be written.
-fn line_fits(line: &AbsLine) -> bool
-    ensures { result ≡ writable.line_fits line.now }
-{
-    number_fits(line.pc) && number_fits(line.line)
+impl Entry for UpDesc {
+    ghost fitting = { writable.upvalue_fits };
+
+    fn fits(&self) -> bool {
+        byte_fits(self.index) && self.kind <= 3
+    }
 }
 
-/// Whether a local variable can be written.
-fn local_fits(local: &LocVar) -> bool
-    ensures { result ≡ writable.local_fits local.now }
+impl Entry for i8 {
+    ghost fitting = { writable.change_fits };
+
+    // The change of a line has 8 bits, as each of this type has.
+    fn fits(&self) -> bool {
+        *self >= i8::MIN
+    }
+}
+
+impl Entry for AbsLine {
+    ghost fitting = { writable.line_fits };
+
+    fn fits(&self) -> bool {
+        number_fits(self.pc) && number_fits(self.line)
+    }
+}
+
+impl Entry for LocVar {
+    ghost fitting = { writable.local_fits };
+
+    fn fits(&self) -> bool {
+        self.name.fits() && number_fits(self.start) && number_fits(self.end)
+    }
+}
+
+impl Entry for Option<Bytes> {
+    ghost fitting = { writable.name_fits };
+
+    fn fits(&self) -> bool {
+        match self {
+            Some(bytes) => bytes.len() <= GREATEST_STRING,
+            None => true,
+        }
+    }
+}
+
+/// Whether a chunk can hold all entries of a list.
+fn all_fit<T: Entry>(entries: &[T]) -> bool
+    ensures { result ≡ list_all T.fitting entries.now }
 {
-    name_fits(&local.name) && number_fits(local.start) && number_fits(local.end)
+    entries.iter().all(|entry| entry.fits())
 }
 
 /// Whether the lists of a function are short enough.
@@ -107,73 +133,24 @@ fn lists_fit(proto: &Proto) -> bool
         && length_fits(proto.up_names.len())
 }
 
-/// Whether all instructions can be written.
-fn words_fit(words: &[Instruction]) -> bool
-    ensures { result ≡ list_all writable.word_fits words.now }
-{
-    words.iter().all(|item| word_fits(*item))
-}
-
-/// Whether all constants can be written.
-fn constants_fit(constants: &[Const]) -> bool
-    ensures { result ≡ list_all writable.constant_fits constants.now }
-{
-    constants.iter().all(|item| constant_fits(item))
-}
-
-/// Whether all upvalues can be written.
-fn upvalues_fit(upvalues: &[UpDesc]) -> bool
-    ensures { result ≡ list_all writable.upvalue_fits upvalues.now }
-{
-    upvalues.iter().all(|item| upvalue_fits(item))
-}
-
-/// Whether all changes of lines can be written.
-fn changes_fit(changes: &[i8]) -> bool
-    ensures { result ≡ list_all writable.change_fits changes.now }
-{
-    changes.iter().all(|item| change_fits(*item))
-}
-
-/// Whether all lines can be written.
-fn lines_fit(lines: &[AbsLine]) -> bool
-    ensures { result ≡ list_all writable.line_fits lines.now }
-{
-    lines.iter().all(|item| line_fits(item))
-}
-
-/// Whether all local variables can be written.
-fn locals_fit(locals: &[LocVar]) -> bool
-    ensures { result ≡ list_all writable.local_fits locals.now }
-{
-    locals.iter().all(|item| local_fits(item))
-}
-
-/// Whether all names can be written.
-fn names_fit(names: &[Option<Bytes>]) -> bool
-    ensures { result ≡ list_all writable.name_fits names.now }
-{
-    names.iter().all(|item| name_fits(item))
-}
-
 /// Whether the entries of a function's lists can be written.
 fn entries_fit(proto: &Proto) -> bool
     ensures { result ≡ writable.entries_fit proto.now.own }
 {
-    words_fit(&proto.code)
-        && constants_fit(&proto.constants)
-        && upvalues_fit(&proto.upvalues)
-        && changes_fit(&proto.line_info)
-        && lines_fit(&proto.abs_lines)
-        && locals_fit(&proto.locals)
-        && names_fit(&proto.up_names)
+    all_fit(&proto.code)
+        && all_fit(&proto.constants)
+        && all_fit(&proto.upvalues)
+        && all_fit(&proto.line_info)
+        && all_fit(&proto.abs_lines)
+        && all_fit(&proto.locals)
+        && all_fit(&proto.up_names)
 }
 
 /// Whether a function without those that are defined in it can be written.
 fn parts_fit(proto: &Proto) -> bool
     ensures { result ≡ writable.parts_fit proto.now.own }
 {
-    name_fits(&proto.source)
+    proto.source.fits()
         && number_fits(proto.line_defined)
         && number_fits(proto.last_line)
         && byte_fits(proto.params)
