@@ -1,6 +1,5 @@
 -- What a walk over a part leaves of the functions around, against the names in the part.
-use Rattle.std.proofs.Common.{rules, arith, ℕ, zero, suc, ◌+◌, ◌-◌, ◌≡◌, ◌<◌, ◌≤◌, Bool, true, false, ◌||◌, List, [], ◌∷◌, ◌++◌, refl, sym, ap, ap₂, ◌∙◌, subst, length, map, take, drop, append_assoc, if◌then◌else◌}
-use Rattle.std.specs.Prelude.{flat_map}
+use Rattle.std.proofs.Common.{rules, arith, ℕ, zero, suc, ◌+◌, ◌-◌, ◌≡◌, Bool, true, false, ◌||◌, List, [], ◌∷◌, ◌++◌, refl, sym, ap, ap₂, ◌∙◌, subst, length, map, take, drop, append_assoc, if◌then◌else◌}
 use Rattle.std.specs.List.{list_any}
 use Rattle.std.specs.Str.{bytes_eq}
 use Rattle.std.proofs.Math.Seq.{drop-append_seam, drop-nil}
@@ -11,12 +10,12 @@ use Rattle.tree_core.specs.declared.name.Declared.{Declared}
 use Rattle.tree_core.specs.declared.name.UpName.{UpName}
 use Rattle.tree_core.specs.Tree.{Stats, EndStats, MoreStats}
 use Rattle.scope_core.specs.declared.variable.Variable.{Variable}
-use Rattle.scope_core.specs.Scopes.{Scope, Frame, bare, declare, declare_all, declared_by, behind_stats, plain_variable, declared_variable, is_local, is_variable, needed, environment}
-use Rattle.scope_core.specs.Parts.{Part, Naming, Declares, Located, at, with_variables, declarations, name_declarations}
+use Rattle.scope_core.specs.Scopes.{Scope, Frame, bare, declare, declare_all, declared_by, behind_stats, plain_variable, declared_variable, is_local, needed, environment}
+use Rattle.scope_core.specs.Parts.{Naming, Located, at, with_variables, declarations, name_declarations}
 use Rattle.scope_core.specs.Places.{up_name, outside_name, outside_all}
 use Rattle.scope_core.specs.Reaching.{reached}
 use Rattle.scope_core.specs.Walked.{own_variables, own_upvalues, kept, ended, entered, left, named}
-use Rattle.scope_core.proofs.Growing.{Prefix, Extends, Grown, extends_same, extends_through, grown_through, grown_of}
+use Rattle.scope_core.proofs.Growing.{Extends, Grown, extends_same, extends_through, grown_through, grown_of}
 use Rattle.scope_core.proofs.Levels.{add, add_all, Closed, reached_extends, closed_reached, leveled, level_named}
 
 -- Functions seen by their variables alone.
@@ -81,7 +80,7 @@ pub grown_length : (fs gs : List Frame) → Grown fs gs → length gs ≡ length
 grown_length [] [] p = refl
 grown_length [] (g ∷ gs) p = absurd p
 grown_length (f ∷ fs) [] p = absurd p
-grown_length (f ∷ fs) (g ∷ gs) p = ap suc (extends_length fs gs p.1)
+grown_length (f ∷ fs) (g ∷ gs) p = ap suc (extends_length fs gs p.2)
 
 extends_drop : (n : ℕ) (fs gs : List Frame) → Extends fs gs → Extends (drop n fs) (drop n gs)
 extends_drop zero fs gs p = p
@@ -94,7 +93,7 @@ pub grown_drop : (n : ℕ) (fs gs : List Frame) → Grown fs gs → Extends (dro
 grown_drop n [] [] p = tt
 grown_drop n [] (g ∷ gs) p = absurd p
 grown_drop n (f ∷ fs) [] p = absurd p
-grown_drop n (f ∷ fs) (g ∷ gs) p = extends_drop n fs gs p.1
+grown_drop n (f ∷ fs) (g ∷ gs) p = extends_drop n fs gs p.2
 
 pub nothing : (fs : List Frame) → Closed fs → Effect fs fs (bare fs) []
 nothing fs c = record { closed = c; grown = grown_same fs; same = refl; level = λ n c' e hs x. refl }
@@ -269,7 +268,7 @@ grown_left : (fs gs : List Frame) → Grown fs gs → Extends (left fs) (left gs
 grown_left [] [] p = tt
 grown_left [] (g ∷ gs) p = absurd p
 grown_left (f ∷ fs) [] p = absurd p
-grown_left (f ∷ fs) (g ∷ gs) p = p.1
+grown_left (f ∷ fs) (g ∷ gs) p = p.2
 
 pub closed_entered : (fs : List Frame) → Closed fs → Closed (entered fs)
 closed_entered fs c = ((λ text h. absurd (search rules)), c)

@@ -1,18 +1,17 @@
 -- Functions whose lists of upvalues grow: what is found in them stays found at its place.
-use Rattle.std.proofs.Common.{rules, arith, ℕ, ◌+◌, ◌≡◌, Bool, true, false, ◌||◌, List, [], ◌∷◌, ◌++◌, Option, Some, None, refl, sym, ap, ap₂, ◌∙◌, append_assoc, if◌then◌else◌}
-use Rattle.std.specs.Prelude.{position, is_some, option_map, cond}
+use Rattle.std.proofs.Common.{rules, ℕ, ◌+◌, ◌≡◌, Bool, true, false, ◌||◌, List, [], ◌∷◌, ◌++◌, Option, Some, None, refl, sym, ap, ap₂, ◌∙◌, append_assoc, if◌then◌else◌}
+use Rattle.std.specs.Prelude.{is_some, option_map, cond}
 use Rattle.std.specs.List.{list_any, position_from}
 use Rattle.std.specs.Option.{option_map_or}
 use Rattle.std.specs.Str.{bytes_eq}
 use Rattle.std.proofs.lemmas.Iterator.Adapters.{position_from-zero}
 use Rattle.tree_core.specs.declared.name.UpName.{UpName}
 use Rattle.scope_core.specs.declared.frame.Source.{Source}
-use Rattle.scope_core.specs.declared.variable.Variable.{Variable}
 use Rattle.scope_core.specs.Scopes.{Frame, register_of, upvalue_of, environment, is_local, is_variable, needed}
 use Rattle.scope_core.specs.Places.{up_name, place_of}
-use Rattle.scope_core.specs.Reaching.{captured_at, declared_at, up_name_at, source_in, reached}
+use Rattle.scope_core.specs.Reaching.{captured_at, declared_at, source_in}
 use Rattle.scope_core.specs.Walked.{own_variables}
-use Rattle.scope_core.proofs.Captures.{found_source, found_reached, missing_reached, missing_source}
+use Rattle.scope_core.proofs.Captures.{found_source}
 use Rattle.scope_core.proofs.Finding.{variable_at, global_at}
 
 abbrev pub Prefix : List UpName → List UpName → Type 0
@@ -25,12 +24,13 @@ Extends [] (g ∷ gs) = ⊥
 Extends (f ∷ fs) [] = ⊥
 Extends (f ∷ fs) (g ∷ gs) = (f.variables ≡ g.variables) × Prefix f.upvalues g.upvalues × Extends fs gs
 
+abbrev pub without_own : List Frame → List Frame
+without_own [] = []
+without_own (f ∷ fs) = record f { variables = [] } ∷ fs
+
 -- the same, but for the variables of the innermost function
 abbrev pub Grown : List Frame → List Frame → Type 0
-Grown [] [] = Unit {0}
-Grown [] (g ∷ gs) = ⊥
-Grown (f ∷ fs) [] = ⊥
-Grown (f ∷ fs) (g ∷ gs) = Prefix f.upvalues g.upvalues × Extends fs gs
+Grown fs gs = Extends (without_own fs) (without_own gs)
 
 pub append_nil : {X : Type 0} (xs : List X) → xs ≡ xs ++ []
 append_nil [] = refl
@@ -47,34 +47,27 @@ extends_same [] = tt
 extends_same (f ∷ fs) = (refl, prefix_same f.upvalues, extends_same fs)
 
 pub extends_through : (fs gs hs : List Frame) → Extends fs gs → Extends gs hs → Extends fs hs
-extends_through [] [] [] p q = tt
-extends_through [] [] (h ∷ hs) p q = absurd q
+extends_through [] [] hs p q = q
 extends_through [] (g ∷ gs) hs p q = absurd p
 extends_through (f ∷ fs) [] hs p q = absurd p
-extends_through (f ∷ fs) (g ∷ gs) [] p q = absurd q
+extends_through (f ∷ fs) (g ∷ gs) [] p q = q
 extends_through (f ∷ fs) (g ∷ gs) (h ∷ hs) p q =
     (p.0 ∙ q.0, prefix_through f.upvalues g.upvalues h.upvalues p.1 q.1, extends_through fs gs hs p.2 q.2)
 
 pub grown_through : (fs gs hs : List Frame) → Grown fs gs → Grown gs hs → Grown fs hs
-grown_through [] [] [] p q = tt
-grown_through [] [] (h ∷ hs) p q = absurd q
-grown_through [] (g ∷ gs) hs p q = absurd p
-grown_through (f ∷ fs) [] hs p q = absurd p
-grown_through (f ∷ fs) (g ∷ gs) [] p q = absurd q
-grown_through (f ∷ fs) (g ∷ gs) (h ∷ hs) p q =
-    (prefix_through f.upvalues g.upvalues h.upvalues p.0 q.0, extends_through fs gs hs p.1 q.1)
+grown_through fs gs hs p q = extends_through (without_own fs) (without_own gs) (without_own hs) p q
 
 pub grown_of : (fs gs : List Frame) → Extends fs gs → Grown fs gs
 grown_of [] [] p = tt
 grown_of [] (g ∷ gs) p = absurd p
 grown_of (f ∷ fs) [] p = absurd p
-grown_of (f ∷ fs) (g ∷ gs) p = (p.1, p.2)
+grown_of (f ∷ fs) (g ∷ gs) p = (refl, p.1, p.2)
 
 pub extends_of : (fs gs : List Frame) → Grown fs gs → own_variables fs ≡ own_variables gs → Extends fs gs
 extends_of [] [] p e = tt
 extends_of [] (g ∷ gs) p e = absurd p
 extends_of (f ∷ fs) [] p e = absurd p
-extends_of (f ∷ fs) (g ∷ gs) p e = (e, p.0, p.1)
+extends_of (f ∷ fs) (g ∷ gs) p e = (e, p.1, p.2)
 
 -- What is known to functions.
 

@@ -1,16 +1,14 @@
 -- The main function never gets more upvalues than `_ENV`, so a walk over a source sets the places of the finished tree.
-use Rattle.std.proofs.Common.{rules, arith, ℕ, suc, ◌+◌, ◌-◌, ◌≡◌, Bool, true, false, ◌||◌, List, [], ◌∷◌, ◌++◌, refl, sym, ap, ap₂, ◌∙◌, length, drop, take, if◌then◌else◌}
-use Rattle.std.specs.Prelude.{is_some}
+use Rattle.std.proofs.Common.{rules, arith, ℕ, ◌+◌, ◌-◌, ◌≡◌, Bool, true, false, ◌||◌, List, [], ◌∷◌, ◌++◌, refl, sym, ap, ap₂, ◌∙◌, length, drop, take, if◌then◌else◌}
 use Rattle.std.specs.List.{list_any}
 use Rattle.std.specs.Str.{bytes_eq}
 use Rattle.std.proofs.lemmas.Slice.Eq.{bytes_eq-Decides}
 use Rattle.std.proofs.lemmas.List.{take_all}
-use Rattle.tree_core.specs.declared.name.Name.{Name}
 use Rattle.tree_core.specs.declared.name.UpName.{UpName}
-use Rattle.tree_core.specs.Tree.{Block, Body, BodyOf}
-use Rattle.scope_core.specs.Scopes.{Scope, Frame, bare, behind, is_local, is_variable, needed, environment, upvalue_of}
+use Rattle.tree_core.specs.Tree.{Block, BodyOf}
+use Rattle.scope_core.specs.Scopes.{Scope, Frame, bare, behind, is_local, needed, environment}
 use Rattle.scope_core.specs.Parts.{Part, Naming, Located, block_parts}
-use Rattle.scope_core.specs.Places.{up_name, outside_name, outside_all, placed, placed_block, main_upvalues}
+use Rattle.scope_core.specs.Places.{up_name, outside_name, outside_all, placed, main_upvalues}
 use Rattle.scope_core.specs.Walked.{own_upvalues, after_open, settled_block, main_frames}
 use Rattle.scope_core.proofs.Growing.{Extends, Grown, append_nil}
 use Rattle.scope_core.proofs.Levels.{add, add_all, Closed}
@@ -64,13 +62,13 @@ closed_main = ((λ text h. refl), tt)
 
 grown_main : (ends : List Frame) → Grown main_frames ends → own_upvalues ends ≡ main_upvalues → Grown ends main_frames
 grown_main [] p u = absurd p
-grown_main (e ∷ []) p u = (([], sym u ∙ append_nil e.upvalues), tt)
-grown_main (e ∷ f ∷ fs) p u = absurd p.1
+grown_main (e ∷ []) p u = (refl, ([], sym u ∙ append_nil e.upvalues), tt)
+grown_main (e ∷ f ∷ fs) p u = absurd p.2
 
 alone : (ends : List Frame) → Grown main_frames ends → Extends (drop 1 ends) []
 alone [] p = absurd p
 alone (e ∷ []) p = tt
-alone (e ∷ f ∷ fs) p = absurd p.1
+alone (e ∷ f ∷ fs) p = absurd p.2
 
 pub main_settled : (block : Block) → BodyOf [] true (settled_block main_frames block) main_upvalues 0 ≡ placed block
 main_settled block =

@@ -1,6 +1,6 @@
 -- The places that a walk sets are those of the finished tree.
-use Rattle.std.proofs.Common.{rules, arith, ℕ, zero, suc, ◌+◌, ◌≡◌, ◌<◌, Bool, true, false, not, ◌&&◌, ◌||◌, List, [], ◌∷◌, ◌++◌, Option, Some, None, refl, sym, ap, ap₂, ◌∙◌, subst, map, length, drop, append_assoc, if◌then◌else◌}
-use Rattle.std.specs.Prelude.{is_some, position, filter, flat_map}
+use Rattle.std.proofs.Common.{arith, ℕ, suc, ◌+◌, ◌≡◌, ◌<◌, Bool, true, false, not, ◌&&◌, ◌||◌, List, [], ◌∷◌, ◌++◌, Option, Some, None, refl, sym, ap, ap₂, ◌∙◌, subst, map, length, append_assoc, if◌then◌else◌}
+use Rattle.std.specs.Prelude.{is_some, filter}
 use Rattle.std.specs.Str.{bytes_eq}
 use Rattle.tree_core.specs.declared.name.Name.{Name}
 use Rattle.tree_core.specs.declared.name.Declared.{Declared}
@@ -10,15 +10,15 @@ use Rattle.tree_core.specs.Tree.{Block, Falls, Returns, Body, BodyOf, Stats, End
 use Rattle.scope_core.specs.declared.variable.Variable.{Variable}
 use Rattle.scope_core.specs.declared.variable.Variable.TheVariants.{Hidden}
 use Rattle.scope_core.specs.Scopes.{Scope, Frame, bare, declare, declare_all, declared_by, behind, behind_stats, plain_variable, declared_variable, needed, upvalue_of}
-use Rattle.scope_core.specs.Parts.{Located, with_variables, inside, name_declarations, exp_parts, exps_parts, fields_parts, field_parts, body_parts, block_parts, arms_parts}
-use Rattle.scope_core.specs.Places.{firsts, up_name, upvalues_of, outside_all, placed_name, placed_names, placed_declared, first_placed, local_placed, next_register, placed_exp, placed_exps, placed_fields, placed_field, placed_body, placed_block, placed_stats, placed_stat, placed_arms}
+use Rattle.scope_core.specs.Parts.{Located, with_variables, inside, name_declarations, exp_parts, exps_parts, block_parts, arms_parts}
+use Rattle.scope_core.specs.Places.{firsts, up_name, upvalues_of, outside_all, placed_name, placed_names, placed_declared, first_placed, next_register, placed_exp, placed_exps, placed_fields, placed_field, placed_body, placed_block, placed_stats, placed_stat, placed_arms}
 use Rattle.scope_core.specs.Reaching.{reached}
 use Rattle.scope_core.specs.Walked.{own_variables, own_upvalues, kept, ended, entered, left, named, after_exp, after_exps, after_fields, after_field, after_body, after_open, after_stats, after_stat, after_arms, settled_exp, settled_exps, settled_fields, settled_field, settled_body, settled_block, settled_stats, settled_stat, settled_arms}
 use Rattle.std.proofs.lemmas.Slice.Eq.{bytes_eq-Decides}
 use Rattle.scope_core.proofs.Captures.{pushed}
-use Rattle.scope_core.proofs.Growing.{still_there, append_nil, Extends, Grown, extends_same, extends_through, grown_through, grown_of, extends_of, knows, same_place, same_needed}
+use Rattle.scope_core.proofs.Growing.{still_there, append_nil, Extends, Grown, extends_through, grown_through, grown_of, extends_of, knows, same_place, same_needed}
 use Rattle.scope_core.proofs.Levels.{missed, text_of_up, add, add_all, Closed, reached_extends, knows_reached}
-use Rattle.scope_core.proofs.Effects.{Effect, bare_declare_all, bare_extends, bare_length, grown_declare, grown_same, closed_declare, closed_entered, level_declare, drop_left, grown_length, outside_append, names_outside, extends_length}
+use Rattle.scope_core.proofs.Effects.{Effect, bare_declare_all, bare_extends, bare_length, grown_declare, grown_same, closed_declare, closed_entered, level_declare, drop_left, grown_length, outside_append, names_outside}
 use Rattle.scope_core.proofs.WalkEffects.{exp_effect, exps_effect, fields_effect, field_effect, body_effect, open_effect, stats_effect, stat_effect, arms_effect, closing}
 
 -- The upvalues of a function: each name once, where it stands first.
@@ -133,8 +133,8 @@ scope_of fs = record { frames = bare fs; blocks = []; in_loop = false; is_vararg
 own_same : (fs gs : List Frame) → bare gs ≡ bare fs → own_variables gs ≡ own_variables fs
 own_same fs gs e = sym (own_bare gs) ∙ ap own_variables e ∙ own_bare fs
 
-extends_from : (fs gs : List Frame) (ps : List Located) → Effect fs gs (bare fs) ps → Extends fs gs
-extends_from fs gs ps p = extends_of fs gs p.grown (sym (own_same fs gs p.same))
+extends_from : {fs gs : List Frame} {ps : List Located} → Effect fs gs (bare fs) ps → Extends fs gs
+extends_from {fs} {gs} p = extends_of fs gs p.grown (sym (own_same fs gs p.same))
 
 -- what was found by then, where the functions have grown more since
 to_end : (es gs : List Frame) → Grown es gs → bare gs ≡ bare es → Extends es gs
@@ -163,32 +163,23 @@ grown_behind_block fs (Returns stats values tokens line) = grown_behind fs stats
 
 -- Effects in a scope in which only the functions around matter.
 
-exp_closed : (e : Exp) (fs : List Frame) → Closed fs → Closed (after_exp fs e)
-exp_closed e fs c = (exp_effect e fs (scope_of fs) refl c).closed
+exp_alone : (e : Exp) (fs : List Frame) → Closed fs → Effect fs (after_exp fs e) (bare fs) (exp_parts (scope_of fs) e)
+exp_alone e fs c = exp_effect e fs (scope_of fs) refl c
 
 exp_grows : (e : Exp) (fs : List Frame) → Closed fs → Extends fs (after_exp fs e)
-exp_grows e fs c = extends_from fs (after_exp fs e) (exp_parts (scope_of fs) e) (exp_effect e fs (scope_of fs) refl c)
+exp_grows e fs c = extends_from (exp_alone e fs c)
 
-exps_closed : (es : Exps) (fs : List Frame) → Closed fs → Closed (after_exps fs es)
-exps_closed es fs c = (exps_effect es fs (scope_of fs) refl c).closed
+exps_alone : (es : Exps) (fs : List Frame) → Closed fs → Effect fs (after_exps fs es) (bare fs) (exps_parts (scope_of fs) es)
+exps_alone es fs c = exps_effect es fs (scope_of fs) refl c
 
 exps_grows : (es : Exps) (fs : List Frame) → Closed fs → Extends fs (after_exps fs es)
-exps_grows es fs c = extends_from fs (after_exps fs es) (exps_parts (scope_of fs) es) (exps_effect es fs (scope_of fs) refl c)
-
-fields_grows : (es : Fields) (fs : List Frame) → Closed fs → Extends fs (after_fields fs es)
-fields_grows es fs c = extends_from fs (after_fields fs es) (fields_parts (scope_of fs) es) (fields_effect es fs (scope_of fs) refl c)
-
-field_closed : (f : Field) (fs : List Frame) → Closed fs → Closed (after_field fs f)
-field_closed f fs c = (field_effect f fs (scope_of fs) refl c).closed
+exps_grows es fs c = extends_from (exps_alone es fs c)
 
 body_grows : (b : Body) (fs : List Frame) → Closed fs → Extends fs (after_body fs b)
-body_grows b fs c = extends_from fs (after_body fs b) (body_parts (scope_of fs) b) (body_effect b fs (scope_of fs) refl c)
+body_grows b fs c = extends_from (body_effect b fs (scope_of fs) refl c)
 
-arms_closed : (as' : Arms) (fs : List Frame) → Closed fs → Closed (after_arms fs as')
-arms_closed as' fs c = (arms_effect as' fs (scope_of fs) refl c).closed
-
-arms_grows : (as' : Arms) (fs : List Frame) → Closed fs → Extends fs (after_arms fs as')
-arms_grows as' fs c = extends_from fs (after_arms fs as') (arms_parts (scope_of fs) as') (arms_effect as' fs (scope_of fs) refl c)
+arms_alone : (as' : Arms) (fs : List Frame) → Closed fs → Effect fs (after_arms fs as') (bare fs) (arms_parts (scope_of fs) as')
+arms_alone as' fs c = arms_effect as' fs (scope_of fs) refl c
 
 abbrev OpenEffect : List Frame → Block → Type 0
 OpenEffect fs b = Effect fs (after_open fs b) (behind (bare fs) b) (block_parts (scope_of fs) true b)
@@ -204,9 +195,9 @@ unended n (h ∷ hs) (g ∷ gs) p = p
 pub grown_under : (ws hs : List Frame) (f : Frame) (gs : List Frame) → 0 < length ws → Grown ws hs → own_upvalues hs ≡ f.upvalues → Extends (left hs) gs → Grown hs (f ∷ gs)
 grown_under [] hs f gs l p u x = absurd (omega (arith, l))
 grown_under (w ∷ ws) [] f gs l p u x = absurd p
-grown_under (w ∷ ws) (h ∷ hs) f gs l p u x = (([], sym u ∙ append_nil h.upvalues), x)
+grown_under (w ∷ ws) (h ∷ hs) f gs l p u x = (refl, ([], sym u ∙ append_nil h.upvalues), x)
 
--- what a loop over variables leaves, in whose scope its block stands
+-- what a block within a statement leaves, which stands in the scope of the statement's variables, where it has any
 record Rounds (block : Block) (vs : List Variable) (es gs : List Frame) : Type 0 where
   closed : Closed (declare_all es vs)
   inner : Grown (after_open (declare_all es vs) block) (declare_all gs vs)
@@ -234,35 +225,35 @@ name_settled fs gs name x =
     ap (λ (p : Place). record name { place = p })
     (same_place name.text (named name.text fs) gs x (ap (knows (reached fs text)) same ∙ knows_reached fs text))
 
+-- an expression before the rest of what has it, behind which the functions around are `last`
+before_rest :
+    {X Y : Type 0} (make : Exp → X → Y) {rest rest' : X} (e : Exp) (last fs gs : List Frame)
+    → Closed fs → Extends last gs
+    → (Closed (after_exp fs e) → Extends (after_exp fs e) last)
+    → (Extends (after_exp fs e) gs → settled_exp fs e ≡ placed_exp gs e)
+    → (Closed (after_exp fs e) → rest ≡ rest')
+    → make (settled_exp fs e) rest ≡ make (placed_exp gs e) rest'
+before_rest make e last fs gs c x grows first others =
+    let d : Closed (after_exp fs e) = (exp_alone e fs c).closed in
+    ap₂ make (first (extends_through (after_exp fs e) last gs (grows d) x)) (others d)
+
 mutual
   pub exp_settled : (e : Exp) (fs gs : List Frame) → Closed fs → Extends (after_exp fs e) gs → settled_exp fs e ≡ placed_exp gs e
   exp_settled (Function line body) fs gs c x = ap (Function line) (body_settled body fs gs c x)
   exp_settled (Var line name) fs gs c x = ap (Var line) (name_settled fs gs name x)
   exp_settled (Index line a b) fs gs c x =
-      let es : List Frame = after_exp fs a in
-      let d : Closed es = exp_closed a fs c in
-      ap₂ (Index line) (exp_settled a fs gs c (extends_through es (after_exp es b) gs (exp_grows b es d) x)) (exp_settled b es gs d x)
+      before_rest (Index line) a (after_exp (after_exp fs a) b) fs gs c x (exp_grows b (after_exp fs a)) (exp_settled a fs gs c) (λ d. exp_settled b (after_exp fs a) gs d x)
   exp_settled (Call line a b) fs gs c x =
-      let es : List Frame = after_exp fs a in
-      let d : Closed es = exp_closed a fs c in
-      ap₂ (Call line) (exp_settled a fs gs c (extends_through es (after_exps es b) gs (exps_grows b es d) x)) (exps_settled b es gs d x)
+      before_rest (Call line) a (after_exps (after_exp fs a) b) fs gs c x (exps_grows b (after_exp fs a)) (exp_settled a fs gs c) (λ d. exps_settled b (after_exp fs a) gs d x)
   exp_settled (Method line a name b) fs gs c x =
-      let es : List Frame = after_exp fs a in
-      let d : Closed es = exp_closed a fs c in
-      ap₂ (λ o as'. Method line o name as') (exp_settled a fs gs c (extends_through es (after_exps es b) gs (exps_grows b es d) x)) (exps_settled b es gs d x)
+      before_rest (λ o as'. Method line o name as') a (after_exps (after_exp fs a) b) fs gs c x (exps_grows b (after_exp fs a)) (exp_settled a fs gs c) (λ d. exps_settled b (after_exp fs a) gs d x)
   exp_settled (Unary line operator operand) fs gs c x = ap (Unary line operator) (exp_settled operand fs gs c x)
   exp_settled (Binary line operator a b) fs gs c x =
-      let es : List Frame = after_exp fs a in
-      let d : Closed es = exp_closed a fs c in
-      ap₂ (Binary line operator) (exp_settled a fs gs c (extends_through es (after_exp es b) gs (exp_grows b es d) x)) (exp_settled b es gs d x)
+      before_rest (Binary line operator) a (after_exp (after_exp fs a) b) fs gs c x (exp_grows b (after_exp fs a)) (exp_settled a fs gs c) (λ d. exp_settled b (after_exp fs a) gs d x)
   exp_settled (And line a b) fs gs c x =
-      let es : List Frame = after_exp fs a in
-      let d : Closed es = exp_closed a fs c in
-      ap₂ (And line) (exp_settled a fs gs c (extends_through es (after_exp es b) gs (exp_grows b es d) x)) (exp_settled b es gs d x)
+      before_rest (And line) a (after_exp (after_exp fs a) b) fs gs c x (exp_grows b (after_exp fs a)) (exp_settled a fs gs c) (λ d. exp_settled b (after_exp fs a) gs d x)
   exp_settled (Or line a b) fs gs c x =
-      let es : List Frame = after_exp fs a in
-      let d : Closed es = exp_closed a fs c in
-      ap₂ (Or line) (exp_settled a fs gs c (extends_through es (after_exp es b) gs (exp_grows b es d) x)) (exp_settled b es gs d x)
+      before_rest (Or line) a (after_exp (after_exp fs a) b) fs gs c x (exp_grows b (after_exp fs a)) (exp_settled a fs gs c) (λ d. exp_settled b (after_exp fs a) gs d x)
   exp_settled (Paren line inner) fs gs c x = ap (Paren line) (exp_settled inner fs gs c x)
   exp_settled (Table line fields) fs gs c x = ap (Table line) (fields_settled fields fs gs c x)
   exp_settled _ fs gs c x = refl
@@ -270,23 +261,20 @@ mutual
   pub exps_settled : (es : Exps) (fs gs : List Frame) → Closed fs → Extends (after_exps fs es) gs → settled_exps fs es ≡ placed_exps gs es
   exps_settled EndExps fs gs c x = refl
   exps_settled (MoreExps e es) fs gs c x =
-      let hs : List Frame = after_exp fs e in
-      let d : Closed hs = exp_closed e fs c in
-      ap₂ MoreExps (exp_settled e fs gs c (extends_through hs (after_exps hs es) gs (exps_grows es hs d) x)) (exps_settled es hs gs d x)
+      before_rest MoreExps e (after_exps (after_exp fs e) es) fs gs c x (exps_grows es (after_exp fs e)) (exp_settled e fs gs c) (λ d. exps_settled es (after_exp fs e) gs d x)
 
   pub fields_settled : (es : Fields) (fs gs : List Frame) → Closed fs → Extends (after_fields fs es) gs → settled_fields fs es ≡ placed_fields gs es
   fields_settled EndFields fs gs c x = refl
   fields_settled (MoreFields f es) fs gs c x =
       let hs : List Frame = after_field fs f in
-      let d : Closed hs = field_closed f fs c in
-      ap₂ MoreFields (field_settled f fs gs c (extends_through hs (after_fields hs es) gs (fields_grows es hs d) x)) (fields_settled es hs gs d x)
+      let d : Closed hs = (field_effect f fs (scope_of fs) refl c).closed in
+      let y : Extends hs (after_fields hs es) = extends_from (fields_effect es hs (scope_of hs) refl d) in
+      ap₂ MoreFields (field_settled f fs gs c (extends_through hs (after_fields hs es) gs y x)) (fields_settled es hs gs d x)
 
   pub field_settled : (f : Field) (fs gs : List Frame) → Closed fs → Extends (after_field fs f) gs → settled_field fs f ≡ placed_field gs f
   field_settled (Item value) fs gs c x = ap Item (exp_settled value fs gs c x)
   field_settled (Keyed line a b) fs gs c x =
-      let es : List Frame = after_exp fs a in
-      let d : Closed es = exp_closed a fs c in
-      ap₂ (Keyed line) (exp_settled a fs gs c (extends_through es (after_exp es b) gs (exp_grows b es d) x)) (exp_settled b es gs d x)
+      before_rest (Keyed line) a (after_exp (after_exp fs a) b) fs gs c x (exp_grows b (after_exp fs a)) (exp_settled a fs gs c) (λ d. exp_settled b (after_exp fs a) gs d x)
 
   pub body_settled : (b : Body) (fs gs : List Frame) → Closed fs → Extends (after_body fs b) gs → settled_body fs b ≡ placed_body gs b
   body_settled (BodyOf params vararg inner upvalues line) fs gs c x =
@@ -361,7 +349,7 @@ mutual
       (to_end (after_body ds body) hs (grown_through (after_body ds body) gs hs g (grown_declare gs vs)) (declare_all_same fs gs vs e ∙ sym (bare_extends ds (after_body ds body) x))))
   stat_settled (Assign line targets values) fs gs c g e =
       let es : List Frame = after_exps fs targets in
-      let d : Closed es = exps_closed targets fs c in
+      let d : Closed es = (exps_alone targets fs c).closed in
       let last : List Frame = after_exps es values in
       let seen : bare gs ≡ bare last = e ∙ sym (bare_extends es last (exps_grows values es d) ∙ bare_extends fs es (exps_grows targets fs c)) in
       let x : Extends last gs = to_end last gs g seen in
@@ -372,11 +360,10 @@ mutual
   stat_settled (Do line block) fs gs c g e = ap (Do line) (block_settled block fs gs c (unended (length (own_variables fs)) (after_open fs block) gs g) e)
   stat_settled (While line test block) fs gs c g e =
       let es : List Frame = after_exp fs test in
-      let d : Closed es = exp_closed test fs c in
-      let open' : Grown (after_open es block) gs = unended (length (own_variables es)) (after_open es block) gs g in
-      let p : OpenEffect es block = open_of block es d in
+      let d : Closed es = (exp_alone test fs c).closed in
       let seen : bare gs ≡ bare es = e ∙ sym (bare_extends fs es (exp_grows test fs c)) in
-      ap₂ (While line) (exp_settled test fs gs c (to_end es gs (grown_through es (after_open es block) gs p.grown open') seen)) (block_settled block es gs d open' seen)
+      let r : Rounds block [] es gs = rounds block [] (length (own_variables es)) es gs d g seen in
+      ap₂ (While line) (exp_settled test fs gs c r.through) (block_settled block es gs d r.inner seen)
   stat_settled (Repeat line block test) fs gs c g e =
       let hs : List Frame = after_open fs block in
       let p : OpenEffect fs block = open_of block fs c in
@@ -390,17 +377,16 @@ mutual
       (exp_settled test hs ks p.closed (to_end last ks (grown_through last gs ks open' (grown_behind_block gs block)) seen))
   stat_settled (If line arms) fs gs c g e =
       let es : List Frame = after_arms fs arms in
-      ap (If line) (arms_settled arms fs gs c (to_end es gs g (e ∙ sym (bare_extends fs es (arms_grows arms fs c)))))
+      ap (If line) (arms_settled arms fs gs c (to_end es gs g (e ∙ sym (bare_extends fs es (extends_from (arms_alone arms fs c))))))
   stat_settled (IfElse line arms otherwise) fs gs c g e =
       let es : List Frame = after_arms fs arms in
-      let d : Closed es = arms_closed arms fs c in
-      let open' : Grown (after_open es otherwise) gs = unended (length (own_variables es)) (after_open es otherwise) gs g in
-      let p : OpenEffect es otherwise = open_of otherwise es d in
-      let seen : bare gs ≡ bare es = e ∙ sym (bare_extends fs es (arms_grows arms fs c)) in
-      ap₂ (IfElse line) (arms_settled arms fs gs c (to_end es gs (grown_through es (after_open es otherwise) gs p.grown open') seen)) (block_settled otherwise es gs d open' seen)
+      let d : Closed es = (arms_alone arms fs c).closed in
+      let seen : bare gs ≡ bare es = e ∙ sym (bare_extends fs es (extends_from (arms_alone arms fs c))) in
+      let r : Rounds otherwise [] es gs = rounds otherwise [] (length (own_variables es)) es gs d g seen in
+      ap₂ (IfElse line) (arms_settled arms fs gs c r.through) (block_settled otherwise es gs d r.inner seen)
   stat_settled (NumFor line name first limit block) fs gs c g e =
-      let es' : List Frame = after_exp fs first in let d' : Closed es' = exp_closed first fs c in
-      let es : List Frame = after_exp es' limit in let d : Closed es = exp_closed limit es' d' in
+      let es' : List Frame = after_exp fs first in let d' : Closed es' = (exp_alone first fs c).closed in
+      let es : List Frame = after_exp es' limit in let d : Closed es = (exp_alone limit es' d').closed in
       let hidden : List Variable = Hidden ∷ Hidden ∷ Hidden ∷ [] in
       let vs : List Variable = Hidden ∷ Hidden ∷ Hidden ∷ plain_variable name ∷ [] in
       let ds : List Frame = declare_all es vs in
@@ -413,9 +399,9 @@ mutual
       (exp_settled limit es' gs d' r.through)
       (block_settled block ds (declare_all gs vs) r.closed r.inner (declare_all_same es gs vs seen))
   stat_settled (NumForStep line name first limit step block) fs gs c g e =
-      let es'' : List Frame = after_exp fs first in let d'' : Closed es'' = exp_closed first fs c in
-      let es' : List Frame = after_exp es'' limit in let d' : Closed es' = exp_closed limit es'' d'' in
-      let es : List Frame = after_exp es' step in let d : Closed es = exp_closed step es' d' in
+      let es'' : List Frame = after_exp fs first in let d'' : Closed es'' = (exp_alone first fs c).closed in
+      let es' : List Frame = after_exp es'' limit in let d' : Closed es' = (exp_alone limit es'' d'').closed in
+      let es : List Frame = after_exp es' step in let d : Closed es = (exp_alone step es' d').closed in
       let hidden : List Variable = Hidden ∷ Hidden ∷ Hidden ∷ [] in
       let vs : List Variable = Hidden ∷ Hidden ∷ Hidden ∷ plain_variable name ∷ [] in
       let ds : List Frame = declare_all es vs in
@@ -432,7 +418,7 @@ mutual
       (block_settled block ds (declare_all gs vs) r.closed r.inner (declare_all_same es gs vs seen))
   stat_settled (GenFor line names values block) fs gs c g e =
       let es : List Frame = after_exps fs values in
-      let d : Closed es = exps_closed values fs c in
+      let d : Closed es = (exps_alone values fs c).closed in
       let hidden : List Variable = Hidden ∷ Hidden ∷ Hidden ∷ Hidden ∷ [] in
       let vs : List Variable = Hidden ∷ Hidden ∷ Hidden ∷ Hidden ∷ map plain_variable names in
       let ds : List Frame = declare_all es vs in
@@ -449,11 +435,11 @@ mutual
   arms_settled EndArms fs gs c x = refl
   arms_settled (MoreArms test block arms) fs gs c x =
       let es : List Frame = after_exp fs test in
-      let d : Closed es = exp_closed test fs c in
+      let d : Closed es = (exp_alone test fs c).closed in
       let hs : List Frame = ended es (after_open es block) in
       let p : Effect es hs (bare es) (block_parts (scope_of es) true block) = closing es block (block_parts (scope_of es) true block) (open_of block es d) in
-      let y : Extends hs gs = extends_through hs (after_arms hs arms) gs (arms_grows arms hs p.closed) x in
-      let z : Extends es gs = extends_through es hs gs (extends_from es hs (block_parts (scope_of es) true block) p) y in
+      let y : Extends hs gs = extends_through hs (after_arms hs arms) gs (extends_from (arms_alone arms hs p.closed)) x in
+      let z : Extends es gs = extends_through es hs gs (extends_from p) y in
       ap₂ (λ t r. MoreArms t (settled_block es block) r) (exp_settled test fs gs c z) (arms_settled arms hs gs p.closed x)
       ∙ ap (λ b. MoreArms (placed_exp gs test) b (placed_arms gs arms))
       (block_settled block es gs d (unended (length (own_variables es)) (after_open es block) gs (grown_of hs gs y)) (bare_extends es gs z))
