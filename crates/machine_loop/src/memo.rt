@@ -67,28 +67,12 @@ fn value_of(known: Option<Known>, upvalue: u8) -> Option<Value>
 fn recall(memo: &Memo, upvalue: u8) -> Option<Value>
     ensures { IfSome result (λ v. Remembers memo.now upvalue v) }
 {
-    match value_of(memo.first, upvalue) {
-        Some(v) => Some(v),
-        None => recall_second(memo, upvalue),
+    if let Some(v) = value_of(memo.first, upvalue) {
+        return Some(v);
     }
-}
-
-/// Where it is the second or the third.
-#[inline(always)]
-fn recall_second(memo: &Memo, upvalue: u8) -> Option<Value>
-    ensures { IfSome result (λ v. Remembers memo.now upvalue v) }
-{
-    match value_of(memo.second, upvalue) {
-        Some(v) => Some(v),
-        None => recall_third(memo, upvalue),
+    if let Some(v) = value_of(memo.second, upvalue) {
+        return Some(v);
     }
-}
-
-/// Where it is the third.
-#[inline(always)]
-fn recall_third(memo: &Memo, upvalue: u8) -> Option<Value>
-    ensures { IfSome result (λ v. Remembers memo.now upvalue v) }
-{
     value_of(memo.third, upvalue)
 }
 

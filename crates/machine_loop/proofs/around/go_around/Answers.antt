@@ -1,10 +1,8 @@
 use Rattle.std.proofs.Common.{inl, inr, refl, sym, subst, ◌∙◌}
-use Rattle.std.specs.Prelude.{IfSome}
 use Rattle.std.proofs.lemmas.Option.{IfSome_then}
 use Rattle.machine_arms_tables.specs.Frame.{code}
 use Rattle.machine_view.specs.Law.{HasInstruction}
 use Rattle.machine_loop.specs.Around.{GoesBeyond}
-use Rattle.machine_loop.specs.Knowing.{ReadsKnown}
 use Rattle.machine_loop.proofs.Alike.{none_then}
 use Rattle.machine_loop.proofs.around.go_around.Goals as goal
 
@@ -12,8 +10,7 @@ pub fetch-i-requires : goal.fetch-i-requires
 fetch-i-requires c = c.requires.there
 
 pub returns-in-Some-clause-goes : goal.returns-in-Some-clause-goes
-returns-in-Some-clause-goes c =
-    inl (subst (λ o. IfSome o (λ to. ReadsKnown c.args.closure.words.now c.args.memo.now c.args.registers.now c.read_known.new.registers c.args.pc to)) c.in-Some.is c.read_known.ensures.reads, refl)
+returns-in-Some-clause-goes c = inl (c.in-Some.ensures.reads, refl)
 
 pub go_beyond-requires : goal.go_beyond-requires
 go_beyond-requires c = subst (λ r. HasInstruction c.args.closure.words.now c.args.closure.constants.now r c.args.pc) (sym c.in-None.ensures.kept) c.requires
