@@ -1,8 +1,9 @@
 // The files and options that stand behind the name of a command.
-ghost use Rattle.std.specs.Prelude.{◌≡◌, ◌≢◌, ◌++◌, ℕ, List, IfSome, MatchOption, false, map, string_bytes};
+ghost use Rattle.std.specs.Prelude.{◌≡◌, ◌≢◌, ◌++◌, ℕ, List, IfSome, MatchOption, Option, false, map, string_bytes};
 ghost use Rattle.std.specs.Option.{option_map};
 ghost use Rattle.command_words.specs.Kept.{arguments_of, asked};
-ghost use Rattle.command_words.specs.Reading.{after, all_digits, begins_option, complete, count_in, is_short, may_be_saved, no_arguments, number_in, to_check, to_compile, to_resume, to_run, to_work, unset, value_behind, with_any, with_budget, with_file, with_other, with_save, with_strip, with_word};
+ghost use Rattle.command_words.specs.Reading.{after, all_digits, begins_option, complete, count_in, is_short, may_be_saved, no_arguments, number_in, to_check, to_compile, to_feed, to_resume, to_run, to_work, unset, value_behind, with_any, with_budget, with_file, with_other, with_save, with_strip, with_word};
+ghost use Rattle.command_words.specs.Words.{Command as Wanted};
 
 use crate::command::Command;
 
@@ -199,34 +200,34 @@ impl<'a> Arguments<'a> {
         }
     }
 
-    pub(crate) fn to_run(self) -> Option<Command<'a>>
-        ensures { option_map asked result ≡ to_run (arguments_of self.entry) }
+    /// What a command is told that does turns: its one file, the budget of each turn, and the file that the session is saved in.
+    fn to_feed(self) -> Option<(&'a str, u64, Option<&'a str>)>
+        ensures { (command : List ℕ → ℕ → Option (List ℕ) → Wanted) → option_map (λ told. command told.0.now told.1 (option_map (λ image. image.now) told.2)) result ≡ to_feed command (arguments_of self.entry) }
     {
         match self.files {
             Files::One(file) if !self.strip && is_short(file) && may_be_saved(self.save) => {
-                Some(Command::Run {
-                    file,
-                    budget: self.budget.unwrap_or(DEFAULT_BUDGET),
-                    save: self.save,
-                })
+                Some((file, self.budget.unwrap_or(DEFAULT_BUDGET), self.save))
             }
             _ => None,
         }
     }
 
+    pub(crate) fn to_run(self) -> Option<Command<'a>>
+        ensures { option_map asked result ≡ to_run (arguments_of self.entry) }
+    {
+        let (file, budget, save) = self.to_feed()?;
+        Some(Command::Run { file, budget, save })
+    }
+
     pub(crate) fn to_resume(self) -> Option<Command<'a>>
         ensures { option_map asked result ≡ to_resume (arguments_of self.entry) }
     {
-        match self.files {
-            Files::One(image) if !self.strip && is_short(image) && may_be_saved(self.save) => {
-                Some(Command::Resume {
-                    image,
-                    budget: self.budget.unwrap_or(DEFAULT_BUDGET),
-                    save: self.save,
-                })
-            }
-            _ => None,
-        }
+        let (image, budget, save) = self.to_feed()?;
+        Some(Command::Resume {
+            image,
+            budget,
+            save,
+        })
     }
 
     /// Neither a budget nor an image to save is named.
