@@ -1,8 +1,6 @@
 use borrow.Author.Tests.{le-leb}
-use Rattle.std.proofs.Common.{rules, arith, sym, ◌∙◌, ◌≡◌, ◌≤◌, ◌<◌, ◌-◌, true, false, length, map}
-use Rattle.std.specs.Prelude.{slice_index_or}
+use Rattle.std.proofs.Common.{rules, arith, sym, ◌∙◌, ◌≡◌, ◌≤◌, length, map}
 use Rattle.tree_core.specs.Plain.{plain_stat}
-use Rattle.scope_core.specs.Rules.{is_empty_or_label}
 use Rattle.lua_scope.proofs.Indexing.{done_at_end, item_done, item_ends}
 use Rattle.lua_scope.proofs.Looping.{gone}
 use Rattle.lua_scope.proofs.index.end_from.Goals as goal
@@ -15,17 +13,11 @@ loop-from-init c =
 
 pub loop-from-preserved : goal.loop-from-preserved
 loop-from-preserved c =
-    let some : 0 < c.loop-from.from = search rules in
-    let is : c.index.result.now ≡ slice_index_or c.args.list.now.items (c.loop-from.from - 1) c.index.result.now = search rules in
-    let this : is_empty_or_label (plain_stat c.index.result.now) ≡ true = search rules in
-    (omega (arith, c.loop-from.invariant.0), item_done c.args.list.now.items c.loop-from.from c.index.result.now some c.loop-from.invariant.0 is this c.loop-from.invariant.1)
+    (omega (arith, c.loop-from.invariant.0), item_done c.args.list.now.items c.loop-from.from c.index.result.now (search rules) c.loop-from.invariant.0 (search rules) (search rules) c.loop-from.invariant.1)
 
 pub returns-then-not-is_empty_or_label : goal.returns-then-not-is_empty_or_label
 returns-then-not-is_empty_or_label c =
-    let some : 0 < c.loop-from.from = search rules in
-    let is : c.index.result.now ≡ slice_index_or c.args.list.now.items (c.loop-from.from - 1) c.index.result.now = search rules in
-    let this : is_empty_or_label (plain_stat c.index.result.now) ≡ false = search rules in
-    item_ends c.args.list.now.items c.loop-from.from c.index.result.now some c.loop-from.invariant.0 is this c.loop-from.invariant.1
+    item_ends c.args.list.now.items c.loop-from.from c.index.result.now (search rules) c.loop-from.invariant.0 (search rules) (search rules) c.loop-from.invariant.1
 
 pub returns : goal.returns
 returns c =
