@@ -1,11 +1,10 @@
 // Calls of Lua functions whose arguments stand in the registers behind them (luaD_precall of ldo.c).
-ghost use Rattle.std.specs.Prelude.{◌≡◌, true, false, IfOk, OnErr, OnOk};
+ghost use Rattle.std.specs.Prelude.{◌≡◌, true, false, IfOk, OnErr};
 ghost use Rattle.move_laws.specs.Memory.{InOrder};
 ghost use Rattle.machine_calls.specs.declared.preparing.Prepared.TheVariants.{GivenUp};
 ghost use Rattle.machine_calls.specs.Entering.{HasFunction};
-ghost use Rattle.machine_calls.specs.Given.{CallsGiven, EntersGiven, HasGiven};
+ghost use Rattle.machine_calls.specs.Given.{CallsGiven, HasGiven};
 ghost use Rattle.machine_calls.specs.Preparing.{CanPrepare};
-ghost use Rattle.machine_calls.specs.Waiting.{IsFull};
 
 use crate::entering::{is_full, shape_of};
 use int_core::Allocated;
@@ -40,29 +39,9 @@ pub fn call_registers(
     if is_full(world) {
         return Ok(false);
     }
-    enter_registers(world, function, register, given, wait)?;
-    *budget -= 1;
-    Ok(true)
-}
-
-/// Enters the function over the frame, which has room for it.
-fn enter_registers(
-    world: &mut World,
-    function: FuncId,
-    register: usize,
-    given: usize,
-    wait: Wait,
-) -> Allocated<()>
-    requires order { InOrder world.old }
-    requires ready { CanPrepare world.old (GivenUp register) }
-    requires room { HasGiven world.old register given }
-    requires function { HasFunction world.old function.0 }
-    requires free { IsFull world.old false }
-    ensures enters { OnOk result (EntersGiven world.old world.new function register given wait) }
-    ensures order { InOrder world.new }
-    ensures err { OnErr result (world.new ≡ world.old) }
-{
     let shape = shape_of(world, function);
     let size = code_on_top(world).stack as usize;
-    running_stack_mut(world).call(register, given, wait, size, function, shape)
+    running_stack_mut(world).call(register, given, wait, size, function, shape)?;
+    *budget -= 1;
+    Ok(true)
 }

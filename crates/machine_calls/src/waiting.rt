@@ -1,12 +1,10 @@
 // Calls for which a Lua frame waits (luaD_call of ldo.c, luaV_finishOp of lvm.c).
 ghost use Rattle.std.specs.Prelude.{◌≡◌, map, IfOk, OnErr};
-ghost use Rattle.int_core.specs.Value.{a_function, object};
 ghost use Rattle.lua_heap.specs.Reading.{value as meant};
 ghost use Rattle.move_laws.specs.Memory.{InOrder, IsSound};
 ghost use Rattle.machine_moves.specs.Ending.{ending_of};
 ghost use Rattle.machine_moves.specs.declared.ending.Ending.TheVariants.{Raised};
 ghost use Rattle.machine_calls.specs.Calling.{CanEnter};
-ghost use Rattle.machine_calls.specs.Entering.{HasFunction};
 ghost use Rattle.machine_calls.specs.Preparing.{CanPrepare};
 ghost use Rattle.machine_calls.specs.Waiting.{AsksSo, CallsSo, EntersOver, IsHeld, IsHeldWait, MayCall, RaisesOver};
 
@@ -19,7 +17,7 @@ use lua_stack::Wait;
 use machine_errors::{begin_leaving_with, blamed_text};
 use machine_moves::Ending;
 use meta_ops::{Callee, Heap, callee_of};
-use table_core::{FuncId, Value};
+use table_core::Value;
 
 /// The Lua frame on top waits, and asks for a value to be called with these arguments. A refusal changes nothing.
 pub fn ask_over(
@@ -98,7 +96,16 @@ fn enter_over(
     ensures err { OnErr result (world.new.printed ≡ world.old.printed) }
 {
     match function {
-        Value::Func(id) => enter_function_over(world, id, &arguments, wait, prepared),
+        Value::Func(id) => {
+            if is_full(world) {
+                return raise_over(world, b"stack overflow", wait, prepared);
+            }
+            make_ready(world, wait, prepared);
+            if !enter_function(world, id, &arguments)? {
+                unreachable!();
+            }
+            Ok(Ending::Go)
+        }
         Value::Prim(n) => {
             make_ready(world, wait, prepared);
             world.moving = arguments;
@@ -106,33 +113,6 @@ fn enter_over(
         }
         _ => unreachable!(),
     }
-}
-
-/// Enters a Lua function, where there is room for its frame.
-fn enter_function_over(
-    world: &mut World,
-    function: FuncId,
-    arguments: &[Value],
-    wait: Wait,
-    prepared: Prepared,
-) -> Allocated<Ending>
-    requires sound { IsSound world.old }
-    requires ready { CanPrepare world.old prepared }
-    requires function { HasFunction world.old function.0 }
-    requires held_wait { IsHeldWait world.old.strings wait }
-    requires held { IsHeld world.old.strings prepared }
-    ensures enters { IfOk result (λ ending. EntersOver world.old world.new wait prepared (object a_function function.0) (map (meant world.old.strings) arguments.now) (ending_of ending)) }
-    ensures order { InOrder world.new }
-    ensures err { OnErr result (world.new.printed ≡ world.old.printed) }
-{
-    if is_full(world) {
-        return raise_over(world, b"stack overflow", wait, prepared);
-    }
-    make_ready(world, wait, prepared);
-    if !enter_function(world, function, arguments)? {
-        unreachable!();
-    }
-    Ok(Ending::Go)
 }
 
 /// Raises an error of the Lua frame on top, which has made itself ready for a call. A refusal changes nothing.
