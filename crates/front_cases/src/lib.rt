@@ -3,7 +3,11 @@
 #![tactic(auto)]
 
 #[cfg(test)]
+mod cases;
+#[cfg(test)]
 mod levels;
+#[cfg(test)]
+mod refusals;
 #[cfg(test)]
 mod tokens;
 #[cfg(test)]
