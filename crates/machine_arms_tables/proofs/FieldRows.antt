@@ -1,12 +1,12 @@
 -- Rows on fields, upvalues and lengths, whose operations are settled at once.
-use Rattle.std.proofs.Common.{◌≡◌, ℕ, ◌+◌, ◌<◌, List, [], ◌∷◌, length, map, Option, Some, None, refl, ap, sym, ◌∙◌, subst, Bool}
-use Rattle.std.specs.Prelude.{pos, cond, IsTrue, slice_get, slice_set}
+use Rattle.std.proofs.Common.{◌≡◌, ℕ, ◌+◌, ◌<◌, List, [], ◌∷◌, length, map, Option, Some, None, refl, ap, sym, ◌∙◌, subst, Bool, inl, inr}
+use Rattle.std.specs.Prelude.{pos, cond, slice_get, slice_set}
 use Rattle.code_core.specs.Fields.{registers, second_half}
 use Rattle.code_core.specs.Instruction.{a_of, b_of, c_of, k_of}
 use Rattle.code_core.specs.Prototype.{Prototype}
 use Rattle.code_core.specs.declared.instruction.Instruction.{Instruction}
 use Rattle.code_core.specs.declared.opcode.Opcode.{Opcode}
-use Rattle.code_core.specs.declared.opcode.Opcode.TheVariants.{GetUpval, SetUpval, GetTabUp, GetTable, GetI, GetField, SetTabUp, SetTable, SetI, SetField, Len, Jmp, Eq, Lt, Le}
+use Rattle.code_core.specs.declared.opcode.Opcode.TheVariants.{GetUpval, SetUpval, GetTabUp, GetTable, GetI, GetField, SetTabUp, SetTable, SetI, SetField, Len, Jmp}
 use Rattle.int_core.specs.Operations.{Operation, index, store, length', does, found, ask, fault, cannot_arise}
 use Rattle.int_core.specs.Value.{Value, same_truth}
 use Rattle.lua_heap.specs.Plain.{heap, cell}
@@ -25,7 +25,7 @@ use Rattle.table_core.specs.declared.value.Value.{Value as Kept}
 use Rattle.table_core.specs.declared.value.Value.TheVariants.{Bool as Boolean, Int}
 use Rattle.machine_arms_tables.specs.Fields.{Settles, upvalue_in, with_upvalue}
 use Rattle.machine_arms_tables.specs.Frame.{Code, moment, IsOf, Leads}
-use Rattle.machine_arms_tables.specs.Orders.{comparison, is_comparison}
+use Rattle.machine_arms_tables.specs.Orders.{IsComparison, comparison}
 use Rattle.machine_arms_tables.proofs.Leading.{held_at, leading, leading_to, open_alike, reads_either, reads_upvalue, writes_upvalue}
 
 -- texts that a contract sees are those of the world
@@ -106,13 +106,12 @@ record OfComparison (op : Opcode) (w : Instruction) : Type 0 where
   pub names : registers op w ≡ a_of w ∷ b_of w ∷ []
   pub pair : second_half op w ≡ Some Jmp
 
-of_comparison : (op : Opcode) (w : Instruction) → IsTrue (is_comparison op) → OfComparison op w
-of_comparison Eq w h = record { row = λ p pc. refl; names = refl; pair = refl }
-of_comparison Lt w h = record { row = λ p pc. refl; names = refl; pair = refl }
-of_comparison Le w h = record { row = λ p pc. refl; names = refl; pair = refl }
-of_comparison _ w h = absurd (cc)
+of_comparison : (op : Opcode) (w : Instruction) → IsComparison op → OfComparison op w
+of_comparison op w (inl e) = subst (λ op. OfComparison op w) (sym e) (record { row = λ p pc. refl; names = refl; pair = refl })
+of_comparison op w (inr (inl e)) = subst (λ op. OfComparison op w) (sym e) (record { row = λ p pc. refl; names = refl; pair = refl })
+of_comparison op w (inr (inr e)) = subst (λ op. OfComparison op w) (sym e) (record { row = λ p pc. refl; names = refl; pair = refl })
 
-module _ (k : Code) {op : Opcode} {w : Instruction} {r : List Kept} {pc : ℕ} (h : IsAt op w k.words k.constants r pc) (form : IsTrue (is_comparison op)) where
+module _ (k : Code) {op : Opcode} {w : Instruction} {r : List Kept} {pc : ℕ} (h : IsAt op w k.words k.constants r pc) (form : IsComparison op) where
   it : OfComparison op w
   it = of_comparison op w form
 

@@ -1,12 +1,12 @@
 // Comparisons of two tables that no handler decides, and of two strings (Lua 5.4's lopcodes.h, EQ, LT and LE; Lua 5.4 manual, 3.4.4).
-ghost use Rattle.std.specs.Prelude.{◌≡◌, ◌<◌, List, IfSome, IsTrue, None, [], ◌∷◌, length};
+ghost use Rattle.std.specs.Prelude.{◌≡◌, ◌<◌, List, IfSome, None, [], ◌∷◌, length};
 ghost use Rattle.int_core.specs.Operations.{does, equal as is_equal};
 ghost use Rattle.lua_heap.specs.Plain.{heap};
 ghost use Rattle.lua_heap.specs.Reading.{value};
 ghost use Rattle.lua_heap.specs.declared.world.Cell.{Cell};
 ghost use Rattle.machine_arms_tables.specs.Fields.{Settles};
 ghost use Rattle.machine_arms_tables.specs.Leading.{Gets, IsSite};
-ghost use Rattle.machine_arms_tables.specs.Orders.{comparison, is_comparison, order_of};
+ghost use Rattle.machine_arms_tables.specs.Orders.{IsComparison, comparison, order_of};
 ghost use Rattle.meta_ops.specs.Outcome.{settled};
 ghost use Rattle.table_core.specs.declared.value.Value.TheVariants.{Bool as Boolean, Str};
 
@@ -28,7 +28,7 @@ pub(crate) fn compare(
     registers: &[Value],
 ) -> Option<usize>
     requires at { IsSite op site registers.now }
-    requires form { IsTrue (is_comparison op) }
+    requires form { IsComparison op }
     ensures { IfSome result (λ to. (cells : List Cell) → Gets op site.entry tables.now.objects cells registers.now registers.now to) }
 {
     let left = value_numbered(registers, site.word.a() as usize);

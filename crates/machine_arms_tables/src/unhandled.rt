@@ -1,8 +1,9 @@
 // Stores that the metatable of a table does not decide, since it has no handler for them: fields of objects of classes (luaV_finishset of lvm.c; Lua 5.4 manual, 2.4).
-ghost use Rattle.std.specs.Prelude.{◌≡◌, IfNone, IfSome, [], ◌∷◌, false, true};
+ghost use Rattle.std.specs.Prelude.{◌≡◌, ◌<◌, IfNone, IfSome, [], ◌∷◌, false, length, true};
 ghost use Rattle.int_core.specs.Operations.{store};
 ghost use Rattle.machine_arms_tables.specs.Fields.{LacksHandler, Settles, with_field};
 ghost use Rattle.table_core.specs.Value.{is_nil};
+ghost use Rattle.table_core.specs.declared.value.Value.TheVariants.{Table as a_table};
 
 use crate::fields::{put_field, table_of};
 use crate::inherited::Reach;
@@ -29,28 +30,26 @@ pub(crate) fn put_within(
         Some(()) => Some(()),
         None => match reach {
             Reach::Own => None,
-            Reach::Inherited => put_unhandled(strings, tables, object, key, v),
+            Reach::Inherited => {
+                law::tables_are_read();
+                let id = unhandled_in(strings, tables, object)?;
+                put_raw(tables.get_mut(id.0), key, v)
+            }
         },
     }
 }
 
-/// Puts a value at a key of a table whose metatable has no handler for stores.
-fn put_unhandled(
-    strings: &Strings,
-    tables: &mut Pool<Table>,
-    object: Value,
-    key: Value,
-    v: Value,
-) -> Option<()>
-    ensures settles { IfSome result (λ _. Settles strings.now store (object ∷ key ∷ v ∷ []) tables.old.objects tables.new.objects []) }
-    ensures kept { IfNone result (tables.new ≡ tables.old) }
+/// The table that a value is, where its metatable has no handler for stores.
+fn unhandled_in(strings: &Strings, tables: &Pool<Table>, object: Value) -> Option<TableId>
+    ensures is { IfSome result (λ id. object ≡ a_table id) }
+    ensures there { IfSome result (λ id. id.0 < length tables.now.objects) }
+    ensures lacks { IfSome result (λ id. LacksHandler strings.now tables.now.objects id.0) }
 {
-    law::tables_are_read();
     let id = table_of(tables, object)?;
     if !lacks_handler(strings, tables, id) {
         return None;
     }
-    put_raw(tables.get_mut(id.0), key, v)
+    Some(id)
 }
 
 /// Whether a table's metatable has no handler for stores.
