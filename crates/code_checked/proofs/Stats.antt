@@ -38,10 +38,14 @@ module _ (p : Prototype) (W : Whole p) (source : Option (List ℕ)) (closes : Bo
   abbrev pub back : Leaving
   back = record { back = back_field p.own.vararg p.own.params; closes = closes }
 
+  -- where a tree is near, and its constants and functions are the prototype's, its code is a piece at every place
+  abbrev CodeLaw : (near : (closing : Bool) (t j : ℕ) → Type 0) → (constants : List Const → List Const) → (functions : Prototypes → Prototypes) → (code : (closing : Bool) (t j pc : ℕ) → Reach → List Coded) → Type 1
+  CodeLaw near constants functions code =
+      (G : Type 0) (closing : Bool) (t j pc : ℕ) (reach : Reach) (cs : List Const) (rest : Prototypes) → (G → Reaches p reach) → near closing t j → IsRegister t → Grows (constants cs) p.own.constants → Functions p j (functions rest)
+      → Piece p G closed closed pc (code closing t j pc reach)
+
   abbrev pub StatLaw : Stat → Type 1
-  StatLaw s =
-      (G : Type 0) (closing : Bool) (t j pc : ℕ) (reach : Reach) (cs : List Const) (rest : Prototypes) → (G → Reaches p reach) → StatIsNear source p s closing t j → IsRegister t → Grows (of_stat s cs) p.own.constants → Functions p j (from_stat source s rest)
-      → Piece p G closed closed pc (stat_code p.own.constants back s closing t j pc reach)
+  StatLaw s = CodeLaw (StatIsNear source p s) (of_stat s) (from_stat source s) (stat_code p.own.constants back s)
 
   abbrev pub BlockLaw : Block → Type 1
   BlockLaw block =
@@ -50,9 +54,7 @@ module _ (p : Prototype) (W : Whole p) (source : Option (List ℕ)) (closes : Bo
 
   -- the block of a `repeat`
   abbrev pub OpenLaw : Block → Type 1
-  OpenLaw block =
-      (G : Type 0) (closing : Bool) (t j pc : ℕ) (reach : Reach) (cs : List Const) (rest : Prototypes) → (G → Reaches p reach) → BlockIsNear source p block closing t j → IsRegister t → Grows (of_block block cs) p.own.constants → Functions p j (from_block source block rest)
-      → Piece p G closed closed pc (open_code p.own.constants back block closing t j pc reach)
+  OpenLaw block = CodeLaw (BlockIsNear source p block) (of_block block) (from_block source block) (open_code p.own.constants back block)
 
   -- the code behind the arms is a piece at its place
   abbrev pub ArmsLaw : Arms → Type 1
