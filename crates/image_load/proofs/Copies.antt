@@ -1,6 +1,6 @@
 -- What is loaded from the image of a world agrees with it.
 use Rattle.std.proofs.Common.{arith, ℕ, ◌+◌, ◌<◌, ◌≡◌, ◌⊎◌, inl, inr, ⊎_elim, List, [], ◌∷◌, ◌++◌, Option, Some, None, refl, subst, sym, ap, ◌∙◌, length, Bool, true, false, cond, map}
-use Rattle.std.specs.Prelude.{slice_get, flat_map, option_map, unwrap_or}
+use Rattle.std.specs.Prelude.{slice_get, flat_map, is_some, option_map, unwrap_or}
 use Rattle.std.proofs.lemmas.Option.{slice_get-map, slice_get_within}
 use Rattle.int_core.specs.Value.{Kind, a_table, a_function, a_coroutine, Value, known, object, nil, bind}
 use Rattle.int_core.specs.Heap.{Table}
@@ -172,41 +172,39 @@ module _ (base : Pairs) (W V : World) (T : Target) (name : Value → Option Item
   no_kind : (kind : Kind) → kind_in no_record ≡ Some kind → ⊥
   no_kind kind e = cc
 
-  -- what stands where the record of a met object was loaded
+  -- what stands where the record of a met object was loaded, for the objects of each sort
+  module _ {A : Type 0} (kind : Kind) (R : A → A → Type 0) (given olds : List A) (written : A → Record) (held : A → List Field) (make : Record → Option A)
+      (told : (r : Record) → is_of kind r ≡ is_some (make r)) (counted : count_in T kind ≡ length olds) where
+    object_at : (i : ℕ) → Met (an_object kind i)
+        → record_of N W (an_object kind i) ≡ or_none written (slice_get given i)
+        → fields W (is_reached W name roots) (an_object kind i) ≡ if_there held (slice_get given i)
+        → ((x : A) → slice_get given i ≡ Some x → kind_in (written x) ≡ Some kind → Every Had (held x) → Made R make x (written x))
+        → Both R (slice_get given i) (slice_get (olds ++ chosen make records) (new_number T records kind (N.number (an_object kind i))))
+    object_at i m is_record is_fields copied =
+        let r = found (an_object kind i) m in
+        let n : N.number (an_object kind i) ≡ r.0 = ap (λ x. unwrap_or x 0) r.1 in
+        let w : kind_in (or_none written (slice_get given i)) ≡ Some kind = subst (λ x. kind_in x ≡ Some kind) is_record (can.written (an_object kind i) m) in
+        let t = there written (λ x. kind_in x ≡ Some kind) (no_kind kind) (slice_get given i) w in
+        let h : Every Had (held t.0) = subst (λ o. Every Had (if_there held o)) t.1 (subst (λ fs. Every Had fs) is_fields (closed_order (an_object kind i) m)) in
+        let k : kind_in (written t.0) ≡ Some kind = subst (λ o. kind_in (or_none written o) ≡ Some kind) t.1 w in
+        let e : slice_get records r.0 ≡ Some (written t.0) = r.2 ∙ ap (λ x. Some x) (is_record ∙ ap (or_none written) t.1) in
+        let c = copied t.0 t.1 k h in
+        both_from R _ _ t.0 c.0 t.1 (after_old make (is_of kind) records olds (count_in T kind) _ r.0 _ counted n (chosen_get (is_of kind) make told records r.0 _ _ e c.1)) c.2
+
   table_at : (i : ℕ) → Met (an_object a_table i) → Both (SameTable q) (slice_get W.heap.tables i) (slice_get (V.heap.tables ++ chosen (table_made T records) records) (new_number T records a_table (N.number (an_object a_table i))))
   table_at i m =
-      let r = found (an_object a_table i) m in
-      let n : N.number (an_object a_table i) ≡ r.0 = ap (λ x. unwrap_or x 0) r.1 in
-      let t = there (record_of_table N) (λ x. kind_in x ≡ Some a_table) (no_kind a_table) (slice_get W.heap.tables i) (can.written (an_object a_table i) m) in
-      let h : Every Had (table_fields t.0) = subst (λ o. Every Had (if_there table_fields o)) t.1 (closed_order (an_object a_table i) m) in
-      let e : slice_get records r.0 ≡ Some (record_of_table N t.0) = r.2 ∙ ap (λ o. Some (or_none (record_of_table N) o)) t.1 in
-      both_from (SameTable q) _ _ t.0 (table_copy t.0) t.1
-      (after_old (table_made T records) (is_of a_table) records V.heap.tables T.tables _ r.0 _ can.tables n (chosen_get (is_of a_table) (table_made T records) (table_told T records) records r.0 _ _ e refl))
-      (table_copied t.0 h)
+      object_at a_table (SameTable q) W.heap.tables V.heap.tables (record_of_table N) table_fields (table_made T records) (table_told T records) can.tables i m refl refl
+      (λ t e k h. (table_copy t, refl, table_copied t h))
 
   function_at : (i : ℕ) → Met (an_object a_function i) → Both (SameFunction q) (slice_get W.functions i) (slice_get (V.functions ++ chosen (function_made T records) records) (new_number T records a_function (N.number (an_object a_function i))))
   function_at i m =
-      let r = found (an_object a_function i) m in
-      let n : N.number (an_object a_function i) ≡ r.0 = ap (λ x. unwrap_or x 0) r.1 in
-      let t = there (record_of_function N) (λ x. kind_in x ≡ Some a_function) (no_kind a_function) (slice_get W.functions i) (can.written (an_object a_function i) m) in
-      let h : Every Had (map of_cell t.0.cells) = subst (λ o. Every Had (if_there (λ f. map of_cell f.cells) o)) t.1 (closed_order (an_object a_function i) m) in
-      let e : slice_get records r.0 ≡ Some (record_of_function N t.0) = r.2 ∙ ap (λ o. Some (or_none (record_of_function N) o)) t.1 in
-      both_from (SameFunction q) _ _ t.0 (function_copy t.0) t.1
-      (after_old (function_made T records) (is_of a_function) records V.functions T.functions _ r.0 _ can.functions n (chosen_get (is_of a_function) (function_made T records) (function_told T records) records r.0 _ _ e refl))
-      (function_copied t.0 h)
+      object_at a_function (SameFunction q) W.functions V.functions (record_of_function N) (λ f. map of_cell f.cells) (function_made T records) (function_told T records) can.functions i m refl refl
+      (λ f e k h. (function_copy f, refl, function_copied f h))
 
   coroutine_at : (i : ℕ) → Met (an_object a_coroutine i) → Both (SameCoroutine q) (slice_get W.coroutines i) (slice_get (V.coroutines ++ chosen (coroutine_made T records) records) (new_number T records a_coroutine (N.number (an_object a_coroutine i))))
   coroutine_at i m =
-      let r = found (an_object a_coroutine i) m in
-      let n : N.number (an_object a_coroutine i) ≡ r.0 = ap (λ x. unwrap_or x 0) r.1 in
-      let t = there (record_of_coroutine N) (λ x. kind_in x ≡ Some a_coroutine) (no_kind a_coroutine) (slice_get W.coroutines i) (can.written (an_object a_coroutine i) m) in
-      let h : Every Had (coroutine_fields t.0) = subst (λ o. Every Had (if_there coroutine_fields o)) t.1 (closed_order (an_object a_coroutine i) m) in
-      let k : kind_in (record_of_coroutine N t.0) ≡ Some a_coroutine = subst (λ o. kind_in (or_none (record_of_coroutine N) o) ≡ Some a_coroutine) t.1 (can.written (an_object a_coroutine i) m) in
-      let e : slice_get records r.0 ≡ Some (record_of_coroutine N t.0) = r.2 ∙ ap (λ o. Some (or_none (record_of_coroutine N) o)) t.1 in
-      let c = coroutine_copied i t.0 t.1 k h in
-      both_from (SameCoroutine q) _ _ t.0 c.0 t.1
-      (after_old (coroutine_made T records) (is_of a_coroutine) records V.coroutines T.coroutines _ r.0 _ can.coroutines n (chosen_get (is_of a_coroutine) (coroutine_made T records) (coroutine_told T records) records r.0 _ _ e c.1))
-      c.2
+      object_at a_coroutine (SameCoroutine q) W.coroutines V.coroutines (record_of_coroutine N) coroutine_fields (coroutine_made T records) (coroutine_told T records) can.coroutines i m refl refl
+      (coroutine_copied i)
 
   number_of : (kind : Kind) (i : ℕ) → Met (an_object kind i) → SameNumber q kind i (new_number T records kind (N.number (an_object kind i)))
   number_of kind i m =
